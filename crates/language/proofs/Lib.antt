@@ -1,0 +1,4 @@
+-- The theorems on the definitions, and what they use.
+pub mod Examples
+pub mod Utf8
+pub mod Integers

@@ -1,0 +1,93 @@
+-- The integers of the language: 0 to 2^127 - 1 (01, "What must change shape"), their digits and their types.
+use Prim.Native.Nat.{ℕ, zero, suc, _+_, _*_, _/_, _%_, _^_, _≤_, _<_}
+use mathlib.Core.Path.{_≡_}
+use mathlib.Core.Bool.{Bool, true, false, not}
+use mathlib.Core.List.{List, [], _∷_, _++_}
+use mathlib.Core.Option.{Option, none, some}
+use mathlib.Core.Logic.{_⊎_}
+use lib.Dec.{ltb, eqb}
+use lib.ListN.{length, getD}
+use Rattle.language.specs.Choice.{if′}
+
+-- 2^127
+abbrev pub limit : ℕ
+limit = 0x80000000000000000000000000000000
+
+-- ---- digits
+
+-- plain positional notation: the value of digits, the first counting most, after those that give v
+abbrev pub valueFrom : ℕ → ℕ → List ℕ → ℕ
+valueFrom base v [] = v
+valueFrom base v (d ∷ ds) = valueFrom base (v * base + d) ds
+
+abbrev pub valueOf : ℕ → List ℕ → ℕ
+valueOf base ds = valueFrom base 0 ds
+
+-- the decimal digits of a number that has `most` at the most
+unfoldable pub digits : ℕ → ℕ → List ℕ
+digits zero n = []
+digits (suc most) n = if′ (ltb n 10) (n ∷ []) (digits most (n / 10) ++ (n % 10 ∷ []))
+
+-- 2^127 has 39
+abbrev pub mostDigits : ℕ
+mostDigits = 39
+
+unfoldable pub decimal : ℕ → List ℕ
+decimal n = digits mostDigits n
+
+-- digits as ASCII
+abbrev pub ascii : List ℕ → List ℕ
+ascii [] = []
+ascii (d ∷ ds) = (48 + d) ∷ ascii ds
+
+-- ---- types (01, "Judgements")
+
+pub data IntType : Type 0 where
+  u8 : IntType
+  u16 : IntType
+  u32 : IntType
+  u64 : IntType
+
+abbrev pub bits : IntType → ℕ
+bits u8 = 8
+bits u16 = 16
+bits u32 = 32
+bits u64 = 64
+
+-- "the smallest of u8, u16, u32, u64 that holds it"
+unfoldable pub smallest : ℕ → Option IntType
+smallest n =
+    if′ (ltb n (2 ^ 8)) (some u8)
+    (if′ (ltb n (2 ^ 16)) (some u16)
+    (if′ (ltb n (2 ^ 32)) (some u32)
+    (if′ (ltb n (2 ^ 64)) (some u64) none)))
+
+-- "taken modulo 2^16"
+abbrev pub low16 : ℕ → ℕ
+low16 n = n % 2 ^ 16
+
+-- "`Truncated` if that changes it"
+abbrev pub isTruncated : ℕ → Bool
+isTruncated n = not (eqb (low16 n) n)
+
+-- ---- the claims
+
+abbrev pub AllDigits : List ℕ → Type 0
+AllDigits ds = (i : ℕ) → i < length ds → getD ds i 0 < 10
+
+-- the decimal digits have the number as their value, are digits, and the first is 0 for the number 0 alone
+abbrev pub DecimalIsRight : Type 0
+DecimalIsRight =
+    (n : ℕ) → n < limit
+    → (valueOf 10 (decimal n) ≡ n) × AllDigits (decimal n) × (0 < length (decimal n)) × (length (decimal n) ≤ mostDigits)
+    × ((getD (decimal n) 0 0 ≡ 0) → decimal n ≡ 0 ∷ [])
+
+-- the equation without a bound that a reader expects of decimal digits
+abbrev pub DecimalUnfolds : Type 0
+DecimalUnfolds = (n : ℕ) → n < limit → decimal n ≡ if′ (ltb n 10) (n ∷ []) (decimal (n / 10) ++ (n % 10 ∷ []))
+
+-- the type that is found holds the number, and none that is smaller does; none is found where none holds it
+abbrev pub SmallestHolds : Type 0
+SmallestHolds =
+    ((n : ℕ) (t : IntType) → smallest n ≡ some t → (n < 2 ^ bits t) × ((u : IntType) → n < 2 ^ bits u → bits t ≤ bits u))
+    × ((n : ℕ) → smallest n ≡ none → (u : IntType) → 2 ^ bits u ≤ n)

@@ -1,0 +1,4 @@
+-- What a reader must believe: document 01 and RFC 3629 as definitions, a file for each of their sections.
+pub mod Choice
+pub mod Utf8
+pub mod Integers
