@@ -68,7 +68,10 @@ impl Wide {
     pub fn low16(self) -> Low16
         ensures { λ r. ⌜ (r .value ≡ low16 (valueOf self)) × (r .changed ≡ isTruncated (valueOf self)) ⌝ }
     {
-        Low16 { value: 0, changed: false }
+        Low16 {
+            value: 0,
+            changed: false,
+        }
     }
 
     // The decimal digits, at the end of the lent buffer; answers where they start. What is before them is zero.

@@ -1,0 +1,34 @@
+-- What the loops of stores leave.
+use mathlib.Core.Path.{_≡_, refl, sym, ap, _∙_}
+use mathlib.Core.List.{List, [], _∷_, _++_, append-nil}
+use Prim.Native.Nat.{ℕ, zero, suc, _+_, _*_, _≤_, _<_}
+use native.Mathlib.Nat.{le-trans, mul-le-mul-left, mul-le-mul-right}
+use native.Mathlib.Numerals.{add-one}
+use native.Mathlib.Omega.{arith}
+use lib.ListN.{length, set, getD, take, drop, replicate, length-append}
+use lib.Seq.{sets, take-suc, take-length, length-take-le, drop-length}
+use Rattle.table.specs.Table.{padTo, putRow}
+use Rattle.table.proofs.Laws.{pad-none, put-fits}
+
+-- a loop that clears a list, at its end
+pub cleared : (d t : List ℕ) (i : ℕ) → t ≡ replicate i 0 ++ drop i d → i ≡ length d → t ≡ padTo (length d) []
+cleared d t i e h = e ∙ rw (h, drop-length, append-nil) (sym (pad-none (length d)))
+
+-- one store more in a run of them
+sets-more : (l : List ℕ) (at : ℕ) (vs : List ℕ) (a : ℕ) → set (sets l at vs) (at + length vs) a ≡ sets l at (vs ++ a ∷ [])
+sets-more l at [] a = let e : at + 0 ≡ at = omega arith in rw e
+sets-more l at (v ∷ vs) a = let e : at + suc (length vs) ≡ suc at + length vs = omega arith in rw e (sets-more (set l at v) (suc at) vs a)
+
+-- a loop that copies a row's words: one more, all
+pub copy-more : (l ws t : List ℕ) (at i : ℕ) → i < length ws → t ≡ sets l at (take i ws) → set t (at + i) (getD ws i 0) ≡ sets l at (take (i + 1) ws)
+copy-more l ws t at i h e =
+    let long : length (take i ws) ≡ i = length-take-le i ws (omega arith) in
+    let one : set (sets l at (take i ws)) (at + length (take i ws)) (getD ws i 0) ≡ sets l at (take i ws ++ (getD ws i 0 ∷ [])) = sets-more l at (take i ws) (getD ws i 0) in
+    rw (e, add-one, take-suc ws i 0) (rw long at one)
+
+pub copied : (l ws t : List ℕ) (k i : ℕ) → k * length ws + length ws ≤ length l → i ≡ length ws → t ≡ sets l (k * length ws) (take i ws) → t ≡ putRow l k ws
+copied l ws t k i h j e = e ∙ rw (j, take-length) (sym (put-fits l k (length ws) ws refl h))
+
+-- a row's first word lies below 2^44
+pub row-start : (k w : ℕ) → k ≤ 4294967296 → w ≤ 4096 → k * w ≤ 17592186044416
+row-start k w a b = le-trans (mul-le-mul-left k b) (mul-le-mul-right {m = k} {n = 4294967296} 4096 a)

@@ -1,0 +1,58 @@
+use native.Mathlib.Omega.{arith}
+use Rattle.table.proofs.Stores.{cleared}
+use Prim.Native.Nat.{ℕ, _≤_, _<_, _-_}
+use mathlib.Core.Path.{_≡_, refl, ap, _∙_}
+use mathlib.Core.List.{List, _++_}
+use lib.ListN.{length, drop, set, replicate}
+use borrow.Author.Needs.{needs}
+use borrow.Author.Fill.{fill-none, fill-more}
+use Rattle.table.proofs.clear_bytes.Statement.{statement}
+use Rattle.table.proofs.clear_bytes.Tie as tie
+use Rattle.table.proofs.clear_bytes.Reads as reads
+use Rattle.table.proofs.clear_bytes.Lts as lts
+
+abbrev Inv-loop : tie.InvT-loop
+Inv-loop text₀ i₀ table i = (i ≤ length text₀) × (length table ≡ length text₀) × (table ≡ replicate i 0 ++ drop i text₀)
+
+abbrev μ-loop : tie.MeasureT-loop
+μ-loop text₀ i₀ table i = length text₀ - i
+
+loop-holds : tie.Need-loop-holds Inv-loop μ-loop
+loop-holds c = (search needs, refl, refl)
+
+slice-write-text : tie.Need-slice-write-text Inv-loop μ-loop
+slice-write-text c = search needs
+
+add-i : tie.Need-add-i Inv-loop μ-loop
+add-i c = search needs
+
+loop-less : tie.Need-loop-less Inv-loop μ-loop
+loop-less c = search needs
+
+loop-again : tie.Need-loop-again Inv-loop μ-loop
+loop-again c =
+    let l = c .before in
+    let h : l .loop .i < length (l .before .args .text .now) = omega arith in
+    (search needs, search needs, ap (λ (d : List ℕ). set d (l .loop .i) 0) (l .loop .inv .2) ∙ fill-more _ 0 _ h)
+
+same-length : tie.Need-same-length Inv-loop μ-loop
+same-length c = search needs
+
+returns : tie.Need-returns Inv-loop μ-loop
+returns c =
+    let h : c .before .loop .i ≡ length (c .before .before .args .text .now) = omega arith in
+    cleared _ _ _ (c .before .loop .inv .2) h
+
+pub clear-bytes-spec : {M : Type 1} → statement M
+clear-bytes-spec =
+    tie.close
+    (tie.spec
+    Inv-loop
+    μ-loop
+    loop-holds
+    slice-write-text
+    add-i
+    loop-less
+    loop-again
+    same-length
+    returns)
