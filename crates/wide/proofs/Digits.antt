@@ -56,7 +56,7 @@ two-places zero n a h = absurd (omega arith)
 two-places (suc k) n a h = omega arith
 
 -- one turn, as the code does it: at the place k before `at` the digit d of `rest`, whose tenth is q
-module _ (n : ℕ) (text : List ℕ) (rest at k q d : ℕ) (w : Written n text rest at) (e : k ≡ at - 1) (tq : q ≡ rest / 10) (td : d ≡ rest % 10) where
+module _ {n : ℕ} {text : List ℕ} {rest at k q d : ℕ} (w : Written n text rest at) (e : k ≡ at - 1) (t : (q ≡ rest / 10) × (d ≡ rest % 10)) where
   -- `at` is not 0
   at-suc : at ≡ suc k
   at-suc = omega (arith, w .left)
@@ -70,22 +70,22 @@ module _ (n : ℕ) (text : List ℕ) (rest at k q d : ℕ) (w : Written n text r
   whole-now : decimal n ≡ digits (suc k) rest ++ w .done
   whole-now = rw at-suc at (w .whole)
 
-  pub again : (b : Bool) → b ≡ eqb q 0 → b ≡ false → Written n (set text k ((48 + d) % 256)) q k
-  again b t f =
-      let z : q ≡ 0 → ⊥ = eqb-false q 0 (sym t ∙ f) in
+  pub again : {b : Bool} → b ≡ eqb q 0 → b ≡ false → Written n (set text k ((48 + d) % 256)) q k
+  again s f =
+      let z : q ≡ 0 → ⊥ = eqb-false q 0 (sym s ∙ f) in
       let g : 10 ≤ rest = omega arith in
       record {
         done = d ∷ w .done;
         said = text-now;
-        whole = rw (whole-now, many k rest g, tq, td, append-assoc);
-        room = rw tq (tenth k rest room-now);
+        whole = rw (whole-now, many k rest g, t .0, t .1, append-assoc);
+        room = rw (t .0) (tenth k rest room-now);
         places = omega (arith, w .places, at-suc);
         left = two-places k rest g room-now;
       }
 
-  pub finished : (b : Bool) → b ≡ eqb q 0 → b ≡ true → (k ≡ 39 - length (decimal n)) × (set text k ((48 + d) % 256) ≡ replicate k 0 ++ ascii (decimal n))
-  finished b t f =
-      let z : q ≡ 0 = eqb-true q 0 (sym t ∙ f) in
+  pub finished : {b : Bool} → b ≡ eqb q 0 → b ≡ true → (k ≡ 39 - length (decimal n)) × (set text k ((48 + d) % 256) ≡ replicate k 0 ++ ascii (decimal n))
+  finished s f =
+      let z : q ≡ 0 = eqb-true q 0 (sym s ∙ f) in
       let same : rest ≡ d = omega arith in
       let all : decimal n ≡ d ∷ w .done = rw (whole-now, few k rest (omega arith), same) in
       rw all (omega (arith, w .places, at-suc), text-now)

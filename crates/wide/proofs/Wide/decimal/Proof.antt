@@ -37,14 +37,14 @@ is-zero-requires c κs = search needs
 
 returns : tie.Need-returns Inv-loop μ-loop
 returns c =
-    finished _ _ _ _ _ _ _ (c .before .before .before .before .before .loop .inv) refl (c .before .before .before .before .div10 .ensures .0) (c .before .before .before .before .div10 .ensures .1) _ (c .before .is-zero .ensures) (c .if1 .taken)
+    finished (c .before .before .before .before .before .loop .inv) refl (c .before .before .before .before .div10 .ensures) (c .before .is-zero .ensures) (c .if1 .taken)
 
 loop-less : tie.Need-loop-less Inv-loop μ-loop
 loop-less c = search needs
 
 loop-again : tie.Need-loop-again Inv-loop μ-loop
 loop-again c =
-    again _ _ _ _ _ _ _ (c .before .before .before .before .before .loop .inv) refl (c .before .before .before .before .div10 .ensures .0) (c .before .before .before .before .div10 .ensures .1) _ (c .before .is-zero .ensures) (c .if1 .left)
+    again (c .before .before .before .before .before .loop .inv) refl (c .before .before .before .before .div10 .ensures) (c .before .is-zero .ensures) (c .if1 .left)
 
 pub decimal-spec : {M : Type 1} → statement M
 decimal-spec =
