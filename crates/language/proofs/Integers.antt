@@ -1,14 +1,13 @@
 -- The proofs of the claims of specs/Integers.antt.
 use Prim.Native.Nat.{ℕ, zero, suc, _+_, _*_, _/_, _%_, _^_, _≤_, _<_}
 use mathlib.Core.Path.{_≡_, refl, sym, ap, subst, _∙_}
-use mathlib.Core.Bool.{Bool, true, false}
 use mathlib.Core.List.{List, [], _∷_, _++_}
 use mathlib.Core.Option.{Option, none, some}
 use native.Mathlib.Nat.{lt-of-lt-of-le, lt-of-le-of-lt, div-lt-iff-lt-mul, div-add-mod', div-le-self, pow-suc}
 use native.Mathlib.Decide.{decLt}
 use native.Mathlib.Omega.{arith}
 use borrow.Author.Tests.{lt-ltb, le-ltb, leb-true}
-use lib.Dec.{ltb, leb}
+use lib.Dec.{ltb}
 use lib.ListN.{length, getD, length-append, List·getD-append}
 use Rattle.language.specs.Choice.{if′}
 use Rattle.language.specs.Integers.{limit, valueFrom, valueOf, digits, mostDigits, decimal, IntType, u8, u16, u32, u64, bits, smallest, DecimalIsRight, DecimalUnfolds, SmallestHolds}

@@ -4,12 +4,10 @@ use mathlib.Core.Bool.{Bool, true, false}
 use mathlib.Core.List.{List, [], _∷_, _++_, append-assoc, append-nil}
 use Prim.Native.Nat.{ℕ, zero, suc, _+_, _*_, _-_, _/_, _%_, _^_, _<_, _≤_}
 use native.Mathlib.Nat.{le-trans, lt-of-lt-of-le, mul-le-mul-right}
-use native.Mathlib.Numerals.{add-one}
 use native.Mathlib.Omega.{arith}
 use borrow.Author.Tests.{leb-true, eqb-true, eqb-false}
 use lib.Dec.{eqb}
-use lib.ListN.{length, set, replicate, length-replicate, length-append, replicate-append-replicate}
-use lib.Seq.{set-at}
+use lib.ListN.{length, set, replicate}
 use Rattle.language.specs.Integers.{digits, decimal, ascii}
 use Rattle.language.proofs.Integers.{few, many, tenth}
 use Rattle.wide.specs.Wide.{word}

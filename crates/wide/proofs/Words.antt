@@ -1,17 +1,17 @@
 -- What two words say of their number. 2^127 has 39 digits, one more than omega takes, so two laws carry it.
-use mathlib.Core.Path.{_≡_, refl, sym, ap, _∙_}
-use mathlib.Core.Bool.{Bool, true, false, not}
+use mathlib.Core.Path.{_≡_, sym}
+use mathlib.Core.Bool.{true, false}
 use mathlib.Core.Option.{some}
-use Prim.Native.Nat.{ℕ, zero, suc, _+_, _*_, _/_, _%_, _^_, _<_, _≤_}
+use Prim.Native.Nat.{ℕ, _+_, _*_, _/_, _%_, _^_, _<_, _≤_}
 use native.Mathlib.Nat.{le-trans, lt-of-lt-of-le, mul-le-mul-right, mul-right-comm}
 use native.Mathlib.Omega.{arith}
 use borrow.Author.Tests.{lt-ltb, le-ltb, eq-eqb, ne-eqb}
 use lib.Dec.{eqb}
-use Rattle.language.specs.Integers.{limit, IntType, u8, u16, u32, u64, bits, smallest, low16, isTruncated}
+use Rattle.language.specs.Integers.{limit, IntType, bits, smallest, low16, isTruncated}
 use Rattle.language.proofs.Integers.{from, chosen, none-chosen}
 use Rattle.wide.specs.declared.Scaled.the-variants.{Fits, Over}
-use Rattle.wide.specs.declared.Size.the-variants.{U8, U16, U32, U64, TooLarge}
-use Rattle.wide.specs.Wide.{word, wideOf, fitted, scaled, sizeOf}
+use Rattle.wide.specs.declared.Size.the-variants.{TooLarge}
+use Rattle.wide.specs.Wide.{word, fitted, scaled, sizeOf}
 
 -- ---- a number is below 2^127 where its upper word is below 2^63
 
