@@ -1,1 +1,201 @@
 -- The proofs of the claims of specs/Integers.antt.
+use Prim.Native.Nat.{ℕ, zero, suc, _+_, _*_, _/_, _%_, _^_, _≤_, _<_}
+use mathlib.Core.Path.{_≡_, refl, sym, ap, subst, _∙_}
+use mathlib.Core.List.{List, [], _∷_, _++_}
+use mathlib.Core.Option.{Option, none, some}
+use native.Mathlib.Nat.{lt-of-lt-of-le, lt-of-le-of-lt, div-lt-iff-lt-mul, div-add-mod', div-le-self, pow-suc}
+use native.Mathlib.Decide.{decLt}
+use native.Mathlib.Omega.{arith}
+use borrow.Author.Tests.{lt-ltb, le-ltb, leb-true}
+use lib.Dec.{ltb}
+use lib.ListN.{length, getD, length-append, List·getD-append}
+use Rattle.language.specs.Choice.{if′}
+use Rattle.language.specs.Integers.{limit, valueFrom, valueOf, digits, mostDigits, decimal, IntType, u8, u16, u32, u64, bits, smallest, DecimalIsRight, DecimalUnfolds, SmallestHolds}
+
+-- ---- decimal digits, one step
+
+unfolded : (k n : ℕ) → digits (suc k) n ≡ if′ (ltb n 10) (n ∷ []) (digits k (n / 10) ++ (n % 10 ∷ []))
+unfolding digits
+unfolded k n = refl
+
+pub few : (k n : ℕ) → n < 10 → digits (suc k) n ≡ n ∷ []
+few k n h = rw (unfolded, lt-ltb n 10 h)
+
+pub many : (k n : ℕ) → 10 ≤ n → digits (suc k) n ≡ digits k (n / 10) ++ (n % 10 ∷ [])
+many k n h = rw (unfolded k n, le-ltb n 10 h)
+
+-- a tenth has a place fewer
+pub tenth : (k n : ℕ) → n < 10 ^ suc k → n / 10 < 10 ^ k
+tenth k n h = div-lt-iff-lt-mul {k = 10} {x = n} {y = 10 ^ k} (omega arith) .1 (rw pow-suc at h)
+
+-- what holds of one digit, and of a digit more, holds of the digits of every number that has room
+module _ (P : ℕ → ℕ → List ℕ → Type 0)
+    (one : (k n : ℕ) → n < 10 → P (suc k) n (n ∷ []))
+    (more : (k n : ℕ) (ds : List ℕ) → 10 ≤ n → P k (n / 10) ds → P (suc k) n (ds ++ (n % 10 ∷ []))) where
+  pub each : (k n : ℕ) → n < 10 ^ suc k → P (suc k) n (digits (suc k) n)
+  each zero n h = rw (few 0 n) (one 0 n h)
+  each (suc k) n h =
+      elim (decLt n 10) [
+        | yes lt ↦ rw few (one (suc k) n lt)
+        | no ge ↦ rw (many (suc k) n (omega arith)) (more (suc k) n _ (omega arith) (each k (n / 10) (tenth (suc k) n h)))
+      ]
+
+-- ---- what the digits say
+
+value-snoc : (v : ℕ) (ds : List ℕ) (d : ℕ) → valueFrom 10 v (ds ++ (d ∷ [])) ≡ valueFrom 10 v ds * 10 + d
+value-snoc v [] d = refl
+value-snoc v (e ∷ ds) d = value-snoc (v * 10 + e) ds d
+
+-- past the end `getD` answers 0, so no bound on the index is asked
+small-snoc : (ds : List ℕ) (d : ℕ) → ((i : ℕ) → getD ds i 0 < 10) → d < 10 → (i : ℕ) → getD (ds ++ (d ∷ [])) i 0 < 10
+small-snoc [] d h s zero = s
+small-snoc [] d h s (suc i) = omega arith
+small-snoc (e ∷ ds) d h s zero = h 0
+small-snoc (e ∷ ds) d h s (suc i) = small-snoc ds d (λ j. h (suc j)) s i
+
+record Right (k n : ℕ) (ds : List ℕ) : Type 0 where
+  value : valueOf 10 ds ≡ n
+  small : (i : ℕ) → getD ds i 0 < 10
+  some-digit : 0 < length ds
+  in-room : length ds ≤ k
+  first : 0 < n → 0 < getD ds 0 0
+
+right-one : (k n : ℕ) → n < 10 → Right (suc k) n (n ∷ [])
+right-one k n h =
+    record {
+      value = omega arith;
+      small = small-snoc [] n (λ i. omega arith) h;
+      some-digit = omega arith;
+      in-room = omega arith;
+      first = λ p. p;
+    }
+
+right-more : (k n : ℕ) (ds : List ℕ) → 10 ≤ n → Right k (n / 10) ds → Right (suc k) n (ds ++ (n % 10 ∷ []))
+right-more k n ds g r =
+    record {
+      value = rw (value-snoc, r .value) (div-add-mod' n 10);
+      small = small-snoc ds (n % 10) (r .small) (omega arith);
+      some-digit = simp length-append (omega arith);
+      in-room = simp length-append (omega (arith, r .in-room));
+      first = λ p. rw (List·getD-append ds (n % 10 ∷ []) 0 0 (r .some-digit)) (r .first (omega arith));
+    }
+
+right : (k n : ℕ) → n < 10 ^ suc k → Right (suc k) n (digits (suc k) n)
+right = each Right right-one right-more
+
+zero-first : (k n : ℕ) → Right (suc k) n (digits (suc k) n) → getD (digits (suc k) n) 0 0 ≡ 0 → digits (suc k) n ≡ 0 ∷ []
+zero-first k n r e =
+    elim (decLt 0 n) [
+      | yes p ↦ absurd (omega (arith, r .first p))
+      | no q ↦
+          let z : n ≡ 0 = omega arith in
+          few k n (omega arith) ∙ ap (λ (d : ℕ). d ∷ []) z
+    ]
+
+-- 2^127 has 39 digits
+has-room : (n : ℕ) → n < limit → n < 10 ^ mostDigits
+has-room n h = lt-of-lt-of-le h (leb-true limit (10 ^ mostDigits) refl)
+
+pub decimal-is-right : DecimalIsRight
+unfolding decimal
+decimal-is-right n h =
+    let r : Right 39 n (digits 39 n) = right 38 n (has-room n h) in
+    (r .value, λ i l. r .small i, r .some-digit, r .in-room, λ e. zero-first 38 n r e)
+
+-- ---- the equation without a bound
+
+-- more places than there are digits change nothing
+Same : ℕ → ℕ → List ℕ → Type 0
+Same k n ds = (j : ℕ) → n < 10 ^ suc j → ds ≡ digits (suc j) n
+
+same-one : (k n : ℕ) → n < 10 → Same (suc k) n (n ∷ [])
+unfolding Same
+same-one k n h j b = sym (few j n h)
+
+same-more : (k n : ℕ) (ds : List ℕ) → 10 ≤ n → Same k (n / 10) ds → Same (suc k) n (ds ++ (n % 10 ∷ []))
+unfolding Same
+same-more k n ds g r zero b = absurd (omega arith)
+same-more k n ds g r (suc j) b = rw (many (suc j) n g, r j (tenth (suc j) n b))
+
+pub room : (k j n : ℕ) → n < 10 ^ suc k → n < 10 ^ suc j → digits (suc k) n ≡ digits (suc j) n
+unfolding Same
+room k j n a b = each Same same-one same-more k n a j b
+
+pub decimal-unfolds : DecimalUnfolds
+unfolding decimal
+decimal-unfolds n h =
+    let b : n < 10 ^ 39 = has-room n h in
+    unfolded 38 n ∙ rw (room 37 38 (n / 10) (tenth 38 n b) (lt-of-le-of-lt (div-le-self n 10) b))
+
+-- ---- the smallest type
+
+-- the least number that asks for a type
+abbrev pub from : IntType → ℕ
+from u8 = 0
+from u16 = 2 ^ 8
+from u32 = 2 ^ 16
+from u64 = 2 ^ 32
+
+pub chosen : (t : IntType) (n : ℕ) → from t ≤ n → n < 2 ^ bits t → smallest n ≡ some t
+unfolding smallest
+chosen u8 n a b = rw (lt-ltb n 256 b)
+chosen u16 n a b = rw (le-ltb n 256 a, lt-ltb n 65536 b)
+chosen u32 n a b = rw (le-ltb n 256 (omega arith), le-ltb n 65536 a, lt-ltb n 4294967296 b)
+chosen u64 n a b = rw (le-ltb n 256 (omega arith), le-ltb n 65536 (omega arith), le-ltb n 4294967296 a, lt-ltb n 18446744073709551616 b)
+
+pub none-chosen : (n : ℕ) → 2 ^ 64 ≤ n → smallest n ≡ none
+unfolding smallest
+none-chosen n a = rw (le-ltb n 256 (omega arith), le-ltb n 65536 (omega arith), le-ltb n 4294967296 (omega arith), le-ltb n 18446744073709551616 a)
+
+module _ (P : IntType → Type 0) (a : P u8) (b : P u16) (c : P u32) (d : P u64) where
+  for-types : (t : IntType) → P t
+  for-types u8 = a
+  for-types u16 = b
+  for-types u32 = c
+  for-types u64 = d
+
+-- a type that holds a number which asks for t is no smaller than t
+Wider : IntType → IntType → Type 0
+Wider t u = from t < 2 ^ bits u → bits t ≤ bits u
+
+wider : (t u : IntType) → Wider t u
+unfolding Wider
+wider u8 = for-types (Wider u8) (λ h. omega arith) (λ h. omega arith) (λ h. omega arith) (λ h. omega arith)
+wider u16 = for-types (Wider u16) (λ h. omega arith) (λ h. omega arith) (λ h. omega arith) (λ h. omega arith)
+wider u32 = for-types (Wider u32) (λ h. omega arith) (λ h. omega arith) (λ h. omega arith) (λ h. omega arith)
+wider u64 = for-types (Wider u64) (λ h. omega arith) (λ h. omega arith) (λ h. omega arith) (λ h. omega arith)
+
+Holds : ℕ → Option IntType → Type 0
+Holds n (some t) = (n < 2 ^ bits t) × ((u : IntType) → n < 2 ^ bits u → bits t ≤ bits u)
+Holds n none = (u : IntType) → 2 ^ bits u ≤ n
+
+chosen-holds : (t : IntType) (n : ℕ) → from t ≤ n → n < 2 ^ bits t → Holds n (smallest n)
+unfolding Holds Wider
+chosen-holds t n a b = rw (chosen t n a b) (b, λ u h. wider t u (lt-of-le-of-lt a h))
+
+none-holds : (n : ℕ) → 2 ^ 64 ≤ n → Holds n (smallest n)
+unfolding Holds
+none-holds n a = rw (none-chosen n a) (for-types (λ u. 2 ^ bits u ≤ n) (omega arith) (omega arith) (omega arith) a)
+
+holds : (n : ℕ) → Holds n (smallest n)
+holds n =
+    elim (decLt n (2 ^ 8)) [
+      | yes b ↦ chosen-holds u8 n (omega arith) b
+      | no a ↦
+          elim (decLt n (2 ^ 16)) [
+            | yes b ↦ chosen-holds u16 n (omega arith) b
+            | no a ↦
+                elim (decLt n (2 ^ 32)) [
+                  | yes b ↦ chosen-holds u32 n (omega arith) b
+                  | no a ↦
+                      elim (decLt n (2 ^ 64)) [
+                        | yes b ↦ chosen-holds u64 n (omega arith) b
+                        | no a ↦ none-holds n (omega arith)
+                      ]
+                ]
+          ]
+    ]
+
+pub smallest-holds : SmallestHolds
+unfolding Holds
+smallest-holds = (λ n t e. subst (Holds n) e (holds n), λ n e. subst (Holds n) e (holds n))

@@ -1,7 +1,8 @@
 // Numbers from 0 to 2^127 - 1 in two 64-bit words: what `i128` is in the Rust.
 ghost use mathlib.Core.Path.{_≡_};
-ghost use Prim.Native.Nat.{_-_, _<_};
+ghost use Prim.Native.Nat.{_-_, _/_, _%_, _<_};
 ghost use mathlib.Core.List.{_++_};
+ghost use lib.Dec.{eqb};
 ghost use lib.ListN.{length, replicate};
 ghost use Rattle.language.specs.Integers.{smallest, low16, isTruncated, decimal, ascii};
 ghost use Rattle.wide.specs.Wide.{valueOf, scaled, sizeOf};
@@ -33,6 +34,12 @@ pub struct Low16 {
     pub changed: bool,
 }
 
+// A tenth of a number, and the digit that is left.
+struct Quotient {
+    rest: Wide,
+    digit: u64,
+}
+
 impl Wide {
     // How many decimal digits a number has at the most.
     pub const MOST_DIGITS: usize = 39;
@@ -48,6 +55,23 @@ impl Wide {
         requires { ⌜ d < 10 ⌝ }
         ensures { λ r. ⌜ r ≡ scaled 10 (valueOf self) d ⌝ }
     {
+        let hi = self.hi;
+        let lo = self.lo;
+        // past 2^63 / 10 the answer is known, and `h` below might not fit
+        if 922337203685477580 < hi {
+            return Scaled::Over;
+        }
+        // by halves of 32 bits, so that no product needs more than 64 bits
+        let p0 = (lo % 4294967296) * 10 + d;
+        let p1 = (lo / 4294967296) * 10 + p0 / 4294967296;
+        let h = hi * 10 + p1 / 4294967296;
+        // 2^63 in the upper word is 2^127
+        if h < 9223372036854775808 {
+            return Scaled::Fits(Wide {
+                hi: h,
+                lo: (p1 % 4294967296) * 4294967296 + p0 % 4294967296,
+            });
+        }
         Scaled::Over
     }
 
@@ -56,22 +80,87 @@ impl Wide {
         requires { ⌜ d < 16 ⌝ }
         ensures { λ r. ⌜ r ≡ scaled 16 (valueOf self) d ⌝ }
     {
-        Scaled::Over
+        let hi = self.hi;
+        let lo = self.lo;
+        // from 2^63 / 16 on the answer is known; below it a digit more always fits
+        if 576460752303423487 < hi {
+            return Scaled::Over;
+        }
+        // the upper four bits of `lo` go to the upper word
+        Scaled::Fits(Wide {
+            hi: hi * 16 + lo / 1152921504606846976,
+            lo: (lo % 1152921504606846976) * 16 + d,
+        })
     }
 
+    // The smallest type that holds the number.
     pub fn smallest(self) -> Size
         ensures { λ r. ⌜ r ≡ sizeOf (smallest (valueOf self)) ⌝ }
     {
-        Size::TooLarge
+        let hi = self.hi;
+        let lo = self.lo;
+        if 0 < hi {
+            return Size::TooLarge;
+        }
+        if lo < 256 {
+            return Size::U8;
+        }
+        if lo < 65536 {
+            return Size::U16;
+        }
+        if lo < 4294967296 {
+            return Size::U32;
+        }
+        Size::U64
     }
 
+    // The number modulo 2^16: the upper word never counts.
     pub fn low16(self) -> Low16
         ensures { λ r. ⌜ (r .value ≡ low16 (valueOf self)) × (r .changed ≡ isTruncated (valueOf self)) ⌝ }
     {
-        Low16 {
-            value: 0,
-            changed: false,
+        let hi = self.hi;
+        let lo = self.lo;
+        if 0 < hi {
+            return Low16 {
+                value: lo % 65536,
+                changed: true,
+            };
         }
+        if lo < 65536 {
+            return Low16 {
+                value: lo,
+                changed: false,
+            };
+        }
+        Low16 {
+            value: lo % 65536,
+            changed: true,
+        }
+    }
+
+    // A long division: the upper word, then the halves of the lower, each with what is left of the part before it,
+    // so that no part needs more than 64 bits.
+    fn div10(self) -> Quotient
+        ensures { λ r. ⌜ (valueOf (r .rest) ≡ valueOf self / 10) × (r .digit ≡ valueOf self % 10) ⌝ }
+    {
+        let hi = self.hi;
+        let lo = self.lo;
+        let p1 = (hi % 10) * 4294967296 + lo / 4294967296;
+        let p0 = (p1 % 10) * 4294967296 + lo % 4294967296;
+        let rest = Wide {
+            hi: hi / 10,
+            lo: (p1 / 10) * 4294967296 + p0 / 10,
+        };
+        Quotient {
+            rest,
+            digit: p0 % 10,
+        }
+    }
+
+    fn is_zero(self) -> bool
+        ensures { λ r. ⌜ r ≡ eqb (valueOf self) 0 ⌝ }
+    {
+        if self.hi == 0 { self.lo == 0 } else { false }
     }
 
     // The decimal digits, at the end of the lent buffer; answers where they start. What is before them is zero.
@@ -79,6 +168,18 @@ impl Wide {
         ensures { λ r. ⌜ r ≡ 39 - length (decimal (valueOf self)) ⌝ }
         ensures { λ r. ⌜ now (text .exit) ≡ replicate r 0 ++ ascii (decimal (valueOf self)) ⌝ }
     {
-        0
+        *text = [0u8; 39];
+        let mut rest = self;
+        let mut at = Wide::MOST_DIGITS;
+        // the last digit first; 0 has one too, so the test stands at the end
+        loop {
+            let q = rest.div10();
+            at -= 1;
+            text[at] = ((48 + q.digit) % 256) as u8;
+            rest = q.rest;
+            if rest.is_zero() {
+                return at;
+            }
+        }
     }
 }
