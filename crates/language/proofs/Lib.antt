@@ -2,3 +2,4 @@
 pub mod Examples
 pub mod Utf8
 pub mod Integers
+pub mod LexemeExamples

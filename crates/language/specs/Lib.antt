@@ -2,3 +2,6 @@
 pub mod Choice
 pub mod Utf8
 pub mod Integers
+pub mod Lexemes
+pub mod Tables
+pub mod Numbers
