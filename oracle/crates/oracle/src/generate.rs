@@ -180,7 +180,7 @@ const BLANKS: [char; 25] = [
 
 /// Bodies that decode
 const BODIES: [&str; 12] = [
-    "", "ok", "a b", "|00|", "|0a 0B|", "|0:1.2_3-4'5`6|", "x|41|y", "||", "#;//", "\\n", "~!",
+    "", "ok", "a b", "|00|", "|0a 0B|", "|0:1.2_3-4'5`67|", "x|41|y", "||", "#;//", "\\n", "~!",
     "(a,)",
 ];
 
@@ -623,7 +623,13 @@ impl Program {
                     }
                 }
                 2 => out.push(if out.ends_with(';') { '\n' } else { ' ' }),
-                _ if joins || rng.once_in(2) => out.push_str(&trivia(rng)),
+                _ if joins || rng.once_in(2) => {
+                    // A comment after a slash would take the slash in
+                    if out.ends_with('/') {
+                        out.push(' ');
+                    }
+                    out.push_str(&trivia(rng));
+                }
                 _ => {}
             }
             out.push_str(tok);
