@@ -15,6 +15,8 @@ use resynth::stdlib::{STDLIB, WIDE};
 use resynth::str::{Buf, StringLiteralErrorKind};
 use resynth::{Held, call_parts, hold, token};
 
+use crate::bounds;
+
 pub type Out = Vec<u8>;
 
 #[derive(Clone, Copy, Default)]
@@ -23,6 +25,8 @@ pub struct Options {
     pub wide: bool,
     /// Show a string as the list of its raw bodies
     pub raw: bool,
+    /// Give the refusals that resynth does not have
+    pub bounds: bool,
 }
 
 /// Why there is no answer
@@ -30,6 +34,8 @@ pub enum Refusal {
     Utf8(Loc),
     Lex(LexError),
     Parse(resynth::parse::ParseError),
+    /// One that resynth does not have
+    Bound(u8, Loc),
 }
 
 type Result<T> = std::result::Result<T, Refusal>;
@@ -184,6 +190,10 @@ fn refusal(out: &mut Out, refusal: &Refusal) {
                 },
             );
         }
+        Refusal::Bound(no, loc) => {
+            put!(out, "refused {no} ");
+            place(out, *loc);
+        }
     }
     out.push(b'\n');
 }
@@ -198,7 +208,15 @@ fn text(src: &[u8]) -> Result<&str> {
     })
 }
 
+fn size(src: &[u8], opts: Options) -> Result<()> {
+    if opts.bounds && bounds::too_long(src) {
+        return Err(Refusal::Bound(1, Loc::nil()));
+    }
+    Ok(())
+}
+
 pub fn tokens(src: &[u8], opts: Options) -> Result<VecDeque<Token>> {
+    size(src, opts)?;
     // Cut at each byte 10, and no line after the last
     let lines = text(src)?.split_terminator('\n');
     if opts.raw {
@@ -242,7 +260,10 @@ fn raw_tokens<'a>(
     Ok(toks)
 }
 
-pub fn scan(out: &mut Out, src: &[u8]) {
+pub fn scan(out: &mut Out, src: &[u8], opts: Options) {
+    if let Err(err) = size(src, opts) {
+        return refusal(out, &err);
+    }
     let line = match std::str::from_utf8(src) {
         Ok(line) => line,
         Err(err) => {
@@ -311,7 +332,16 @@ pub fn decode(out: &mut Out, src: &[u8]) {
 // Trees
 
 pub fn tree(src: &[u8], opts: Options) -> Result<Vec<ast::Stmt>> {
-    parse_tokens(tokens(src, opts)?).map_err(Refusal::Parse)
+    let toks = tokens(src, opts)?;
+    if !opts.bounds {
+        return parse_tokens(toks).map_err(Refusal::Parse);
+    }
+    let parsed = parse_tokens(toks.clone());
+    let stop = parsed.as_ref().err().map(|err| err.loc);
+    match bounds::too_deep(&toks, stop) {
+        Some(loc) => Err(Refusal::Bound(7, loc)),
+        None => parsed.map_err(Refusal::Parse),
+    }
 }
 
 /// A name and its place
@@ -692,8 +722,24 @@ fn held_stmt(out: &mut Out, stmt: &hir::Stmt, held: &Held, opts: Options) {
     out.push(b'\n');
 }
 
+/// The statements to judge
+fn judged(src: &[u8], opts: Options) -> Result<Vec<ast::Stmt>> {
+    let stmts = tree(src, opts)?;
+    if opts.bounds {
+        if !opts.wide
+            && let Some(loc) = bounds::call(&tokens(src, opts)?)
+        {
+            return Err(Refusal::Bound(8, loc));
+        }
+        if let Some(loc) = bounds::too_many_names(&stmts) {
+            return Err(Refusal::Bound(9, loc));
+        }
+    }
+    Ok(stmts)
+}
+
 pub fn check(out: &mut Out, src: &[u8], opts: Options) {
-    let stmts = match tree(src, opts) {
+    let stmts = match judged(src, opts) {
         Ok(stmts) => stmts,
         Err(err) => return refusal(out, &err),
     };

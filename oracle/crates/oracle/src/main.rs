@@ -1,6 +1,7 @@
 //! Prints what resynth answers. See README.md.
 
 mod answer;
+mod bounds;
 mod generate;
 mod selfcheck;
 mod text;
@@ -11,7 +12,7 @@ use std::process::ExitCode;
 
 use answer::{Options, Out};
 
-const USAGE: &str = "usage: oracle scan|lex|parse|check|decode [batch] [--raw] [--wide]
+const USAGE: &str = "usage: oracle scan|lex|parse|check|decode [batch] [--raw] [--wide] [--bounds]
        oracle gen KIND SEED COUNT
        oracle samples FILE
        oracle self SEED COUNT
@@ -24,7 +25,7 @@ pub type Mode = fn(&mut Out, &[u8], Options);
 
 pub fn mode(name: &str) -> Option<Mode> {
     Some(match name {
-        "scan" => |out, src, _| answer::scan(out, src),
+        "scan" => answer::scan,
         "lex" => answer::lex,
         "parse" => answer::parse,
         "check" => answer::check,
@@ -148,6 +149,7 @@ fn run(args: &[String]) -> io::Result<ExitCode> {
                     "batch" if i == 0 => many = true,
                     "--raw" => opts.raw = true,
                     "--wide" => opts.wide = true,
+                    "--bounds" => opts.bounds = true,
                     _ => {
                         eprintln!("{USAGE}");
                         return Ok(ExitCode::from(2));

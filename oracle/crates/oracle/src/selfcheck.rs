@@ -31,6 +31,7 @@ pub fn samples(file: &str) -> ExitCode {
             match word {
                 "--raw" => opts.raw = true,
                 "--wide" => opts.wide = true,
+                "--bounds" => opts.bounds = true,
                 _ => break,
             }
             source = tail;
@@ -282,7 +283,12 @@ pub fn selfcheck(seed: u64, count: u64) -> ExitCode {
             tokens_agree(src, &mut report);
             for wide in [false, true] {
                 for raw in [false, true] {
-                    checks_agree(src, Options { wide, raw }, &mut report);
+                    let opts = Options {
+                        wide,
+                        raw,
+                        ..Options::default()
+                    };
+                    checks_agree(src, opts, &mut report);
                 }
             }
             Ok(())
