@@ -203,7 +203,10 @@ fn text(src: &[u8]) -> Result<&str> {
     std::str::from_utf8(src).map_err(|err| {
         let before = &src[..err.valid_up_to()];
         let line = before.iter().filter(|&&b| b == b'\n').count();
-        let start = before.iter().rposition(|&b| b == b'\n').map_or(0, |i| i + 1);
+        let start = before
+            .iter()
+            .rposition(|&b| b == b'\n')
+            .map_or(0, |i| i + 1);
         Refusal::Utf8(Loc::new(line + 1, before.len() - start + 1))
     })
 }

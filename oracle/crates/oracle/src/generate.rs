@@ -88,6 +88,7 @@ impl Rng {
 // Short strings, all of them
 
 /// The letters of each alphabet, chosen by the seed modulo their number
+#[rustfmt::skip]
 const ALPHABETS: [&[&[u8]]; 5] = [
     // What matters to the scanner
     &[
@@ -131,11 +132,7 @@ const ALPHABETS: [&[&[u8]]; 5] = [
     ],
 ];
 
-fn short(
-    seed: u64,
-    count: u64,
-    emit: &mut dyn FnMut(&[u8]) -> io::Result<()>,
-) -> io::Result<()> {
+fn short(seed: u64, count: u64, emit: &mut dyn FnMut(&[u8]) -> io::Result<()>) -> io::Result<()> {
     let letters = ALPHABETS[(seed % ALPHABETS.len() as u64) as usize];
     let mut digits: Vec<usize> = Vec::new();
     let mut src = Vec::new();
@@ -179,12 +176,14 @@ const BLANKS: [char; 25] = [
 ];
 
 /// Bodies that decode
+#[rustfmt::skip]
 const BODIES: [&str; 12] = [
     "", "ok", "a b", "|00|", "|0a 0B|", "|0:1.2_3-4'5`67|", "x|41|y", "||", "#;//", "\\n", "~!",
     "(a,)",
 ];
 
 /// Bodies that do not
+#[rustfmt::skip]
 const BAD_BODIES: [&str; 8] = [
     "\u{e9}", "|0|", "|zz|", "|00", "\t", "a|", "|\u{20ac}|", "\u{7f}",
 ];
@@ -195,7 +194,10 @@ fn trivia(rng: &mut Rng) -> String {
         5 => "\n".into(),
         6 => "\t".into(),
         7 => "  \r\n".into(),
-        8 => format!("# {}\n", rng.pick(&["", "let x = 1;", "\"", "\u{e9}", "//"])),
+        8 => format!(
+            "# {}\n",
+            rng.pick(&["", "let x = 1;", "\"", "\u{e9}", "//"])
+        ),
         9 => format!("//{}\n", rng.pick(&["", " x", "\"", "\u{2028}", "#"])),
         10 => {
             let n = 1 + rng.below(3);
@@ -297,7 +299,9 @@ fn any_token(rng: &mut Rng) -> String {
             0 => format!("{}{}", rng.pick(&["0", "00", "1", "0x", "0xf"]), name(rng)),
             1 => format!("{}.{}", quad(rng), byte(rng)),
             2 => format!("{}.{}", byte(rng), byte(rng)),
-            3 => rng.pick(&["@", "\u{e9}", "\0", "-", "\u{1f600}", "'"]).into(),
+            3 => rng
+                .pick(&["@", "\u{e9}", "\0", "-", "\u{1f600}", "'"])
+                .into(),
             4 => "\"".into(),
             _ => format!("0{}", byte(rng)),
         },
@@ -476,7 +480,11 @@ impl Program {
                 _ => {
                     self.expr(rng, Sort::Ip);
                     self.put("/");
-                    let port = if rng.once_in(6) { Sort::Bool } else { Sort::Int };
+                    let port = if rng.once_in(6) {
+                        Sort::Bool
+                    } else {
+                        Sort::Int
+                    };
                     self.expr(rng, port);
                 }
             },
@@ -575,8 +583,9 @@ impl Program {
             1..=5 => {
                 self.put("let");
                 // Mostly a new name
-                let name = match rng.below(4) {
+                let name = match rng.below(8) {
                     0 => name(rng),
+                    1 if !self.lets.is_empty() => self.lets[rng.below(self.lets.len())].0.clone(),
                     _ => format!("{}{}", rng.pick(&["v", "w_", "HTTP"]), self.lets.len()),
                 };
                 self.put(name.clone());
@@ -673,8 +682,30 @@ fn calls(rng: &mut Rng) -> Vec<u8> {
 
 fn damaged(rng: &mut Rng) -> Vec<u8> {
     const BITS: [&str; 24] = [
-        "\"", "\n", "#", "/", "//", ":", "::", ";", ".", "(", ")", ",", "=", "0", "9", "x", "_",
-        "\0", "@", "\u{e9}", "\u{a0}", "\u{3000}", "\u{1f600}", "|",
+        "\"",
+        "\n",
+        "#",
+        "/",
+        "//",
+        ":",
+        "::",
+        ";",
+        ".",
+        "(",
+        ")",
+        ",",
+        "=",
+        "0",
+        "9",
+        "x",
+        "_",
+        "\0",
+        "@",
+        "\u{e9}",
+        "\u{a0}",
+        "\u{3000}",
+        "\u{1f600}",
+        "|",
     ];
     let mut src = match rng.below(4) {
         0 => tokens(rng),
@@ -879,8 +910,21 @@ fn near_blanks() -> Vec<char> {
         out.extend((n.saturating_sub(1)..=n + 1).filter_map(char::from_u32));
     }
     out.extend([
-        '\0', '\u{1c}', '\u{1d}', '\u{1e}', '\u{1f}', '\u{7f}', '\u{180e}', '\u{200d}', '\u{2060}',
-        '\u{fe00}', '\u{feff}', '\u{fffd}', '\u{10ffff}', '\u{d7ff}', '\u{e000}',
+        '\0',
+        '\u{1c}',
+        '\u{1d}',
+        '\u{1e}',
+        '\u{1f}',
+        '\u{7f}',
+        '\u{180e}',
+        '\u{200d}',
+        '\u{2060}',
+        '\u{fe00}',
+        '\u{feff}',
+        '\u{fffd}',
+        '\u{10ffff}',
+        '\u{d7ff}',
+        '\u{e000}',
     ]);
     out.sort_unstable();
     out.dedup();
@@ -933,6 +977,7 @@ fn blanks(rng: &mut Rng, i: u64) -> Vec<u8> {
 // UTF-8
 
 /// Well-formed characters at each edge of their lengths, and sequences that are not
+#[rustfmt::skip]
 const SEQUENCES: [&[u8]; 52] = [
     b"\x00", b"\x7f", b"\xc2\x80", b"\xdf\xbf", b"\xe0\xa0\x80", b"\xe0\xbf\xbf", b"\xe1\x80\x80",
     b"\xec\xbf\xbf", b"\xed\x80\x80", b"\xed\x9f\xbf", b"\xee\x80\x80", b"\xef\xbf\xbf",

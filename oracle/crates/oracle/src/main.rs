@@ -105,7 +105,10 @@ fn run(args: &[String]) -> io::Result<ExitCode> {
             })?;
             output.flush()?;
             if !known {
-                eprintln!("no such kind: {kind}; the kinds are {}", generate::KINDS.join(" "));
+                eprintln!(
+                    "no such kind: {kind}; the kinds are {}",
+                    generate::KINDS.join(" ")
+                );
                 return Ok(ExitCode::from(2));
             }
             Ok(ExitCode::SUCCESS)

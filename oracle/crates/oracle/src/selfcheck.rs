@@ -199,9 +199,7 @@ fn checks_agree(src: &[u8], opts: Options, report: &mut Report) {
     });
     let same = our_diags == their_diags
         && match (ours, theirs) {
-            (Some(ours), Ok(theirs)) => {
-                errors == 0 && format!("{ours:?}") == format!("{theirs:?}")
-            }
+            (Some(ours), Ok(theirs)) => errors == 0 && format!("{ours:?}") == format!("{theirs:?}"),
             (None, Err(sum)) => sum.errors.get() == errors && sum.warnings == warnings,
             _ => false,
         };

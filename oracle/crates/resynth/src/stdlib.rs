@@ -66,30 +66,38 @@ func!(HOST, "host", ("number": U8) -> Ip4);
 
 module!(DEEP, "deep", [val("ZERO", ValDef::U8(0))]);
 
-module!(BENCH, "bench", [
-    val("HTTP", ValDef::U16(80)),
-    val("LOOP", ValDef::Ip4(Ipv4Addr::new(127, 0, 0, 1))),
-    val("BIG", ValDef::U32(70000)),
-    val("ON", ValDef::Bool(true)),
-    val("BANNER", ValDef::Str(b"ok")),
-    sym("ping", Symbol::Func(&PING)),
-    sym("deep", Symbol::Module(&DEEP)),
-]);
+module!(
+    BENCH,
+    "bench",
+    [
+        val("HTTP", ValDef::U16(80)),
+        val("LOOP", ValDef::Ip4(Ipv4Addr::new(127, 0, 0, 1))),
+        val("BIG", ValDef::U32(70000)),
+        val("ON", ValDef::Bool(true)),
+        val("BANNER", ValDef::Str(b"ok")),
+        sym("ping", Symbol::Func(&PING)),
+        sym("deep", Symbol::Module(&DEEP)),
+    ]
+);
 
-module!(WIDE_BENCH, "bench", [
-    val("HTTP", ValDef::U16(80)),
-    val("LOOP", ValDef::Ip4(Ipv4Addr::new(127, 0, 0, 1))),
-    val("BIG", ValDef::U32(70000)),
-    val("ON", ValDef::Bool(true)),
-    val("BANNER", ValDef::Str(b"ok")),
-    sym("ping", Symbol::Func(&PING)),
-    sym("deep", Symbol::Module(&DEEP)),
-    sym("pause", Symbol::Func(&PAUSE)),
-    sym("burst", Symbol::Func(&BURST)),
-    sym("mark", Symbol::Func(&MARK)),
-    sym("pick", Symbol::Func(&PICK)),
-    sym("host", Symbol::Func(&HOST)),
-]);
+module!(
+    WIDE_BENCH,
+    "bench",
+    [
+        val("HTTP", ValDef::U16(80)),
+        val("LOOP", ValDef::Ip4(Ipv4Addr::new(127, 0, 0, 1))),
+        val("BIG", ValDef::U32(70000)),
+        val("ON", ValDef::Bool(true)),
+        val("BANNER", ValDef::Str(b"ok")),
+        sym("ping", Symbol::Func(&PING)),
+        sym("deep", Symbol::Module(&DEEP)),
+        sym("pause", Symbol::Func(&PAUSE)),
+        sym("burst", Symbol::Func(&BURST)),
+        sym("mark", Symbol::Func(&MARK)),
+        sym("pick", Symbol::Func(&PICK)),
+        sym("host", Symbol::Func(&HOST)),
+    ]
+);
 
 module!(pub STDLIB, "stdlib", [sym("bench", Symbol::Module(&BENCH))]);
 
