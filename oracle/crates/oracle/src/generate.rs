@@ -626,11 +626,8 @@ impl Program {
             match style {
                 0 if joins => out.push(' '),
                 0 => {}
-                1 => {
-                    if !out.is_empty() && !out.ends_with('\n') && tok != ";" {
-                        out.push(' ');
-                    }
-                }
+                1 if out.is_empty() || out.ends_with('\n') || tok == ";" => {}
+                1 => out.push(' '),
                 2 => out.push(if out.ends_with(';') { '\n' } else { ' ' }),
                 _ if joins || rng.once_in(2) => {
                     // A comment after a slash would take the slash in
