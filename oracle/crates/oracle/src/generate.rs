@@ -1,0 +1,1221 @@
+//! Sources to compare answers on. Source number i of a kind depends on the seed and i alone.
+
+use std::io;
+
+pub const KINDS: [&str; 11] = [
+    "short", "tokens", "programs", "calls", "damaged", "sizes", "blanks", "utf8", "numbers",
+    "lines", "mixed",
+];
+
+/// Give `count` sources of a kind to `emit`. A list that ends sooner ends there. False if there is
+/// no such kind.
+pub fn generate(
+    kind: &str,
+    seed: u64,
+    count: u64,
+    emit: &mut dyn FnMut(&[u8]) -> io::Result<()>,
+) -> io::Result<bool> {
+    match kind {
+        "short" => short(seed, count, emit)?,
+        "sizes" => {
+            for make in SIZES.iter().skip(seed as usize).take(count as usize) {
+                emit(&make())?;
+            }
+        }
+        _ => {
+            let Some(make) = random_kind(kind) else {
+                return Ok(false);
+            };
+            for i in 0..count {
+                emit(&make(&mut Rng::new(seed, i), i))?;
+            }
+        }
+    }
+    Ok(true)
+}
+
+type Make = fn(&mut Rng, u64) -> Vec<u8>;
+
+fn random_kind(kind: &str) -> Option<Make> {
+    Some(match kind {
+        "tokens" => |rng, _| tokens(rng),
+        "programs" => |rng, _| programs(rng),
+        "calls" => |rng, _| calls(rng),
+        "damaged" => |rng, _| damaged(rng),
+        "blanks" => blanks,
+        "utf8" => utf8,
+        "numbers" => |rng, _| numbers(rng),
+        "lines" => |rng, _| lines(rng),
+        "mixed" => |rng, _| mixed(rng),
+        _ => return None,
+    })
+}
+
+/// splitmix64
+pub struct Rng(u64);
+
+impl Rng {
+    pub fn new(seed: u64, index: u64) -> Self {
+        let mut start = Self(seed);
+        let a = start.next();
+        let mut mixed = Self(a ^ index.wrapping_mul(0xd6e8_feb8_6659_fd93));
+        Self(mixed.next())
+    }
+
+    pub fn next(&mut self) -> u64 {
+        self.0 = self.0.wrapping_add(0x9e37_79b9_7f4a_7c15);
+        let mut z = self.0;
+        z = (z ^ (z >> 30)).wrapping_mul(0xbf58_476d_1ce4_e5b9);
+        z = (z ^ (z >> 27)).wrapping_mul(0x94d0_49bb_1331_11eb);
+        z ^ (z >> 31)
+    }
+
+    /// Less than `n`, which is not 0
+    fn below(&mut self, n: usize) -> usize {
+        ((u128::from(self.next()) * n as u128) >> 64) as usize
+    }
+
+    /// True once in `n` times
+    fn once_in(&mut self, n: usize) -> bool {
+        self.below(n) == 0
+    }
+
+    fn pick<'a, T: ?Sized>(&mut self, from: &[&'a T]) -> &'a T {
+        from[self.below(from.len())]
+    }
+}
+
+// Short strings, all of them
+
+/// The letters of each alphabet, chosen by the seed modulo their number
+#[rustfmt::skip]
+const ALPHABETS: [&[&[u8]]; 5] = [
+    // What matters to the scanner
+    &[
+        b"0", b"1", b"x", b"a", b"_", b".", b":", b"/", b"\"", b"#", b";", b"(", b"@", b" ", b"\n",
+        b"\r", b"\xc2\xa0", b"\xc3\xa9",
+    ],
+    // Numbers
+    &[
+        b"0", b"1", b"2", b"5", b"9", b".", b"x", b"X", b"a", b"_", b" ",
+    ],
+    // Sentences
+    &[
+        b"let ", b"import ", b"x", b" y", b"true", b"1.2.3.4", b" 80", b"\"s\"", b"=", b";", b":",
+        b"::", b".", b"/", b"(", b")", b",",
+    ],
+    // Statements
+    &[
+        b"import bench;",
+        b"import nope;",
+        b"let x = 70000;",
+        b"let x = 1.2.3.4;",
+        b"let y = x;",
+        b"let y = x/bench::BIG;",
+        b"let y = nope::z;",
+        b"let y = bench::deep;",
+        b"x;",
+        b"y;",
+        b"x/x;",
+        b"y.z;",
+        b"x/y/z;",
+        b"bench::deep::ZERO;",
+        b"bench::HTTP::z;",
+        b"bench::ping;",
+        b"\"s\"/q;",
+    ],
+    // Characters
+    &[
+        b"a", b"\n", b"\x00", b"\x7f", b"\x80", b"\x8f", b"\x90", b"\x9f", b"\xa0", b"\xbf",
+        b"\xc0", b"\xc1", b"\xc2", b"\xdf", b"\xe0", b"\xe1", b"\xed", b"\xef", b"\xf0", b"\xf1",
+        b"\xf4", b"\xf5", b"\xff",
+    ],
+];
+
+fn short(seed: u64, count: u64, emit: &mut dyn FnMut(&[u8]) -> io::Result<()>) -> io::Result<()> {
+    let letters = ALPHABETS[(seed % ALPHABETS.len() as u64) as usize];
+    let mut digits: Vec<usize> = Vec::new();
+    let mut src = Vec::new();
+    for _ in 0..count {
+        src.clear();
+        for &d in &digits {
+            src.extend_from_slice(letters[d]);
+        }
+        emit(&src)?;
+        // The next one: by length, then in the order of the letters
+        let mut at = digits.len();
+        loop {
+            if at == 0 {
+                digits.insert(0, 0);
+                break;
+            }
+            at -= 1;
+            digits[at] += 1;
+            if digits[at] < letters.len() {
+                break;
+            }
+            digits[at] = 0;
+        }
+    }
+    Ok(())
+}
+
+// Pieces
+
+const NAMES: [&str; 24] = [
+    "a", "b", "c", "x", "y", "z", "x1", "_", "__", "bench", "deep", "HTTP", "LOOP", "BIG", "ON",
+    "BANNER", "ZERO", "ping", "nope", "lets", "imports", "truely", "False", "q_9",
+];
+
+const CALL_NAMES: [&str; 6] = ["ping", "pause", "burst", "mark", "pick", "host"];
+
+const BLANKS: [char; 25] = [
+    '\u{9}', '\u{b}', '\u{c}', '\u{d}', '\u{20}', '\u{85}', '\u{a0}', '\u{1680}', '\u{2000}',
+    '\u{2001}', '\u{2002}', '\u{2003}', '\u{2004}', '\u{2005}', '\u{2006}', '\u{2007}', '\u{2008}',
+    '\u{2009}', '\u{200a}', '\u{2028}', '\u{2029}', '\u{202f}', '\u{205f}', '\u{3000}', '\u{a}',
+];
+
+/// Bodies that decode
+#[rustfmt::skip]
+const BODIES: [&str; 12] = [
+    "", "ok", "a b", "|00|", "|0a 0B|", "|0:1.2_3-4'5`67|", "x|41|y", "||", "#;//", "\\n", "~!",
+    "(a,)",
+];
+
+/// Bodies that do not
+#[rustfmt::skip]
+const BAD_BODIES: [&str; 8] = [
+    "\u{e9}", "|0|", "|zz|", "|00", "\t", "a|", "|\u{20ac}|", "\u{7f}",
+];
+
+fn trivia(rng: &mut Rng) -> String {
+    match rng.below(12) {
+        0..=4 => " ".into(),
+        5 => "\n".into(),
+        6 => "\t".into(),
+        7 => "  \r\n".into(),
+        8 => format!(
+            "# {}\n",
+            rng.pick(&["", "let x = 1;", "\"", "\u{e9}", "//"])
+        ),
+        9 => format!("//{}\n", rng.pick(&["", " x", "\"", "\u{2028}", "#"])),
+        10 => {
+            let n = 1 + rng.below(3);
+            (0..n).map(|_| BLANKS[rng.below(BLANKS.len())]).collect()
+        }
+        _ => format!("{}{}", trivia(rng), trivia(rng)),
+    }
+}
+
+fn name(rng: &mut Rng) -> String {
+    if rng.once_in(8) {
+        let n = 1 + rng.below(6);
+        let first = b"abcxyzABCXYZ_";
+        let more = b"abcxyzABCXYZ_0189";
+        let mut out = String::from(char::from(first[rng.below(first.len())]));
+        for _ in 1..n {
+            out.push(char::from(more[rng.below(more.len())]));
+        }
+        return match out.as_str() {
+            "let" | "import" | "true" | "false" => "x".into(),
+            _ => out,
+        };
+    }
+    rng.pick(&NAMES).into()
+}
+
+/// A number near a power of two, or a small one, or any
+fn value(rng: &mut Rng) -> u128 {
+    const EDGES: [u32; 14] = [0, 1, 4, 7, 8, 15, 16, 31, 32, 63, 64, 65, 126, 127];
+    match rng.below(4) {
+        0 => rng.below(300) as u128,
+        1 => u128::from(rng.next()) >> rng.below(64),
+        2 => ((u128::from(rng.next()) << 63) | u128::from(rng.next() >> 1)) >> rng.below(127),
+        _ => {
+            let edge = 1u128 << EDGES[rng.below(EDGES.len())];
+            let off = rng.below(5) as u128;
+            (edge + off).saturating_sub(2)
+        }
+    }
+}
+
+/// A value that a literal may have
+fn good_value(rng: &mut Rng) -> u128 {
+    value(rng) & (u128::MAX >> 1)
+}
+
+fn int(rng: &mut Rng, n: u128) -> String {
+    match rng.below(5) {
+        0 => format!("{n:#x}"),
+        1 => format!("0x{:0width$X}", n, width = rng.below(40)),
+        _ => n.to_string(),
+    }
+}
+
+fn byte(rng: &mut Rng) -> usize {
+    const EDGES: [usize; 12] = [0, 1, 9, 10, 99, 100, 127, 199, 200, 249, 250, 255];
+    if rng.once_in(2) {
+        EDGES[rng.below(EDGES.len())]
+    } else {
+        rng.below(256)
+    }
+}
+
+fn quad(rng: &mut Rng) -> String {
+    format!("{}.{}.{}.{}", byte(rng), byte(rng), byte(rng), byte(rng))
+}
+
+fn body(rng: &mut Rng) -> String {
+    match rng.below(24) {
+        0 => rng.pick(&BAD_BODIES).into(),
+        1..=5 => {
+            let n = rng.below(12);
+            (0..n)
+                .map(|_| char::from(b' ' + rng.below(95) as u8))
+                .filter(|&c| c != '"' && c != '|')
+                .collect()
+        }
+        _ => rng.pick(&BODIES).into(),
+    }
+}
+
+// Token strings
+
+fn any_token(rng: &mut Rng) -> String {
+    match rng.below(20) {
+        0..=7 => rng
+            .pick(&["(", ")", ".", "::", ":", ";", "=", ",", "/"])
+            .into(),
+        8 => rng.pick(&["let", "import"]).into(),
+        9 => rng.pick(&["true", "false"]).into(),
+        10..=12 => name(rng),
+        13 | 14 => {
+            let n = value(rng);
+            int(rng, n)
+        }
+        15 | 16 => quad(rng),
+        17 | 18 => format!("\"{}\"", body(rng)),
+        _ => match rng.below(6) {
+            0 => format!("{}{}", rng.pick(&["0", "00", "1", "0x", "0xf"]), name(rng)),
+            1 => format!("{}.{}", quad(rng), byte(rng)),
+            2 => format!("{}.{}", byte(rng), byte(rng)),
+            3 => rng
+                .pick(&["@", "\u{e9}", "\0", "-", "\u{1f600}", "'"])
+                .into(),
+            4 => "\"".into(),
+            _ => format!("0{}", byte(rng)),
+        },
+    }
+}
+
+fn tokens(rng: &mut Rng) -> Vec<u8> {
+    let most = if rng.once_in(8) { 60 } else { 10 };
+    let n = 1 + rng.below(most);
+    let sparse = rng.once_in(2);
+    let mut out = String::new();
+    for _ in 0..n {
+        out.push_str(&any_token(rng));
+        if sparse || rng.once_in(3) {
+            out.push_str(&trivia(rng));
+        }
+    }
+    out.into_bytes()
+}
+
+// Programs
+
+/// What a let was given, as far as the generator keeps track
+#[derive(Clone, Copy, PartialEq)]
+enum Sort {
+    Int,
+    Bool,
+    Ip,
+    Sock,
+    Bytes,
+    Pkt,
+    Other,
+}
+
+const SORTS: [Sort; 7] = [
+    Sort::Int,
+    Sort::Bool,
+    Sort::Ip,
+    Sort::Sock,
+    Sort::Bytes,
+    Sort::Pkt,
+    Sort::Other,
+];
+
+/// A program as its tokens' texts
+struct Program {
+    toks: Vec<String>,
+    lets: Vec<(String, Sort)>,
+    calls: bool,
+    /// How often a wanted sort is ignored: once in so many times
+    slips: usize,
+    depth: usize,
+}
+
+impl Program {
+    fn new(calls: bool, slips: usize) -> Self {
+        Self {
+            toks: Vec::new(),
+            lets: Vec::new(),
+            calls,
+            slips,
+            depth: 0,
+        }
+    }
+
+    fn put(&mut self, tok: impl Into<String>) {
+        self.toks.push(tok.into());
+    }
+
+    fn path(&mut self, names: &[&str]) {
+        for (i, name) in names.iter().enumerate() {
+            if i > 0 {
+                self.put("::");
+            }
+            self.put(*name);
+        }
+    }
+
+    fn strings(&mut self, rng: &mut Rng) {
+        loop {
+            // A body that does not decode ends the comparison, so it is rare here
+            let body = match rng.below(20) {
+                0 => body(rng),
+                _ => rng.pick(&BODIES).into(),
+            };
+            self.put(format!("\"{body}\""));
+            if !rng.once_in(4) {
+                return;
+            }
+        }
+    }
+
+    fn local(&mut self, rng: &mut Rng, sort: Sort) -> bool {
+        let fitting: Vec<usize> = (0..self.lets.len())
+            .filter(|&i| self.lets[i].1 == sort)
+            .collect();
+        if fitting.is_empty() {
+            return false;
+        }
+        let name = self.lets[fitting[rng.below(fitting.len())]].0.clone();
+        self.put(name);
+        true
+    }
+
+    fn call(&mut self, rng: &mut Rng, func: &str, params: &[Sort]) {
+        self.path(&["bench", func]);
+        self.put("(");
+        let n = match rng.below(3 * self.slips) {
+            0 => rng.below(4),
+            _ => params.len(),
+        };
+        self.depth += 1;
+        for i in 0..n {
+            if i > 0 {
+                self.put(",");
+            }
+            if rng.once_in(6 * self.slips) {
+                let name = match rng.below(3) {
+                    0 => name(rng),
+                    _ => rng
+                        .pick(&["to", "time", "body", "on", "port", "number"])
+                        .into(),
+                };
+                self.put(name);
+                self.put(":");
+            }
+            let sort = params.get(i).copied().unwrap_or(Sort::Int);
+            self.expr(rng, sort);
+        }
+        self.depth -= 1;
+        if n > 0 && rng.once_in(6) {
+            self.put(",");
+        }
+        self.put(")");
+    }
+
+    /// An expression, of the wanted sort if all goes well
+    fn expr(&mut self, rng: &mut Rng, sort: Sort) {
+        let sort = match rng.below(self.slips) {
+            0 => SORTS[rng.below(SORTS.len())],
+            _ => sort,
+        };
+        if rng.once_in(3) && self.local(rng, sort) {
+            return;
+        }
+        let calls = self.calls && self.depth < 4;
+        match sort {
+            Sort::Int => match rng.below(8) {
+                0 => self.path(&["bench", "HTTP"]),
+                1 => self.path(&["bench", "BIG"]),
+                2 => self.path(&["bench", "deep", "ZERO"]),
+                3 if calls => self.call(rng, "pick", &[Sort::Int]),
+                _ => {
+                    let n = good_value(rng);
+                    let n = int(rng, n);
+                    self.put(n);
+                }
+            },
+            Sort::Bool => match rng.below(3) {
+                0 => self.path(&["bench", "ON"]),
+                1 => self.put("true"),
+                _ => self.put("false"),
+            },
+            Sort::Ip => match rng.below(4) {
+                0 => self.path(&["bench", "LOOP"]),
+                1 if calls => self.call(rng, "host", &[Sort::Int]),
+                _ => self.put(quad(rng)),
+            },
+            Sort::Sock => match rng.below(3) {
+                0 => {
+                    self.put(quad(rng));
+                    self.put(":");
+                    let port = good_value(rng) & 0xffff;
+                    self.put(port.to_string());
+                }
+                _ => {
+                    self.expr(rng, Sort::Ip);
+                    self.put("/");
+                    let port = if rng.once_in(6) {
+                        Sort::Bool
+                    } else {
+                        Sort::Int
+                    };
+                    self.expr(rng, port);
+                }
+            },
+            Sort::Bytes => match rng.below(4) {
+                0 => self.path(&["bench", "BANNER"]),
+                _ => self.strings(rng),
+            },
+            Sort::Pkt => {
+                if calls {
+                    match rng.below(5) {
+                        0 => self.call(rng, "pause", &[Sort::Int]),
+                        1 => self.call(rng, "burst", &[Sort::Sock, Sort::Bytes]),
+                        2 => self.call(rng, "mark", &[Sort::Bool]),
+                        _ => self.call(rng, "ping", &[Sort::Ip]),
+                    }
+                } else {
+                    self.path(&["bench", "ping"]);
+                }
+            }
+            Sort::Other => self.odd(rng),
+        }
+    }
+
+    /// Any expression that the grammar has
+    fn odd(&mut self, rng: &mut Rng) {
+        match rng.below(8) {
+            0 | 1 => self.put(name(rng)),
+            2..=4 => {
+                let n = 2 + rng.below(3);
+                for i in 0..n {
+                    let name = match (i, rng.below(4)) {
+                        (0, 0 | 1) | (_, 0) => name(rng),
+                        (0, _) => "bench".into(),
+                        (_, 1) => rng.pick(&CALL_NAMES).into(),
+                        _ => rng
+                            .pick(&["deep", "HTTP", "LOOP", "BIG", "ZERO", "ping"])
+                            .into(),
+                    };
+                    if i > 0 {
+                        self.put("::");
+                    }
+                    self.put(name);
+                }
+            }
+            _ => {
+                let sort = SORTS[rng.below(6)];
+                self.expr(rng, sort);
+            }
+        }
+        if self.depth >= 4 {
+            return;
+        }
+        self.depth += 1;
+        while rng.once_in(3) {
+            match rng.below(4) {
+                0 if self.calls => {
+                    self.put("(");
+                    while rng.once_in(2) {
+                        if rng.once_in(4) {
+                            self.put(name(rng));
+                            self.put(":");
+                        }
+                        let sort = SORTS[rng.below(SORTS.len())];
+                        self.expr(rng, sort);
+                        self.put(",");
+                    }
+                    if self.toks.last().is_some_and(|t| t == ",") && rng.once_in(2) {
+                        self.toks.pop();
+                    }
+                    self.put(")");
+                }
+                1 | 2 => {
+                    self.put("/");
+                    let sort = SORTS[rng.below(SORTS.len())];
+                    self.expr(rng, sort);
+                }
+                _ => {
+                    self.put(".");
+                    self.put(name(rng));
+                }
+            }
+        }
+        self.depth -= 1;
+    }
+
+    fn stmt(&mut self, rng: &mut Rng) {
+        match rng.below(10) {
+            0 => {
+                self.put("import");
+                let name = match rng.below(3) {
+                    0 => name(rng),
+                    _ => "bench".into(),
+                };
+                self.put(name);
+            }
+            1..=5 => {
+                self.put("let");
+                // Mostly a new name
+                let name = match rng.below(8) {
+                    0 => name(rng),
+                    1 if !self.lets.is_empty() => self.lets[rng.below(self.lets.len())].0.clone(),
+                    _ => format!("{}{}", rng.pick(&["v", "w_", "HTTP"]), self.lets.len()),
+                };
+                self.put(name.clone());
+                self.put("=");
+                let sort = SORTS[rng.below(SORTS.len())];
+                self.expr(rng, sort);
+                self.lets.push((name, sort));
+            }
+            _ => {
+                let sort = match rng.below(3) {
+                    0 if self.calls => Sort::Pkt,
+                    _ => SORTS[rng.below(SORTS.len())],
+                };
+                self.expr(rng, sort);
+            }
+        }
+        self.put(";");
+    }
+
+    /// The text, with as little between tokens as may be, or one space, or anything
+    fn text(self, rng: &mut Rng) -> Vec<u8> {
+        let style = rng.below(4);
+        let mut out = String::new();
+        if style == 3 && rng.once_in(2) {
+            out.push_str(&trivia(rng));
+        }
+        for tok in &self.toks {
+            let word = |c: char| c.is_ascii_alphanumeric() || c == '_';
+            let first = tok.chars().next().unwrap_or(' ');
+            let joins = match out.chars().last() {
+                Some(last) => {
+                    (word(last) && word(first))
+                        || (last == ':' && first == ':')
+                        || (last == '/' && first == '/')
+                }
+                None => false,
+            };
+            match style {
+                0 if joins => out.push(' '),
+                0 => {}
+                1 if out.is_empty() || out.ends_with('\n') || tok == ";" => {}
+                1 => out.push(' '),
+                2 => out.push(if out.ends_with(';') { '\n' } else { ' ' }),
+                _ if joins || rng.once_in(2) => {
+                    // A comment after a slash would take the slash in
+                    if out.ends_with('/') {
+                        out.push(' ');
+                    }
+                    out.push_str(&trivia(rng));
+                }
+                _ => {}
+            }
+            out.push_str(tok);
+            if style == 1 && tok == ";" {
+                out.push('\n');
+            }
+        }
+        if style >= 2 && rng.once_in(2) {
+            out.push_str(rng.pick(&["\n", " ", "# end", "//", "\n\n", "\r\n"]));
+        }
+        out.into_bytes()
+    }
+}
+
+fn program(rng: &mut Rng, calls: bool) -> Vec<u8> {
+    let slips = rng.pick(&[&4usize, &12, &60]);
+    let mut program = Program::new(calls, *slips);
+    if !rng.once_in(6) {
+        program.put("import");
+        program.put("bench");
+        program.put(";");
+    }
+    let most = if rng.once_in(10) { 40 } else { 9 };
+    let n = rng.below(most);
+    for _ in 0..n {
+        program.stmt(rng);
+    }
+    program.text(rng)
+}
+
+fn programs(rng: &mut Rng) -> Vec<u8> {
+    let calls = rng.once_in(8);
+    program(rng, calls)
+}
+
+fn calls(rng: &mut Rng) -> Vec<u8> {
+    program(rng, true)
+}
+
+// Damaged copies
+
+fn damaged(rng: &mut Rng) -> Vec<u8> {
+    const BITS: [&str; 24] = [
+        "\"",
+        "\n",
+        "#",
+        "/",
+        "//",
+        ":",
+        "::",
+        ";",
+        ".",
+        "(",
+        ")",
+        ",",
+        "=",
+        "0",
+        "9",
+        "x",
+        "_",
+        "\0",
+        "@",
+        "\u{e9}",
+        "\u{a0}",
+        "\u{3000}",
+        "\u{1f600}",
+        "|",
+    ];
+    let mut src = match rng.below(4) {
+        0 => tokens(rng),
+        1 => calls(rng),
+        _ => programs(rng),
+    };
+    for _ in 0..1 + rng.below(3) {
+        let at = rng.below(src.len() + 1);
+        match rng.below(9) {
+            0 if at < src.len() => src[at] ^= 1 << rng.below(8),
+            1 if at < src.len() => src[at] = rng.next() as u8,
+            2 => src.truncate(at),
+            3 => {
+                let n = rng.below(4).min(src.len() - at);
+                src.drain(at..at + n);
+            }
+            4 => {
+                let n = rng.below(12).min(src.len() - at);
+                let copy = src[at..at + n].to_vec();
+                let to = rng.below(src.len() + 1);
+                src.splice(to..to, copy);
+            }
+            5 => {
+                let other = rng.below(src.len() + 1);
+                if at < src.len() && other < src.len() {
+                    src.swap(at, other);
+                }
+            }
+            6 => {
+                src.drain(..at);
+            }
+            _ => {
+                let bit = rng.pick(&BITS);
+                src.splice(at..at, bit.bytes());
+            }
+        }
+    }
+    src
+}
+
+// Sizes
+
+const MOST: usize = 65_536;
+
+fn fill(piece: &str, len: usize) -> Vec<u8> {
+    piece.bytes().cycle().take(len).collect()
+}
+
+fn ended(mut src: Vec<u8>, end: &str) -> Vec<u8> {
+    src.extend_from_slice(end.as_bytes());
+    src
+}
+
+fn many(n: usize, piece: impl Fn(usize) -> String) -> Vec<u8> {
+    (0..n).map(piece).collect::<String>().into_bytes()
+}
+
+fn lets(n: usize) -> Vec<u8> {
+    many(n, |i| format!("let v{i} = {i};\n"))
+}
+
+fn imports(n: usize) -> Vec<u8> {
+    many(n, |i| format!("import m{i};\n"))
+}
+
+fn nest(n: usize) -> Vec<u8> {
+    format!("{}x{};", "f(".repeat(n), ")".repeat(n)).into_bytes()
+}
+
+fn steps(first: &str, step: &str, n: usize) -> Vec<u8> {
+    format!("{first}{};", step.repeat(n)).into_bytes()
+}
+
+/// In each argument the steps start at 0 again
+fn steps_inside(n: usize) -> Vec<u8> {
+    let inner = ".m".repeat(n);
+    format!("f(x{inner}, x{inner}){};", ".m".repeat(n - 1)).into_bytes()
+}
+
+/// Each entry makes one source
+const SIZES: &[fn() -> Vec<u8>] = &[
+    || Vec::new(),
+    || fill("\n", 1),
+    || fill(" ", 1),
+    || fill("a", 1),
+    || fill(";", 1),
+    // The bound on a source
+    || fill(" ", MOST - 1),
+    || fill(" ", MOST),
+    || fill(" ", MOST + 1),
+    || fill("\n", MOST - 1),
+    || fill("\n", MOST),
+    || fill("\n", MOST + 1),
+    || fill("a", MOST),
+    || fill("a", MOST + 1),
+    || ended(fill("a", MOST - 1), ";"),
+    || fill("# ", MOST),
+    || fill("1", MOST),
+    || fill("0", MOST),
+    || ended(ended(b"0x".to_vec(), &"0".repeat(MOST - 4)), "f;"),
+    || fill("@", MOST),
+    || fill("\u{3000}", MOST),
+    || fill("\u{3000}", MOST - 1),
+    || ended(fill(" ", MOST - 2), "\u{e9}"),
+    || ended(fill(" ", MOST - 1), "\u{e9}"),
+    || [fill(" ", MOST - 1), vec![0xff]].concat(),
+    || [fill(" ", MOST), vec![0xff]].concat(),
+    || ended(fill("\n", MOST - 1), "@"),
+    || ended(ended(b"\"".to_vec(), &"b".repeat(MOST - 3)), "\";"),
+    || ended(b"\"".to_vec(), &"b".repeat(MOST - 1)),
+    || fill("\"\"", MOST),
+    || ended(fill("\"a\"\n", MOST - 4), "x;\n\n"),
+    || fill("x;", MOST),
+    || fill("x;", MOST + 1),
+    || fill("1;\n", MOST - 1),
+    || fill(";", MOST),
+    || fill("(", MOST),
+    // Deep and long sentences
+    || fill("f(", MOST),
+    || ended(fill("a/", MOST - 2), "a;"),
+    || ended(fill("a.", MOST - 2), "a;"),
+    || ended(fill("a::", MOST - 4), "a;"),
+    || nest(31),
+    || nest(32),
+    || nest(33),
+    || ended(nest(32), "f();"),
+    // A bound and a wrong token, one before the other
+    || ended(fill("f(", 66), ",);"),
+    || ended(fill("f(", 64), ",);"),
+    || ended(fill("f(", 64), ",f("),
+    || ended(b";".to_vec(), &"f(".repeat(33)),
+    || ended(steps("x", ".m", 64), "x.1;"),
+    || format!("x{}.1;", ".m".repeat(64)).into_bytes(),
+    || format!("x{}.1;", ".m".repeat(63)).into_bytes(),
+    || format!("x{} 1;", ".m".repeat(65)).into_bytes(),
+    || format!("{}f(){};", "f(".repeat(31), ".m".repeat(64)).into_bytes(),
+    || format!("{}f(){}", "f(".repeat(32), ")".repeat(32)).into_bytes(),
+    || format!("f(a: x{}){};", "/1".repeat(65), ".m".repeat(63)).into_bytes(),
+    || format!("x{}/1.2.3.4:80/1;", ".m".repeat(63)).into_bytes(),
+    || format!("f({}).m;", "x.m,".repeat(70)).into_bytes(),
+    || steps("x", ".m", 63),
+    || steps("x", ".m", 64),
+    || steps("x", ".m", 65),
+    || steps("1.2.3.4", "/1", 64),
+    || steps("1.2.3.4", "/1", 65),
+    || steps("f", "()", 64),
+    || steps("f", "()", 65),
+    || steps("f", "/a.b()", 21),
+    || steps("f", "/a.b()", 22),
+    || steps_inside(64),
+    || steps_inside(65),
+    || ended(steps("x", ".m", 64), "y.m;"),
+    // Names
+    || lets(511),
+    || lets(512),
+    || lets(513),
+    || ended(lets(512), "let v0 = 1;\nlet v511 = 2;"),
+    || ended(lets(512), "let w = w;"),
+    || many(513, |i| format!("let v{i} = q;\n")),
+    || ended(lets(512), "v511;v0;"),
+    || imports(63),
+    || imports(64),
+    || imports(65),
+    || ended(imports(64), "import m0;import m63;"),
+    || ended(imports(63), "import bench;bench::HTTP;"),
+    || ended(imports(64), "import bench;bench::HTTP;"),
+    || [lets(513), imports(65)].concat(),
+    || [imports(65), lets(513)].concat(),
+    // The rooms of the check program
+    || many(511, |i| format!("{i};")),
+    || many(512, |i| format!("{i};")),
+    || many(513, |i| format!("{i};")),
+    || many(127, |_| "q;".into()),
+    || many(128, |_| "q;".into()),
+    || many(129, |_| "q;".into()),
+    || many(1023, |_| "q;".into()),
+    || many(1024, |_| "q;".into()),
+    || many(1025, |_| "q;".into()),
+    || ended(many(1023, |_| "q;".into()), "q"),
+    || ended(many(1022, |_| "q;".into()), "import a;"),
+    || ended(many(1021, |_| "q;".into()), "import a;import a;"),
+    || ended(steps("f", "(a,a,a,a,a,a,a,a,a,a,a,a,a,a,a,a)", 60), "x;"),
+    || format!("f({}a);", "a,".repeat(1021)).into_bytes(),
+    || format!("f({}a);", "a,".repeat(1020)).into_bytes(),
+    || format!("a{};", "::a".repeat(1022)).into_bytes(),
+    || format!("a{};", "::a".repeat(1023)).into_bytes(),
+    // Long lines with something at the end
+    || ended(fill(" ", 60_000), "@"),
+    || ended(fill("x;", 60_000), "x"),
+    || ended(fill("x;\n", 60_000), "\u{e9}"),
+    || ended(fill("// \u{e9}\n", 60_000), "x;"),
+    || ended(fill("# c", 60_000), "\nx;\n\"u"),
+];
+
+// Blanks
+
+/// Characters next to a blank, and others that look like one
+fn near_blanks() -> Vec<char> {
+    let mut out: Vec<char> = Vec::new();
+    for blank in BLANKS {
+        let n = u32::from(blank);
+        out.extend((n.saturating_sub(1)..=n + 1).filter_map(char::from_u32));
+    }
+    out.extend([
+        '\0',
+        '\u{1c}',
+        '\u{1d}',
+        '\u{1e}',
+        '\u{1f}',
+        '\u{7f}',
+        '\u{180e}',
+        '\u{200d}',
+        '\u{2060}',
+        '\u{fe00}',
+        '\u{feff}',
+        '\u{fffd}',
+        '\u{10ffff}',
+        '\u{d7ff}',
+        '\u{e000}',
+    ]);
+    out.sort_unstable();
+    out.dedup();
+    out
+}
+
+/// `~` stands for the character
+const BLANK_PLACES: [&str; 20] = [
+    "~",
+    "~~",
+    "~a",
+    "a~",
+    "a~b",
+    "1~2",
+    "1~.2.3.4",
+    "1.2.3~.4",
+    "a~:~:b",
+    "/~/",
+    "\"~\"",
+    "\"a\"~\"b\"",
+    "\"a~",
+    "#~a\nb",
+    "//~\na",
+    "let~x~=~1;~x~;",
+    "import~bench;~bench::HTTP~;",
+    "~\n~a~\n",
+    "@~@",
+    "0x~1~;",
+];
+
+fn blanks(rng: &mut Rng, i: u64) -> Vec<u8> {
+    let chars = near_blanks();
+    let all = (chars.len() * BLANK_PLACES.len()) as u64;
+    if i < all {
+        let c = chars[i as usize / BLANK_PLACES.len()];
+        let place = BLANK_PLACES[i as usize % BLANK_PLACES.len()];
+        return place.replace('~', &c.to_string()).into_bytes();
+    }
+    let mut out = String::new();
+    for _ in 0..1 + rng.below(8) {
+        match rng.below(3) {
+            0 => out.push_str(&any_token(rng)),
+            1 => out.push(BLANKS[rng.below(BLANKS.len())]),
+            _ => out.push(chars[rng.below(chars.len())]),
+        }
+    }
+    out.into_bytes()
+}
+
+// UTF-8
+
+/// Well-formed characters at each edge of their lengths, and sequences that are not
+#[rustfmt::skip]
+const SEQUENCES: [&[u8]; 52] = [
+    b"\x00", b"\x7f", b"\xc2\x80", b"\xdf\xbf", b"\xe0\xa0\x80", b"\xe0\xbf\xbf", b"\xe1\x80\x80",
+    b"\xec\xbf\xbf", b"\xed\x80\x80", b"\xed\x9f\xbf", b"\xee\x80\x80", b"\xef\xbf\xbf",
+    b"\xef\xbb\xbf", b"\xf0\x90\x80\x80", b"\xf0\xbf\xbf\xbf", b"\xf1\x80\x80\x80",
+    b"\xf3\xbf\xbf\xbf", b"\xf4\x80\x80\x80", b"\xf4\x8f\xbf\xbf", b"\xe2\x80\xa8",
+    // A byte that starts no character
+    b"\x80", b"\x8f", b"\xbf", b"\xc0", b"\xc1", b"\xf5", b"\xf8", b"\xfe", b"\xff",
+    // Too long for its number
+    b"\xc0\x80", b"\xc1\xbf", b"\xe0\x80\x80", b"\xe0\x9f\xbf", b"\xf0\x80\x80\x80",
+    b"\xf0\x8f\xbf\xbf",
+    // Surrogates, and past the last character
+    b"\xed\xa0\x80", b"\xed\xbf\xbf", b"\xf4\x90\x80\x80", b"\xf5\x80\x80\x80",
+    b"\xf7\xbf\xbf\xbf",
+    // Cut short
+    b"\xc2", b"\xe2", b"\xe2\x80", b"\xf0", b"\xf0\x9f", b"\xf0\x9f\x98",
+    // A wrong byte inside
+    b"\xc2A", b"\xe2\x80A", b"\xe2A\x80", b"\xf0\x9f\x98A", b"\xf0\x9fA\x80", b"\xc2\xc2\x80",
+];
+
+/// `~` stands for the sequence
+const UTF8_PLACES: [&[u8]; 12] = [
+    b"~",
+    b"~~",
+    b"a~",
+    b"~a",
+    b"a\n~",
+    b"a;\n  ~\nb",
+    b"\"~\"",
+    b"\"~",
+    b"#~",
+    b"//~\n~",
+    b"@\n~",
+    b"let x = 1;\n~",
+];
+
+fn at_marks(place: &[u8], piece: &[u8]) -> Vec<u8> {
+    let mut out = Vec::new();
+    for &b in place {
+        match b {
+            b'~' => out.extend_from_slice(piece),
+            b => out.push(b),
+        }
+    }
+    out
+}
+
+fn utf8(rng: &mut Rng, i: u64) -> Vec<u8> {
+    if i < (SEQUENCES.len() * UTF8_PLACES.len()) as u64 {
+        let i = i as usize;
+        return at_marks(
+            UTF8_PLACES[i % UTF8_PLACES.len()],
+            SEQUENCES[i / UTF8_PLACES.len()],
+        );
+    }
+    let mut out = Vec::new();
+    for _ in 0..1 + rng.below(10) {
+        match rng.below(8) {
+            0 => out.extend_from_slice(rng.pick(&SEQUENCES)),
+            1 => out.push(rng.next() as u8),
+            2 => out.extend_from_slice(any_token(rng).as_bytes()),
+            3 => out.push(b'\n'),
+            4 => out.extend_from_slice(trivia(rng).as_bytes()),
+            _ => {
+                let bits = 7 + rng.below(15);
+                let n = (rng.next() as u32) & ((1 << bits) - 1);
+                if let Some(c) = char::from_u32(n) {
+                    out.extend_from_slice(c.encode_utf8(&mut [0; 4]).as_bytes());
+                }
+            }
+        }
+    }
+    if rng.once_in(4) {
+        out.truncate(rng.below(out.len() + 1));
+    }
+    out
+}
+
+// Numbers
+
+fn any_int(rng: &mut Rng) -> String {
+    const HUGE: [&str; 8] = [
+        "170141183460469231731687303715884105727",
+        "170141183460469231731687303715884105728",
+        "170141183460469231731687303715884105737",
+        "340282366920938463463374607431768211455",
+        "340282366920938463463374607431768211456",
+        "0x7fffffffffffffffffffffffffffffff",
+        "0x80000000000000000000000000000000",
+        "0x100000000000000000000000000000000",
+    ];
+    let n = value(rng);
+    match rng.below(10) {
+        0 | 1 => rng.pick(&HUGE).into(),
+        2 => format!("0{n}"),
+        3 => format!("0x{}{n:x}", "0".repeat(rng.below(40))),
+        4 => format!("0X{n:x}"),
+        5 => format!("{n}{}", rng.below(1000)),
+        _ => int(rng, n),
+    }
+}
+
+fn any_quad(rng: &mut Rng) -> String {
+    const PARTS: [&str; 22] = [
+        "0", "1", "9", "10", "99", "100", "199", "200", "249", "250", "254", "255", "256", "260",
+        "299", "300", "999", "1000", "00", "01", "001", "0255",
+    ];
+    let n = match rng.below(6) {
+        0 => 1 + rng.below(6),
+        _ => 4,
+    };
+    let mostly = !rng.once_in(3);
+    let mut out = String::new();
+    for i in 0..n {
+        if i > 0 {
+            out.push('.');
+        }
+        if mostly && !rng.once_in(6) {
+            out.push_str(&byte(rng).to_string());
+        } else {
+            out.push_str(rng.pick(&PARTS));
+        }
+    }
+    out
+}
+
+fn numbers(rng: &mut Rng) -> Vec<u8> {
+    const SUFFIXES: [&str; 22] = [
+        "z", "_", "x", "g", "a", "f", "F", "_0", "0", "x1", "u8", ".", "..", ".5", ".a", ":", "::",
+        ":80", "/", "//", "\u{e9}", "\u{a0}",
+    ];
+    let mut number = match rng.below(3) {
+        0 => any_quad(rng),
+        _ => any_int(rng),
+    };
+    if rng.once_in(3) {
+        number.push_str(rng.pick(&SUFFIXES));
+    }
+    if rng.once_in(12) {
+        let at = rng.below(number.len() + 1);
+        if number.is_char_boundary(at) {
+            number.insert_str(at, rng.pick(&SUFFIXES));
+        }
+    }
+    let other = match rng.below(3) {
+        0 => any_quad(rng),
+        _ => any_int(rng),
+    };
+    match rng.below(9) {
+        0 | 1 => number,
+        2 => format!("{number};"),
+        3 => format!("let x = {number};x;1.2.3.4/x;"),
+        4 => format!("1.2.3.4/{number};"),
+        5 => format!("1.2.3.4:{number};"),
+        6 => format!("{number}/{other};"),
+        7 => format!("{number}:{other};"),
+        _ => format!("{number} {other}"),
+    }
+    .into_bytes()
+}
+
+// Single lines
+
+fn good_lexeme(rng: &mut Rng) -> String {
+    match rng.below(8) {
+        0 => format!("\"{}\"", body(rng)),
+        1 => trivia(rng).replace('\n', " "),
+        2 => name(rng),
+        3 => quad(rng),
+        4 => {
+            let n = good_value(rng);
+            int(rng, n)
+        }
+        _ => rng
+            .pick(&["(", ")", ".", "::", ":", ";", "=", ",", "/", " "])
+            .into(),
+    }
+}
+
+fn bad_lexeme(rng: &mut Rng) -> String {
+    rng.pick(&[
+        "@",
+        "-",
+        "\0",
+        "\u{e9}",
+        "\u{200b}",
+        "\u{feff}",
+        "\u{10ffff}",
+        "\n",
+        "\"",
+        "\"abc",
+        "\"abc\n",
+        "\"\u{e9}\n\"",
+        "170141183460469231731687303715884105728",
+        "0x80000000000000000000000000000000",
+        "00",
+        "0123",
+        "0x",
+        "0xg",
+        "1z",
+        "1_0",
+        "9\u{e9}",
+        "256.1.1.1",
+        "1.2.3.4abc",
+        "01.2.3.4",
+        "1.2.3.1000",
+        "0x1.2.3.4",
+        "# c\n",
+        "//\n",
+    ])
+    .into()
+}
+
+fn lines(rng: &mut Rng) -> Vec<u8> {
+    let mut out = String::new();
+    let before = rng.below(5);
+    let errors = rng.below(4);
+    for _ in 0..before {
+        out.push_str(&good_lexeme(rng));
+    }
+    for _ in 0..errors {
+        out.push_str(&bad_lexeme(rng));
+        for _ in 0..rng.below(4) {
+            out.push_str(&good_lexeme(rng));
+        }
+    }
+    if rng.once_in(4) {
+        out.push('\n');
+    }
+    out.into_bytes()
+}
+
+fn mixed(rng: &mut Rng) -> Vec<u8> {
+    let i = rng.next() % 4096;
+    match rng.below(16) {
+        0..=2 => tokens(rng),
+        3..=5 => programs(rng),
+        6 | 7 => calls(rng),
+        8..=10 => damaged(rng),
+        11 => blanks(rng, i),
+        12 => utf8(rng, i),
+        13 | 14 => numbers(rng),
+        _ => lines(rng),
+    }
+}
