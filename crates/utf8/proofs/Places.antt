@@ -13,7 +13,7 @@ use native.Mathlib.Omega.{arith}
 use lib.ListN.{length, getD, drop, drop-of-length-le, length-drop}
 use lib.Seq.{drop-cons, drop-drop}
 use Rattle.language.specs.Choice.{if′, within}
-use Rattle.language.specs.Utf8.{Lead, Char, char, noChar, leadOf, follow, begun, charAt, badFrom}
+use Rattle.language.specs.Utf8.{Lead, Char, char, noChar, leadOf, follow, begun, charAt, badFrom, firstBad}
 use Rattle.utf8.specs.declared.Decoded.the-variants.{Read, Nothing}
 use Rattle.utf8.specs.declared.Bad.the-variants.{At, Nowhere}
 use Rattle.utf8.specs.Decoding.{placed, badOf}
@@ -114,3 +114,26 @@ module _ (s : List ℕ) (i : ℕ) where
 
     pub bad-ascii : getD s i 0 < 0x80 → Onward s i (i + 1)
     bad-ascii h = over-char (getD s i 0) 1 (ascii-char s i in-source h)
+
+-- ---- a bad byte is one of the source's
+
+from-within : (skip at : ℕ) (s : List ℕ) (p : ℕ) → badFrom skip at s ≡ some p → p < at + length s
+unfolding badFrom
+from-within skip at [] p e = let z : _≡_ {A = ℕ} 0 1 = cc in absurd (omega arith)
+from-within (suc skip) at (b ∷ s) p e = let k = from-within skip (suc at) s p e in omega arith
+from-within zero at (b ∷ s) p e = go (charAt (b ∷ s)) (λ k. from-within k (suc at) s p) e
+  where
+    go :
+        (c : Char)
+        → ((k : ℕ) → badFrom k (suc at) s ≡ some p → p < suc at + length s)
+        → elim c [ char n size ↦ badFrom (size - 1) (suc at) s | noChar ↦ some at ] ≡ some p
+        → p < at + length (b ∷ s)
+    go (char n size) f h = let k = f (size - 1) h in omega arith
+    go noChar f h = let k : at ≡ p = cc in omega arith
+
+bad-some : (o : Option ℕ) (i : ℕ) → At i ≡ badOf o → o ≡ some i
+bad-some none i e = let z : _≡_ {A = ℕ} 0 1 = cc in absurd (omega arith)
+bad-some (some k) i e = let h : i ≡ k = cc in rw h
+
+pub bad-within : (s : List ℕ) (i : ℕ) → At i ≡ badOf (firstBad s) → i < length s
+bad-within s i e = let k = from-within 0 0 s i (bad-some (firstBad s) i e) in omega arith
