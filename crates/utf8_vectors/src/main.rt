@@ -1,9 +1,13 @@
 // Prints what `utf8` makes of each sequence of bytes on standard input, and then a digest of what it makes of every
-// sequence of 1, 2 and 3 bytes, and of every one of 4 and 5 of the bytes at which the grammar changes its mind.
+// sequence of 1, 2 and 3 bytes, and of every sequence of 4 and 5 of the bytes at the grammar's bounds.
 //
-// A line of input ends with a newline. It has a byte as two hex digits, and one blank between two bytes; what stands
-// after the first place with no digits is a note. `stdout` is what Rust's `std::str::from_utf8` says of the same input: the program in
-// oracle/utf8/main.rs made it.
+// A line of input ends with a newline. It has a byte as two hex digits, and one blank between two bytes. What stands
+// after the first place with no digits is a note.
+//
+// The notes of `stdin` say where a sequence comes from. The tables are those of chapter 3 of the Unicode Standard; a row
+// of Table 3-7 is tried at both ends of each range, and one past them.
+//
+// `stdout` is what Rust's `std::str::from_utf8` says of the same input: oracle/utf8/main.rs made it.
 use libc::STDOUT_FILENO;
 use utf8::Bad;
 use utf8::Decoded;

@@ -34,11 +34,17 @@ print-decimal-requires c κs = search needs
 
 loop-less : tie.Need-loop-less Inv-loop μ-loop
 loop-less c =
-    let o = bad-char _ _ (c .before .before .before .before .before .before .before .loop-test .taken) _ _ (sym (c .before .before .before .before .here .given .1) ∙ c .before .before .before .before .before .before .decode .ensures) in
+    let l = c .before .before .before .before .before .before .before in
+    let e = sym (c .before .before .before .before .here .given .1) ∙ c .before .before .before .before .before .before .decode .ensures in
+    let o = bad-char _ _ (l .loop-test .taken) _ _ e in
     omega (arith, o .further, o .in-source)
 
 loop-again : tie.Need-loop-again Inv-loop μ-loop
-loop-again c = (bad-char _ _ (c .before .before .before .before .before .before .before .loop-test .taken) _ _ (sym (c .before .before .before .before .here .given .1) ∙ c .before .before .before .before .before .before .decode .ensures)) .in-source
+loop-again c =
+    let l = c .before .before .before .before .before .before .before in
+    let e = sym (c .before .before .before .before .here .given .1) ∙ c .before .before .before .before .before .before .decode .ensures in
+    let o = bad-char _ _ (l .loop-test .taken) _ _ e in
+    o .in-source
 
 enum-told : tie.Need-enum-told Inv-loop μ-loop
 enum-told c = search needs

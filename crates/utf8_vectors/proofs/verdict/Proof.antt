@@ -20,13 +20,17 @@ enum-known-bad : tie.Need-enum-known-bad
 enum-known-bad c = search needs
 
 add-result : tie.Need-add-result
-add-result c = omega (arith, simp length-take at (bad-within _ _ (sym (c .before .bad .given .1) ∙ c .before .before .before .first-bad .ensures)))
+add-result c =
+    let e = sym (c .before .bad .given .1) ∙ c .before .before .before .first-bad .ensures in
+    omega (arith, simp length-take at (bad-within _ _ e))
 
 enum-told : tie.Need-enum-told
 enum-told c = search needs
 
 returns : tie.Need-returns
-returns c = omega (arith, simp length-take at (bad-within _ _ (sym (c .before .bad .given .1) ∙ c .before .before .before .first-bad .ensures)))
+returns c =
+    let e = sym (c .before .bad .given .1) ∙ c .before .before .before .first-bad .ensures in
+    omega (arith, simp length-take at (bad-within _ _ e))
 
 returns-2 : tie.Need-returns-2
 returns-2 c = search needs
