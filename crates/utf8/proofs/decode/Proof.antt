@@ -40,7 +40,7 @@ returns-3 : tie.Need-returns-3
 returns-3 c =
     let l = c .before .before .before .before in
     let e = sym (c .before .before .lead .given .1) ∙ l .lead-of .ensures in
-    c .read-tails .ensures ∙ longer-place _ _ (l .before .before .before .if1 .left) _ _ _ _ e
+    longer-place _ _ (l .before .before .before .if1 .left) _ _ _ _ _ (c .read-tails .ensures) e
 
 returns-4 : tie.Need-returns-4
 returns-4 c =
