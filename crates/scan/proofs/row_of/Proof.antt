@@ -1,0 +1,23 @@
+use borrow.Author.Needs.{needs}
+use Rattle.scan.proofs.row_of.Statement.{statement}
+use Rattle.scan.proofs.row_of.Tie as tie
+use Rattle.scan.proofs.row_of.Reads as reads
+use Rattle.scan.proofs.row_of.Lts as lts
+use Rattle.scan.proofs.class_of.Reads as class-of-reads
+use Rattle.scan.proofs.kind_of.Reads as kind-of-reads
+use Rattle.scan.proofs.value_of.Reads as value-of-reads
+
+value-of-requires : tie.Need-value-of-requires
+value-of-requires c κs = search needs
+
+class-of-requires : tie.Need-class-of-requires
+class-of-requires c κs = search needs
+
+kind-of-requires : tie.Need-kind-of-requires
+kind-of-requires c κs = search needs
+
+returns : tie.Need-returns
+returns c = ?
+
+pub row-of-spec : {M : Type 1} → statement M
+row-of-spec = tie.close (tie.spec value-of-requires class-of-requires kind-of-requires returns)

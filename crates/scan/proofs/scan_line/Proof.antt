@@ -1,0 +1,90 @@
+use borrow.Author.Needs.{needs}
+use Rattle.scan.proofs.scan_line.Statement.{statement}
+use Rattle.scan.proofs.scan_line.Tie as tie
+use Rattle.scan.proofs.scan_line.Reads as reads
+use Rattle.scan.proofs.scan_line.Lts as lts
+use Rattle.scan.proofs.Verdict.new.Reads as new-reads
+use Rattle.scan.proofs.fill.Reads as fill-reads
+use Rattle.table.proofs.clear.Reads as clear-reads
+use Rattle.utf8.proofs.first_bad.Reads as first-bad-reads
+
+clear-requires : tie.Need-clear-requires
+clear-requires c κs = search needs
+
+new-requires : tie.Need-new-requires
+new-requires c κs = search needs
+
+same-length : tie.Need-same-length
+same-length c = search needs
+
+returns : tie.Need-returns
+returns c = ?
+
+first-bad-requires : tie.Need-first-bad-requires
+first-bad-requires c κs = search needs
+
+enum-known-bad : tie.Need-enum-known-bad
+enum-known-bad c = search needs
+
+add-new : tie.Need-add-new
+add-new c = ?
+
+new-requires-2 : tie.Need-new-requires-2
+new-requires-2 c κs = search needs
+
+same-length-2 : tie.Need-same-length-2
+same-length-2 c = search needs
+
+returns-2 : tie.Need-returns-2
+returns-2 c = ?
+
+enum-told : tie.Need-enum-told
+enum-told c = search needs
+
+fill-requires : tie.Need-fill-requires
+fill-requires c κs = ?
+
+clear-requires-2 : tie.Need-clear-requires-2
+clear-requires-2 c κs = search needs
+
+new-requires-3 : tie.Need-new-requires-3
+new-requires-3 c κs = search needs
+
+same-length-3 : tie.Need-same-length-3
+same-length-3 c = search needs
+
+returns-3 : tie.Need-returns-3
+returns-3 c = ?
+
+new-requires-4 : tie.Need-new-requires-4
+new-requires-4 c κs = search needs
+
+same-length-4 : tie.Need-same-length-4
+same-length-4 c = search needs
+
+returns-4 : tie.Need-returns-4
+returns-4 c = ?
+
+pub scan-line-spec : {M : Type 1} → statement M
+scan-line-spec =
+    tie.close
+    (tie.spec
+    clear-requires
+    new-requires
+    same-length
+    returns
+    first-bad-requires
+    enum-known-bad
+    add-new
+    new-requires-2
+    same-length-2
+    returns-2
+    enum-told
+    fill-requires
+    clear-requires-2
+    new-requires-3
+    same-length-3
+    returns-3
+    new-requires-4
+    same-length-4
+    returns-4)

@@ -1,0 +1,48 @@
+use borrow.Author.Needs.{needs}
+use Rattle.scan.proofs.starts_hex.Statement.{statement}
+use Rattle.scan.proofs.starts_hex.Tie as tie
+use Rattle.scan.proofs.starts_hex.Reads as reads
+use Rattle.scan.proofs.starts_hex.Lts as lts
+use Rattle.scan.proofs.digit.Reads as digit-reads
+use Rattle.scan.proofs.peek.Reads as peek-reads
+
+peek-requires : tie.Need-peek-requires
+peek-requires c κs = search needs
+
+returns : tie.Need-returns
+returns c = ?
+
+add-peek : tie.Need-add-peek
+add-peek c = search needs
+
+peek-requires-2 : tie.Need-peek-requires-2
+peek-requires-2 c κs = search needs
+
+returns-2 : tie.Need-returns-2
+returns-2 c = ?
+
+add-peek-2 : tie.Need-add-peek-2
+add-peek-2 c = search needs
+
+peek-requires-3 : tie.Need-peek-requires-3
+peek-requires-3 c κs = search needs
+
+digit-requires : tie.Need-digit-requires
+digit-requires c κs = search needs
+
+returns-3 : tie.Need-returns-3
+returns-3 c = ?
+
+pub starts-hex-spec : {M : Type 1} → statement M
+starts-hex-spec =
+    tie.close
+    (tie.spec
+    peek-requires
+    returns
+    add-peek
+    peek-requires-2
+    returns-2
+    add-peek-2
+    peek-requires-3
+    digit-requires
+    returns-3)

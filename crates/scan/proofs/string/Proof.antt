@@ -1,0 +1,29 @@
+use borrow.Author.Needs.{needs}
+use Rattle.scan.proofs.string.Statement.{statement}
+use Rattle.scan.proofs.string.Tie as tie
+use Rattle.scan.proofs.string.Reads as reads
+use Rattle.scan.proofs.string.Lts as lts
+use Rattle.scan.proofs.eat_body.Reads as eat-body-reads
+use Rattle.scan.proofs.peek.Reads as peek-reads
+
+add-eat-body : tie.Need-add-eat-body
+add-eat-body c = search needs
+
+eat-body-requires : tie.Need-eat-body-requires
+eat-body-requires c κs = search needs
+
+peek-requires : tie.Need-peek-requires
+peek-requires c κs = search needs
+
+add-t7 : tie.Need-add-t7
+add-t7 c = ?
+
+returns : tie.Need-returns
+returns c = ?
+
+returns-2 : tie.Need-returns-2
+returns-2 c = ?
+
+pub string-spec : {M : Type 1} → statement M
+string-spec =
+    tie.close (tie.spec add-eat-body eat-body-requires peek-requires add-t7 returns returns-2)
