@@ -136,16 +136,23 @@ from u16 = 2 ^ 8
 from u32 = 2 ^ 16
 from u64 = 2 ^ 32
 
+-- a test of `smallest` that passes, and one that does not
+pass : {A : Type 0} (n b : ℕ) (x y : A) → n < b → if′ (ltb n b) x y ≡ x
+pass n b x y h = rw (lt-ltb n b h)
+
+fail : {A : Type 0} (n b : ℕ) (x y : A) → b ≤ n → if′ (ltb n b) x y ≡ y
+fail n b x y h = rw (le-ltb n b h)
+
 pub chosen : (t : IntType) (n : ℕ) → from t ≤ n → n < 2 ^ bits t → smallest n ≡ some t
 unfolding smallest
-chosen u8 n a b = rw (lt-ltb n 256 b)
-chosen u16 n a b = rw (le-ltb n 256 a, lt-ltb n 65536 b)
-chosen u32 n a b = rw (le-ltb n 256 (omega arith), le-ltb n 65536 a, lt-ltb n 4294967296 b)
-chosen u64 n a b = rw (le-ltb n 256 (omega arith), le-ltb n 65536 (omega arith), le-ltb n 4294967296 a, lt-ltb n 18446744073709551616 b)
+chosen u8 n a b = pass n _ _ _ b
+chosen u16 n a b = fail n _ _ _ a ∙ pass n _ _ _ b
+chosen u32 n a b = fail n (2 ^ 8) _ _ (omega arith) ∙ fail n _ _ _ a ∙ pass n _ _ _ b
+chosen u64 n a b = fail n (2 ^ 8) _ _ (omega arith) ∙ fail n (2 ^ 16) _ _ (omega arith) ∙ fail n _ _ _ a ∙ pass n _ _ _ b
 
 pub none-chosen : (n : ℕ) → 2 ^ 64 ≤ n → smallest n ≡ none
 unfolding smallest
-none-chosen n a = rw (le-ltb n 256 (omega arith), le-ltb n 65536 (omega arith), le-ltb n 4294967296 (omega arith), le-ltb n 18446744073709551616 a)
+none-chosen n a = fail n (2 ^ 8) _ _ (omega arith) ∙ fail n (2 ^ 16) _ _ (omega arith) ∙ fail n (2 ^ 32) _ _ (omega arith) ∙ fail n _ _ _ a
 
 module _ (P : IntType → Type 0) (a : P u8) (b : P u16) (c : P u32) (d : P u64) where
   for-types : (t : IntType) → P t

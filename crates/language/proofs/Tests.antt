@@ -1,0 +1,39 @@
+-- Tests, and what they say.
+use Prim.Native.Nat.{ℕ, _+_, _-_, _≤_, _<_}
+use mathlib.Core.Path.{_≡_, refl, sym, _∙_}
+use mathlib.Core.Bool.{Bool, true, false, _&&_, _||_, false≢true, and-false}
+use mathlib.Core.Logic.{_⊎_, inl, inr}
+use native.Mathlib.Omega.{arith}
+use native.Mathlib.Decide.{decLe}
+use borrow.Author.Tests.{leb-true, le-leb, lt-leb}
+use lib.Dec.{leb}
+use Rattle.language.specs.Choice.{within}
+
+-- what a test of both says
+pub both : (a b : Bool) → a && b ≡ true → (a ≡ true) × (b ≡ true)
+both true b e = (refl, e)
+both false b e = absurd (false≢true e)
+
+-- what a test of one of two says
+pub either : (a b : Bool) → a || b ≡ true → (a ≡ true) ⊎ (b ≡ true)
+either true b e = inl refl
+either false b e = inr e
+
+-- b is in a range, or below a or past z
+module _ (a z b : ℕ) where
+  pub inside : within a z b ≡ true → (a ≤ b) × (b ≤ z)
+  inside e = let h = both (leb a b) (leb b z) e in (leb-true a b (h .0), leb-true b z (h .1))
+
+  pub inside-test : a ≤ b → b ≤ z → within a z b ≡ true
+  inside-test h k = rw (le-leb a b, le-leb b z)
+
+  pub outside : within a z b ≡ false → 0 < (a - b) + (b - z)
+  outside e =
+      elim (decLe a b) [
+        | no below ↦ omega arith
+        | yes from ↦ elim (decLe b z) [ no past ↦ omega arith | yes upto ↦ absurd (false≢true (sym e ∙ inside-test from upto)) ]
+      ]
+
+  pub outside-test : 0 < (a - b) + (b - z) → within a z b ≡ false
+  outside-test h =
+      elim (decLe a b) [ no below ↦ rw (lt-leb a b (omega arith)) | yes from ↦ rw (lt-leb b z (omega arith)) (and-false (leb a b)) ]
