@@ -1,8 +1,9 @@
 // RFC 3629: one character of a source, and the first place where none starts.
 ghost use mathlib.Core.Path.{_≡_};
-ghost use lib.ListN.{drop};
-ghost use Rattle.language.specs.Utf8.{leadOf, charAt, firstBad};
-ghost use Rattle.utf8.specs.Decoding.{placed, badOf};
+ghost use Prim.Native.Nat.{suc, _+_, _<_};
+ghost use lib.ListN.{length, drop};
+ghost use Rattle.language.specs.Utf8.{leadOf, follow, charAt, firstBad};
+ghost use Rattle.utf8.specs.Decoding.{leading, placed, badOf, Small};
 
 // What stands at a place.
 pub enum Decoded {
@@ -18,16 +19,113 @@ pub enum Bad {
     Nowhere,
 }
 
+// What a first octet says.
+enum Lead {
+    // How many octets follow, the least and the greatest that may come next, and this octet's bits of the number.
+    Starts(usize, u8, u8, u32),
+    // No character starts with it.
+    Not,
+}
+
+fn wide(b: u8) -> u32
+    ensures { λ r. ⌜ r ≡ b ⌝ }
+{
+    b as u32
+}
+
+// The rows of section 4. The octet after E0, ED, F0 or F4 has bounds of its own: they leave out the longer encodings
+// of a smaller number, the surrogates, and the numbers past 10FFFF.
+fn lead_of(b: u8) -> Lead
+    ensures { λ r. ⌜ r ≡ leading (leadOf b) ⌝ }
+{
+    match b {
+        0..=0x7F => Lead::Starts(0, 0x80, 0xBF, wide(b)),
+        0xC2..=0xDF => Lead::Starts(1, 0x80, 0xBF, wide(b) - 0xC0),
+        0xE0 => Lead::Starts(2, 0xA0, 0xBF, wide(b) - 0xE0),
+        0xE1..=0xEC => Lead::Starts(2, 0x80, 0xBF, wide(b) - 0xE0),
+        0xED => Lead::Starts(2, 0x80, 0x9F, wide(b) - 0xE0),
+        0xEE..=0xEF => Lead::Starts(2, 0x80, 0xBF, wide(b) - 0xE0),
+        0xF0 => Lead::Starts(3, 0x90, 0xBF, wide(b) - 0xF0),
+        0xF1..=0xF3 => Lead::Starts(3, 0x80, 0xBF, wide(b) - 0xF0),
+        0xF4 => Lead::Starts(3, 0x80, 0x8F, wide(b) - 0xF0),
+        _ => Lead::Not,
+    }
+}
+
+// The character that starts at `at`, of whose first octet `lead_of` said how many follow, the bounds of the next, and
+// the bits.
+fn read_tails(src: &[u8], at: usize, tails: usize, least: u8, most: u8, first: u32) -> Decoded
+    requires { ⌜ at < length (now src) ⌝ }
+    requires { ⌜ Small tails least most first ⌝ }
+    ensures { λ r. ⌜ r ≡ placed at (follow (suc tails) tails least most first (drop (at + 1) (now (src .entry)))) ⌝ }
+{
+    let mut low = least;
+    let mut high = most;
+    let mut bits = first;
+    let mut left = tails;
+    let mut i = at + 1;
+    while 0 < left {
+        if src.len() <= i {
+            return Decoded::Nothing;
+        }
+        let b = src[i];
+        if b < low {
+            return Decoded::Nothing;
+        }
+        if high < b {
+            return Decoded::Nothing;
+        }
+        // Six bits of the number in each octet.
+        bits = bits * 64 + wide(b - 0x80);
+        // Only the first has bounds of its own.
+        low = 0x80;
+        high = 0xBF;
+        left -= 1;
+        i += 1;
+    }
+    Decoded::Read(bits, i)
+}
+
 // The character that starts at a place.
 pub fn decode(src: &[u8], at: usize) -> Decoded
-
+    ensures { λ r. ⌜ r ≡ placed at (charAt (drop at (now (src .entry)))) ⌝ }
 {
-    Decoded::Nothing
+    if src.len() <= at {
+        return Decoded::Nothing;
+    }
+    let b = src[at];
+    // Most sources are ASCII: that is answered at once.
+    if b < 128 {
+        return Decoded::Read(wide(b), at + 1);
+    }
+    let lead = lead_of(b);
+    match lead {
+        Lead::Starts(tails, low, high, bits) => read_tails(src, at, tails, low, high, bits),
+        Lead::Not => Decoded::Nothing,
+    }
 }
 
 // The first byte, stepping by whole characters, where no well-formed one starts.
 pub fn first_bad(src: &[u8]) -> Bad
-
+    ensures { λ r. ⌜ r ≡ badOf (firstBad (now (src .entry))) ⌝ }
 {
+    let mut i = 0;
+    while i < src.len() {
+        let b = src[i];
+        // An ASCII run costs one test for each byte.
+        if b < 128 {
+            i += 1;
+            continue;
+        }
+        let here = decode(src, i);
+        match here {
+            Decoded::Read(_, next) => {
+                i = next;
+            }
+            Decoded::Nothing => {
+                return Bad::At(i);
+            }
+        }
+    }
     Bad::Nowhere
 }

@@ -1,0 +1,169 @@
+-- The rows of `leadOf`, each as the code has it, and that what a row says is small.
+use mathlib.Core.Path.{_≡_, refl}
+use mathlib.Core.Bool.{Bool, true, false, _&&_}
+use mathlib.Core.Option.{Option, none}
+use Prim.Native.Nat.{ℕ, _+_, _-_, _≤_, _<_}
+use native.Mathlib.Omega.{arith}
+use lib.Dec.{T, leb, ltb, leb→le, ltb→lt}
+use borrow.Author.Tests.{le-leb, lt-leb, leb-true}
+use Rattle.language.specs.Choice.{if′, within}
+use Rattle.language.specs.Utf8.{Lead, lead, leadOf}
+use Rattle.utf8.specs.declared.Lead.the-variants.{Starts, Not}
+use Rattle.utf8.specs.Decoding.{leading, Small}
+
+and-false : (t : Bool) → t && false ≡ false
+and-false true = refl
+and-false false = refl
+
+pub inside : (low high n : ℕ) → low ≤ n → n ≤ high → within low high n ≡ true
+inside low high n h k = rw (le-leb low n h, le-leb n high k)
+
+pub under : (low high n : ℕ) → n < low → within low high n ≡ false
+under low high n h = rw (lt-leb low n h)
+
+pub over : (low high n : ℕ) → high < n → within low high n ≡ false
+over low high n h = rw (lt-leb n high h) (and-false (leb low n))
+
+and-right : (s t : Bool) → s && t ≡ true → t ≡ true
+and-right true t e = e
+and-right false true e = refl
+and-right false false e = e
+
+-- ---- the rows: `w` is the octet, widened
+
+module _ (b w : ℕ) (same : w ≡ b) where
+  pub row-ascii : b < 0x80 → Starts 0 0x80 0xBF w ≡ leading (leadOf b)
+  unfolding leadOf
+  row-ascii h = rw (same, inside 0 0x7F b (omega arith) (omega arith))
+
+  pub row-C2 : 0xC2 ≤ b → b < 0xE0 → Starts 1 0x80 0xBF (w - 0xC0) ≡ leading (leadOf b)
+  unfolding leadOf
+  row-C2 h k = rw (same, over 0 0x7F b (omega arith), inside 0xC2 0xDF b h (omega arith))
+
+  pub row-E0 : b ≡ 0xE0 → Starts 2 0xA0 0xBF (w - 0xE0) ≡ leading (leadOf b)
+  unfolding leadOf
+  row-E0 e = rw (same, e)
+
+  pub row-E1 : 0xE0 < b → b < 0xED → Starts 2 0x80 0xBF (w - 0xE0) ≡ leading (leadOf b)
+  unfolding leadOf
+  row-E1 h k = rw (same, over 0 0x7F b (omega arith), over 0xC2 0xDF b (omega arith), over 0xE0 0xE0 b h, inside 0xE1 0xEC b h (omega arith))
+
+  pub row-ED : b ≡ 0xED → Starts 2 0x80 0x9F (w - 0xE0) ≡ leading (leadOf b)
+  unfolding leadOf
+  row-ED e = rw (same, e)
+
+  pub row-EE : 0xED < b → b < 0xF0 → Starts 2 0x80 0xBF (w - 0xE0) ≡ leading (leadOf b)
+  unfolding leadOf
+  row-EE h k =
+      rw (
+        same,
+        over 0 0x7F b (omega arith),
+        over 0xC2 0xDF b (omega arith),
+        over 0xE0 0xE0 b (omega arith),
+        over 0xE1 0xEC b (omega arith),
+        over 0xED 0xED b h,
+        inside 0xEE 0xEF b h (omega arith),
+      )
+
+  pub row-F0 : b ≡ 0xF0 → Starts 3 0x90 0xBF (w - 0xF0) ≡ leading (leadOf b)
+  unfolding leadOf
+  row-F0 e = rw (same, e)
+
+  pub row-F1 : 0xF0 < b → b < 0xF4 → Starts 3 0x80 0xBF (w - 0xF0) ≡ leading (leadOf b)
+  unfolding leadOf
+  row-F1 h k =
+      rw (
+        same,
+        over 0 0x7F b (omega arith),
+        over 0xC2 0xDF b (omega arith),
+        over 0xE0 0xE0 b (omega arith),
+        over 0xE1 0xEC b (omega arith),
+        over 0xED 0xED b (omega arith),
+        over 0xEE 0xEF b (omega arith),
+        over 0xF0 0xF0 b h,
+        inside 0xF1 0xF3 b h (omega arith),
+      )
+
+  pub row-F4 : b ≡ 0xF4 → Starts 3 0x80 0x8F (w - 0xF0) ≡ leading (leadOf b)
+  unfolding leadOf
+  row-F4 e = rw (same, e)
+
+-- the octets that no row has
+pub not-80 : (b : ℕ) → 0x80 ≤ b → b < 0xC2 → Not ≡ leading (leadOf b)
+unfolding leadOf
+not-80 b h k =
+    rw (
+      over 0 0x7F b h,
+      under 0xC2 0xDF b k,
+      under 0xE0 0xE0 b (omega arith),
+      under 0xE1 0xEC b (omega arith),
+      under 0xED 0xED b (omega arith),
+      under 0xEE 0xEF b (omega arith),
+      under 0xF0 0xF0 b (omega arith),
+      under 0xF1 0xF3 b (omega arith),
+      under 0xF4 0xF4 b (omega arith),
+    )
+
+pub not-F5 : (b : ℕ) → 0xF4 < b → Not ≡ leading (leadOf b)
+unfolding leadOf
+not-F5 b h =
+    rw (
+      over 0 0x7F b (omega arith),
+      over 0xC2 0xDF b (omega arith),
+      over 0xE0 0xE0 b (omega arith),
+      over 0xE1 0xEC b (omega arith),
+      over 0xED 0xED b (omega arith),
+      over 0xEE 0xEF b (omega arith),
+      over 0xF0 0xF0 b (omega arith),
+      over 0xF1 0xF3 b (omega arith),
+      over 0xF4 0xF4 b h,
+    )
+
+-- ---- what a row says is small, the ASCII one aside
+
+data Fine : Option Lead → Type 0 where
+  refused : Fine none
+  taken : {t l h n : ℕ} → Small t l h n → Fine (lead t l h n)
+
+row :
+    (low high base t l h b : ℕ) {o : Option Lead}
+    → T (leb t 3)
+    → T (leb 0x80 l)
+    → T (leb h 0xBF)
+    → T (ltb high (base + 0x20))
+    → Fine o
+    → Fine (if′ (within low high b) (lead t l h (b - base)) o)
+row low high base t l h b {o} few tail octet start rest = go (within low high b) refl
+  where
+    go : (p : Bool) → within low high b ≡ p → Fine (if′ p (lead t l h (b - base)) o)
+    go true e =
+        let k = leb-true b high (and-right (leb low b) _ e) in
+        let m = ltb→lt high (base + 0x20) start in
+        let n : b - base < 0x20 = omega arith in
+        taken (record { few = leb→le _ _ few; tail = leb→le _ _ tail; octet = leb→le _ _ octet; start = n })
+    go false e = rest
+
+fine : (b : ℕ) → 0x80 ≤ b → Fine (leadOf b)
+unfolding leadOf
+fine b h =
+    rw (over 0 0x7F b h)
+    (row 0xC2 0xDF 0xC0 1 0x80 0xBF b tt tt tt tt
+    (row 0xE0 0xE0 0xE0 2 0xA0 0xBF b tt tt tt tt
+    (row 0xE1 0xEC 0xE0 2 0x80 0xBF b tt tt tt tt
+    (row 0xED 0xED 0xE0 2 0x80 0x9F b tt tt tt tt
+    (row 0xEE 0xEF 0xE0 2 0x80 0xBF b tt tt tt tt
+    (row 0xF0 0xF0 0xF0 3 0x90 0xBF b tt tt tt tt
+    (row 0xF1 0xF3 0xF0 3 0x80 0xBF b tt tt tt tt
+    (row 0xF4 0xF4 0xF0 3 0x80 0x8F b tt tt tt tt refused))))))))
+
+said : {o : Option Lead} (t l h n : ℕ) → Fine o → Starts t l h n ≡ leading o → Small t l h n
+said t l h n refused e = let z : _≡_ {A = ℕ} 0 1 = cc in absurd (omega arith)
+said t l h n (taken {t = t′} {l = l′} {h = h′} {n = n′} s) e =
+    let et : t ≡ t′ = cc in
+    let el : l ≡ l′ = cc in
+    let eh : h ≡ h′ = cc in
+    let en : n ≡ n′ = cc in
+    rw (et, el, eh, en) s
+
+pub small : (b t l h n : ℕ) → 0x80 ≤ b → Starts t l h n ≡ leading (leadOf b) → Small t l h n
+small b t l h n k e = said t l h n (fine b k) e

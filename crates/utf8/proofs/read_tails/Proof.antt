@@ -1,0 +1,83 @@
+-- In the loop the character that is promised is what is read from the next octet on; each turn takes one of those left.
+use Prim.Native.Nat.{suc, _+_}
+use native.Mathlib.Omega.{arith}
+use borrow.Author.Needs.{needs}
+use lib.ListN.{drop}
+use Rattle.language.specs.Utf8.{follow}
+use Rattle.utf8.proofs.Tails.{Tails, start, more, ended, too-low, too-high, done, fits}
+use Rattle.utf8.proofs.read_tails.Statement.{statement}
+use Rattle.utf8.proofs.read_tails.Tie as tie
+
+abbrev Inv-loop : tie.InvT-loop
+Inv-loop src at tails least most first low₀ high₀ bits₀ left₀ i₀ low high bits left i =
+    Tails src at (suc tails) (follow (suc tails) tails least most first (drop (at + 1) src)) low high bits left i
+
+abbrev μ-loop : tie.MeasureT-loop
+μ-loop src at tails least most first low₀ high₀ bits₀ left₀ i₀ low high bits left i = left
+
+add-i : tie.Need-add-i Inv-loop μ-loop
+add-i c = search needs
+
+loop-holds : tie.Need-loop-holds Inv-loop μ-loop
+loop-holds c = start _ _ _ _ _ _ (c .before .pre .1)
+
+returns : tie.Need-returns Inv-loop μ-loop
+returns c = ended _ _ _ _ _ _ _ _ _ (c .before .before .loop .inv) (c .before .loop-test .taken) (c .if1 .taken)
+
+shared-slice-read-b : tie.Need-shared-slice-read-b Inv-loop μ-loop
+shared-slice-read-b c = search needs
+
+returns-2 : tie.Need-returns-2 Inv-loop μ-loop
+returns-2 c = too-low _ _ _ _ _ _ _ _ _ (c .before .before .before .before .loop .inv) (c .before .before .before .loop-test .taken) (c .before .before .if1 .left) (c .if2 .taken)
+
+returns-3 : tie.Need-returns-3 Inv-loop μ-loop
+returns-3 c = too-high _ _ _ _ _ _ _ _ _ (c .before .before .before .before .before .loop .inv) (c .before .before .before .before .loop-test .taken) (c .before .before .before .if1 .left) (c .if3 .taken)
+
+mul-bits : tie.Need-mul-bits Inv-loop μ-loop
+mul-bits c = omega (arith, fits _ _ _ _ _ _ _ _ _ (c .before .before .before .before .before .loop .inv) (c .before .before .before .before .loop-test .taken))
+
+sub-wide : tie.Need-sub-wide Inv-loop μ-loop
+sub-wide c = omega (arith, c .before .before .before .before .before .loop .inv .tail)
+
+wide-requires : tie.Need-wide-requires Inv-loop μ-loop
+wide-requires c κs = search needs
+
+add-bits : tie.Need-add-bits Inv-loop μ-loop
+add-bits c = omega (arith, fits _ _ _ _ _ _ _ _ _ (c .before .before .before .before .before .before .loop .inv) (c .before .before .before .before .before .loop-test .taken), c .wide .ensures, c .before .before .before .before .before .before .loop .inv .octet)
+
+sub-left : tie.Need-sub-left Inv-loop μ-loop
+sub-left c = search needs
+
+add-i-2 : tie.Need-add-i-2 Inv-loop μ-loop
+add-i-2 c = search needs
+
+loop-less : tie.Need-loop-less Inv-loop μ-loop
+loop-less c = search needs
+
+loop-again : tie.Need-loop-again Inv-loop μ-loop
+loop-again c = more _ _ _ _ _ _ _ _ _ (c .before .before .before .before .before .before .loop .inv) (c .before .before .before .before .before .loop-test .taken) (c .before .before .before .before .if1 .left) _ (c .wide .ensures) (c .before .before .if2 .left) (c .before .if3 .left)
+
+returns-4 : tie.Need-returns-4 Inv-loop μ-loop
+returns-4 c = done _ _ _ _ _ _ _ _ _ (c .before .loop .inv) (c .loop-test .left)
+
+pub read-tails-spec : {M : Type 1} → statement M
+read-tails-spec =
+    tie.close
+    (tie.spec
+    Inv-loop
+    μ-loop
+    add-i
+    loop-holds
+    returns
+    shared-slice-read-b
+    returns-2
+    returns-3
+    mul-bits
+    sub-wide
+    wide-requires
+    add-bits
+    sub-left
+    add-i-2
+    loop-less
+    loop-again
+    returns-4)
