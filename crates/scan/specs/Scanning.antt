@@ -5,15 +5,15 @@ use mathlib.Core.Bool.{Bool, true, false}
 use mathlib.Core.List.{List, [], _∷_}
 use mathlib.Core.Logic.{_⊎_}
 use mathlib.Core.Option.{Option, none, some}
-use lib.Dec.{ltb, leb}
-use lib.ListN.{length, take, drop}
+use lib.Dec.{ltb, leb, eqb}
+use lib.ListN.{length, getD, take, drop}
 use Rattle.wide.specs.declared.Wide.{Wide}
 use Rattle.wide.specs.Wide.{wideOf}
 use Rattle.language.specs.Choice.{if′}
 use Rattle.language.specs.Lexemes as language
 use Rattle.language.specs.Numbers as numbers
 use Rattle.language.specs.Tables.{bit}
-use Rattle.language.specs.Lexemes.{lParen, rParen, dot, doubleColon, colon, semiColon, equals, comma, slash, importKeyword, letKeyword, identifier, booleanLiteral, ipv4Literal, hexLiteral, decLiteral, unexpectedChar, unterminatedString, intOutOfRange, intLeadingZero, intInvalidSuffix, badIPv4Literal, trivia, str, tok, error, run, blankRun, same, word, value, wrong, quad, notQuad, lexeme}
+use Rattle.language.specs.Lexemes.{lParen, rParen, dot, doubleColon, colon, semiColon, equals, comma, slash, importKeyword, letKeyword, identifier, booleanLiteral, ipv4Literal, hexLiteral, decLiteral, unexpectedChar, unterminatedString, intOutOfRange, intLeadingZero, intInvalidSuffix, badIPv4Literal, trivia, str, tok, error, run, blankRun, same, word, value, wrong, quad, notQuad, lexemeOf, comment, string, lexeme}
 use Rattle.scan.specs.declared.Tok.{Tok}
 use Rattle.scan.specs.declared.Tok.the-variants as tok-is
 use Rattle.scan.specs.declared.LexErrorKind.{LexErrorKind}
@@ -124,6 +124,18 @@ quadAs at (quad n a) = quad-is.Dotted (at + n) (octetAs a)
 quadAs at notQuad = quad-is.Not
 
 -- ---- the scanner
+
+-- what starts with a byte that begins neither a word nor a number and is no punctuation that is always one byte long
+unfoldable pub signOf : List ℕ → ℕ → language.Lexeme
+signOf s at =
+    let b = getD s at 0 in
+    let next = getD s (at + 1) 0 in
+    let rest = drop (at + 1) s in
+    if′ (eqb b 35) (comment 1 rest)
+    (if′ (eqb b 47) (if′ (eqb next 47) (comment 1 rest) (lexemeOf (tok slash) 1))
+    (if′ (eqb b 58) (if′ (eqb next 58) (lexemeOf (tok doubleColon) 2) (lexemeOf (tok colon) 1))
+    (if′ (eqb b 34) (string rest)
+    (lexemeOf (error (unexpectedChar b)) 1))))
 
 abbrev pub found : language.Lexeme → ℕ → Step
 found l at = Found (lexemeAs at l) (record { pos = at + l .size })

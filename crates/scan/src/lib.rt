@@ -12,7 +12,7 @@ ghost use Rattle.language.specs.Tables.{lexemeRow, lexemeWidth};
 ghost use Rattle.language.specs.Numbers.{scanAnswer, scanTable};
 ghost use Rattle.table.specs.Table.{padTo, tabled};
 ghost use Rattle.wide.specs.Wide.{valueOf, scaled};
-ghost use Rattle.scan.specs.Scanning.{between, runEnd, blankEnd, spelled, wordAt, Base, numberAs, octetAs, Below, joinedAs, quadAs, kindAs, markAs, lexemeAs, stepAt, bodyOf, tokNumber, tokValue, errorNumber, errorChar, classNumber, kindNumber, kindValue, rowOf, scannedAs};
+ghost use Rattle.scan.specs.Scanning.{between, runEnd, blankEnd, spelled, wordAt, Base, numberAs, octetAs, Below, joinedAs, quadAs, kindAs, markAs, lexemeAs, signOf, stepAt, bodyOf, tokNumber, tokValue, errorNumber, errorChar, classNumber, kindNumber, kindValue, rowOf, scannedAs};
 
 use wide::{Scaled, Wide};
 use utf8::{Bad, Decoded};
@@ -625,10 +625,6 @@ impl Scanner {
         ensures { λ r. ⌜ r ≡ lexemeAs at (ascii (getD (now (line .entry)) at 0) (drop (at + 1) (now (line .entry)))) ⌝ }
     {
         let b = line[at];
-        let mark = punctuation(b);
-        if let Mark::Is(t) = mark {
-            return token(at, at + 1, t);
-        }
         if is_word_start(b) {
             let end = eat_word(line, at);
             return token(at, end, word(line, at, end));
@@ -636,14 +632,39 @@ impl Scanner {
         if is_digit(b) {
             return Scanner::number(line, at);
         }
-        let next = peek(line, at + 1);
-        match b {
-            35 => comment(line, at),
-            47 => if next == 47 { comment(line, at) } else { token(at, at + 1, Tok::Slash) },
-            58 => if next == 58 { token(at, at + 2, Tok::DoubleColon) } else { token(at, at + 1, Tok::Colon) },
-            34 => string(line, at),
-            _ => unexpected(at, at + 1, b as u32),
+        let mark = punctuation(b);
+        if let Mark::Is(t) = mark {
+            return token(at, at + 1, t);
         }
+        Scanner::sign(line, at)
+    }
+
+    // A comment, `/`, `:`, `::`, a string literal, or what no token starts with.
+    fn sign(line: &[u8], at: usize) -> Lexeme
+        requires { ⌜ at < length (now line) ⌝ }
+        ensures { λ r. ⌜ r ≡ lexemeAs at (signOf (now (line .entry)) at) ⌝ }
+    {
+        let b = line[at];
+        let next = peek(line, at + 1);
+        if b == 35 {
+            return comment(line, at);
+        }
+        if b == 47 {
+            if next == 47 {
+                return comment(line, at);
+            }
+            return token(at, at + 1, Tok::Slash);
+        }
+        if b == 58 {
+            if next == 58 {
+                return token(at, at + 2, Tok::DoubleColon);
+            }
+            return token(at, at + 1, Tok::Colon);
+        }
+        if b == 34 {
+            return string(line, at);
+        }
+        unexpected(at, at + 1, b as u32)
     }
 
     // What starts with a digit.

@@ -1,3 +1,4 @@
+use Rattle.scan.proofs.Starts.{comment-is}
 use borrow.Author.Needs.{needs}
 use Rattle.scan.proofs.comment.Statement.{statement}
 use Rattle.scan.proofs.comment.Tie as tie
@@ -12,7 +13,7 @@ eat-comment-requires : tie.Need-eat-comment-requires
 eat-comment-requires c κs = search needs
 
 returns : tie.Need-returns
-returns c = ?
+returns c = comment-is (c .before .before .args .line .now) (c .before .before .args .at) _ (c .eat-comment .ensures)
 
 pub comment-spec : {M : Type 1} → statement M
 comment-spec = tie.close (tie.spec add-eat-comment eat-comment-requires returns)
