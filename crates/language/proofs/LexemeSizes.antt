@@ -15,7 +15,7 @@ use Rattle.language.specs.Lexemes.{Tok, Kind, Lexeme, lexemeOf, run, isB
 use Rattle.language.proofs.Utf8Rows.{not-empty, character-at}
 
 -- what holds of both branches holds of an `if′`
-by-cases : {A : Type 0} (P : A → Type 0) (t : Bool) {a b : A} → (t ≡ true → P a) → (t ≡ false → P b) → P (if′ t a b)
+pub by-cases : {A : Type 0} (P : A → Type 0) (t : Bool) {a b : A} → (t ≡ true → P a) → (t ≡ false → P b) → P (if′ t a b)
 by-cases P true f g = f refl
 by-cases P false f g = g refl
 
