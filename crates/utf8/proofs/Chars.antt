@@ -8,6 +8,7 @@ use native.Mathlib.Omega.{arith}
 use lib.ListN.{length, getD, drop, drop-of-length-le}
 use lib.Seq.{drop-cons}
 use Rattle.language.specs.Utf8.{Lead, char, noChar, leadOf, follow, begun, charAt}
+use Rattle.utf8.specs.declared.Decoded.{Decoded}
 use Rattle.utf8.specs.declared.Decoded.the-variants.{Read, Nothing}
 use Rattle.utf8.specs.declared.Lead.the-variants.{Starts, Not}
 use Rattle.utf8.specs.Decoding.{placed, leading}
@@ -46,10 +47,11 @@ module _ (s : List ℕ) (at : ℕ) where
     ascii-place n e h = rw (e, ascii-char h)
 
     pub longer-place :
-        (t l h n : ℕ)
+        (r : Decoded) (t l h n : ℕ)
+        → r ≡ placed at (follow (suc t) t l h n (drop (at + 1) s))
         → Starts t l h n ≡ leading (leadOf (getD s at 0))
-        → placed at (follow (suc t) t l h n (drop (at + 1) s)) ≡ placed at (charAt (drop at s))
-    longer-place t l h n e = ap (placed at) (sym (at-first ∙ goes-on (leadOf (getD s at 0)) t l h n (drop (at + 1) s) e))
+        → r ≡ placed at (charAt (drop at s))
+    longer-place r t l h n k e = k ∙ ap (placed at) (sym (at-first ∙ goes-on (leadOf (getD s at 0)) t l h n (drop (at + 1) s) e))
 
     pub not-place : Not ≡ leading (leadOf (getD s at 0)) → Nothing ≡ placed at (charAt (drop at s))
     not-place e = ap (placed at) (sym (at-first ∙ goes-nowhere (leadOf (getD s at 0)) (drop (at + 1) s) e))

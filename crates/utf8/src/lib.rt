@@ -52,8 +52,8 @@ fn lead_of(b: u8) -> Lead
     }
 }
 
-// The character that starts at `at`, of whose first octet `lead_of` said how many follow, the bounds of the next, and
-// the bits.
+// The character that starts at `at`, once its first octet is known: `tails` octets follow, the next of them from
+// `least` to `most`, and `first` has the first octet's bits of the number.
 fn read_tails(src: &[u8], at: usize, tails: usize, least: u8, most: u8, first: u32) -> Decoded
     requires { ⌜ at < length (now src) ⌝ }
     requires { ⌜ Small tails least most first ⌝ }
@@ -77,7 +77,7 @@ fn read_tails(src: &[u8], at: usize, tails: usize, least: u8, most: u8, first: u
         }
         // Six bits of the number in each octet.
         bits = bits * 64 + wide(b - 0x80);
-        // Only the first has bounds of its own.
+        // The bounds were those of the octet after the first.
         low = 0x80;
         high = 0xBF;
         left -= 1;

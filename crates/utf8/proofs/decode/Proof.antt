@@ -28,16 +28,24 @@ enum-known-lead : tie.Need-enum-known-lead
 enum-known-lead c = search needs
 
 read-tails-requires : tie.Need-read-tails-requires
-read-tails-requires c κs = (c .before .before .before .before .before .before .if1 .left, small _ _ _ _ _ (c .before .before .before .before .if2 .left) (sym (c .before .lead .given .1) ∙ c .before .before .before .lead-of .ensures))
+read-tails-requires c κs =
+    let l = c .before .before .before in
+    let e = sym (c .before .lead .given .1) ∙ l .lead-of .ensures in
+    (l .before .before .before .if1 .left, small _ _ _ _ _ (l .before .if2 .left) e)
 
 enum-told : tie.Need-enum-told
 enum-told c = search needs
 
 returns-3 : tie.Need-returns-3
-returns-3 c = c .read-tails .ensures ∙ longer-place _ _ (c .before .before .before .before .before .before .before .if1 .left) _ _ _ _ (sym (c .before .before .lead .given .1) ∙ c .before .before .before .before .lead-of .ensures)
+returns-3 c =
+    let l = c .before .before .before .before in
+    let e = sym (c .before .before .lead .given .1) ∙ l .lead-of .ensures in
+    longer-place _ _ (l .before .before .before .if1 .left) _ _ _ _ _ (c .read-tails .ensures) e
 
 returns-4 : tie.Need-returns-4
-returns-4 c = not-place _ _ (c .before .before .before .before .before .if1 .left) (sym (c .enum-told .given .1) ∙ c .before .before .lead-of .ensures)
+returns-4 c =
+    let e = sym (c .enum-told .given .1) ∙ c .before .before .lead-of .ensures in
+    not-place _ _ (c .before .before .before .before .before .if1 .left) e
 
 pub decode-spec : {M : Type 1} → statement M
 decode-spec =

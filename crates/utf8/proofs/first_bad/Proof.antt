@@ -41,20 +41,26 @@ enum-known-here c = search needs
 
 loop-less-2 : tie.Need-loop-less-2 Inv-loop μ-loop
 loop-less-2 c =
-    let o = bad-char _ _ (c .before .before .before .before .before .before .loop-test .taken) _ _ (sym (c .before .here .given .1) ∙ c .before .before .before .decode .ensures) in
+    let l = c .before .before .before .before .before .before in
+    let e = sym (c .before .here .given .1) ∙ c .before .before .before .decode .ensures in
+    let o = bad-char _ _ (l .loop-test .taken) _ _ e in
     omega (arith, o .further, o .in-source)
 
 loop-again-2 : tie.Need-loop-again-2 Inv-loop μ-loop
 loop-again-2 c =
-    let o = bad-char _ _ (c .before .before .before .before .before .before .loop-test .taken) _ _ (sym (c .before .here .given .1) ∙ c .before .before .before .decode .ensures) in
-    (o .in-source, o .same ∙ c .before .before .before .before .before .before .before .loop .inv .1)
+    let l = c .before .before .before .before .before .before in
+    let e = sym (c .before .here .given .1) ∙ c .before .before .before .decode .ensures in
+    let o = bad-char _ _ (l .loop-test .taken) _ _ e in
+    (o .in-source, o .same ∙ l .before .loop .inv .1)
 
 enum-told : tie.Need-enum-told Inv-loop μ-loop
 enum-told c = search needs
 
 returns : tie.Need-returns Inv-loop μ-loop
 returns c =
-    bad-here _ _ (c .before .before .before .before .before .loop-test .taken) (sym (c .enum-told .given .1) ∙ c .before .before .decode .ensures) ∙ ap badOf (c .before .before .before .before .before .before .loop .inv .1)
+    let l = c .before .before .before .before .before in
+    let e = sym (c .enum-told .given .1) ∙ c .before .before .decode .ensures in
+    bad-here _ _ (l .loop-test .taken) e ∙ ap badOf (l .before .loop .inv .1)
 
 returns-2 : tie.Need-returns-2 Inv-loop μ-loop
 returns-2 c = bad-end _ _ (c .loop-test .left) ∙ ap badOf (c .before .loop .inv .1)

@@ -28,13 +28,19 @@ shared-slice-read-b : tie.Need-shared-slice-read-b Inv-loop μ-loop
 shared-slice-read-b c = search needs
 
 returns-2 : tie.Need-returns-2 Inv-loop μ-loop
-returns-2 c = too-low _ _ _ _ _ _ _ _ _ (c .before .before .before .before .loop .inv) (c .before .before .before .loop-test .taken) (c .before .before .if1 .left) (c .if2 .taken)
+returns-2 c =
+    let l = c .before .before .before in
+    too-low _ _ _ _ _ _ _ _ _ (l .before .loop .inv) (l .loop-test .taken) (c .before .before .if1 .left) (c .if2 .taken)
 
 returns-3 : tie.Need-returns-3 Inv-loop μ-loop
-returns-3 c = too-high _ _ _ _ _ _ _ _ _ (c .before .before .before .before .before .loop .inv) (c .before .before .before .before .loop-test .taken) (c .before .before .before .if1 .left) (c .if3 .taken)
+returns-3 c =
+    let l = c .before .before .before .before in
+    too-high _ _ _ _ _ _ _ _ _ (l .before .loop .inv) (l .loop-test .taken) (c .before .before .before .if1 .left) (c .if3 .taken)
 
 mul-bits : tie.Need-mul-bits Inv-loop μ-loop
-mul-bits c = omega (arith, fits _ _ _ _ _ _ _ _ _ (c .before .before .before .before .before .loop .inv) (c .before .before .before .before .loop-test .taken))
+mul-bits c =
+    let l = c .before .before .before .before in
+    omega (arith, fits _ _ _ _ _ _ _ _ _ (l .before .loop .inv) (l .loop-test .taken))
 
 sub-wide : tie.Need-sub-wide Inv-loop μ-loop
 sub-wide c = omega (arith, c .before .before .before .before .before .loop .inv .tail)
@@ -43,7 +49,9 @@ wide-requires : tie.Need-wide-requires Inv-loop μ-loop
 wide-requires c κs = search needs
 
 add-bits : tie.Need-add-bits Inv-loop μ-loop
-add-bits c = omega (arith, fits _ _ _ _ _ _ _ _ _ (c .before .before .before .before .before .before .loop .inv) (c .before .before .before .before .before .loop-test .taken), c .wide .ensures, c .before .before .before .before .before .before .loop .inv .octet)
+add-bits c =
+    let l = c .before .before .before .before .before in
+    omega (arith, fits _ _ _ _ _ _ _ _ _ (l .before .loop .inv) (l .loop-test .taken), c .wide .ensures, l .before .loop .inv .octet)
 
 sub-left : tie.Need-sub-left Inv-loop μ-loop
 sub-left c = search needs
@@ -55,7 +63,11 @@ loop-less : tie.Need-loop-less Inv-loop μ-loop
 loop-less c = search needs
 
 loop-again : tie.Need-loop-again Inv-loop μ-loop
-loop-again c = more _ _ _ _ _ _ _ _ _ (c .before .before .before .before .before .before .loop .inv) (c .before .before .before .before .before .loop-test .taken) (c .before .before .before .before .if1 .left) _ (c .wide .ensures) (c .before .before .if2 .left) (c .before .if3 .left)
+loop-again c =
+    let l = c .before .before .before .before .before in
+    let w = c .wide .ensures in
+    more _ _ _ _ _ _ _ _ _ (l .before .loop .inv) (l .loop-test .taken) (c .before .before .before .before .if1 .left) _ w
+    (c .before .before .if2 .left) (c .before .if3 .left)
 
 returns-4 : tie.Need-returns-4 Inv-loop μ-loop
 returns-4 c = done _ _ _ _ _ _ _ _ _ (c .before .loop .inv) (c .loop-test .left)
