@@ -124,4 +124,3 @@ e22 = refl
 e23 : lexeme (64 ∷ []) ≡ lexemeOf (error (unexpectedChar 64)) 1
 unfolding lexeme charAt leadOf follow isBlank isDigit isWordStart isWord isBody notNewline blankRun word digitOf readDigits startsHex startsZero integer octet quadFrom number string punctuation ascii
 e23 = refl
-

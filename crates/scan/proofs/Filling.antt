@@ -68,6 +68,7 @@ row-is at l = go (l .kind)
   where
     words : ℕ → ℕ → ℕ → ℕ → List ℕ
     words c k x y = at ∷ (at + l .size) ∷ c ∷ k ∷ x ∷ y ∷ []
+
     go : (k : Kind) → words (classNumber (kindAs k)) (kindNumber (kindAs k)) (kindValue (kindAs k) .lo) (kindValue (kindAs k) .hi)
         ≡ words (classOf k) (kindOf k) (lowOf k) (highOf k)
     go trivia = refl
@@ -78,6 +79,9 @@ row-is at l = go (l .kind)
 row-width : (p : Placed) → length (lexemeRow p) ≡ lexemeWidth
 unfolding lexemeRow
 row-width p = refl
+
+pub row-long : (l : Lexeme) {r : List ℕ} → r ≡ rowOf l → length r ≤ 4096
+row-long l e = rw e (omega arith)
 
 -- ---- the loop
 
@@ -147,6 +151,10 @@ module _ (line : List ℕ) (n : ℕ) (table : List ℕ) where
             few = let c = f .few in omega arith;
           }
 
+      -- the same from what the calls say of their results
+      pub more-is : {r t : List ℕ} → r ≡ rowOf l → t ≡ putRow table count r → Filling line n t (count + 1) (next .pos)
+      more-is e d = let z = d ∙ ap (putRow table count) e in rw z more
+
     -- at the end of the line all lexemes are done
     module _ (e : Done ≡ stepAt line pos) where
       all-done : f .done ≡ scan line
@@ -155,7 +163,7 @@ module _ (line : List ℕ) (n : ℕ) (table : List ℕ) where
           elim (decLt pos (length line)) [
             | yes h ↦ let k : Done ≡ found (lexeme (drop pos line)) pos = e ∙ rw (lt-ltb pos (length line) h) in let z : _≡_ {A = ℕ} 0 1 = cc in absurd (omega arith)
             | no h ↦
-                let k : drop pos line ≡ [] = drop-of-length-le line (omega arith) in
+                let k : drop pos line ≡ [] = drop-of-length-le line {i = pos} (omega arith) in
                 let w : f .done ++ scanFrom 0 pos [] ≡ scan line = rw k at (f .whole) in
                 sym (append-nil (f .done)) ∙ rw (scan-unfolds pos .0) at w
           ]

@@ -13,9 +13,10 @@ ghost use Rattle.language.specs.Numbers.{scanAnswer, scanTable};
 ghost use Rattle.table.specs.Table.{padTo, tabled};
 ghost use Rattle.wide.specs.Wide.{valueOf, scaled};
 ghost use Rattle.scan.specs.Scanning.{between, runEnd, blankEnd, spelled, wordAt, Base, numberAs, octetAs, Below, joinedAs, quadAs, kindAs, markAs, lexemeAs, signOf, stepAt, bodyOf, tokNumber, tokValue, errorNumber, errorChar, classNumber, kindNumber, kindValue, rowOf, scannedAs};
-
-use wide::{Scaled, Wide};
-use utf8::{Bad, Decoded};
+use utf8::Bad;
+use utf8::Decoded;
+use wide::Scaled;
+use wide::Wide;
 
 // A token of the resynth language. The bytes of an `Identifier` and of a `StringLiteral` are its span.
 pub enum Tok {
@@ -827,6 +828,7 @@ pub fn scan_line(line: &[u8], table: &mut [u64]) -> Scanned
     ensures { λ r. ⌜ r ≡ scannedAs (scanAnswer (now (line .entry)) (length (now (table .entry)) / lexemeWidth)) ⌝ }
     ensures { λ _. ⌜ now (table .exit) ≡ scanTable (now (line .entry)) (length (now (table .entry))) ⌝ }
 {
+    let room = (table.len() / Scanner::ROW_WORDS) as u64;
     table::clear(table);
     if Scanner::MOST_BYTES < line.len() {
         return Scanned {
@@ -842,7 +844,7 @@ pub fn scan_line(line: &[u8], table: &mut [u64]) -> Scanned
         };
     }
     let count = fill(line, table);
-    if ((table.len() / Scanner::ROW_WORDS) as u64) < count {
+    if room < count {
         table::clear(table);
         return Scanned {
             verdict: Verdict::new(4, 0, 0),

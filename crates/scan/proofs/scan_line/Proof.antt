@@ -1,3 +1,10 @@
+use mathlib.Core.Path.{_≡_, refl, sym, ap, _∙_}
+use mathlib.Core.List.{[]}
+use Rattle.table.proofs.Laws.{pad-own}
+use Rattle.utf8.proofs.Places.{bad-within}
+use Rattle.language.specs.Numbers.{verdict}
+use Rattle.scan.proofs.Answers.{too-long, bad-byte, full, fits, refused, accepted}
+use native.Mathlib.Omega.{arith}
 use borrow.Author.Needs.{needs}
 use Rattle.scan.proofs.scan_line.Statement.{statement}
 use Rattle.scan.proofs.scan_line.Tie as tie
@@ -18,7 +25,7 @@ same-length : tie.Need-same-length
 same-length c = search needs
 
 returns : tie.Need-returns
-returns c = ?
+returns c = refused _ _ (verdict 1 0 0) refl (too-long _ _ (c .before .if1 .taken)) _ (c .new .ensures) _ (c .before .before .before .before .clear .ensures) (same-length c)
 
 first-bad-requires : tie.Need-first-bad-requires
 first-bad-requires c κs = search needs
@@ -27,7 +34,7 @@ enum-known-bad : tie.Need-enum-known-bad
 enum-known-bad c = search needs
 
 add-new : tie.Need-add-new
-add-new c = ?
+add-new c = let h = bad-within _ _ (sym (c .before .bad .given .1) ∙ c .before .before .before .first-bad .ensures) in omega arith
 
 new-requires-2 : tie.Need-new-requires-2
 new-requires-2 c κs = search needs
@@ -36,13 +43,13 @@ same-length-2 : tie.Need-same-length-2
 same-length-2 c = search needs
 
 returns-2 : tie.Need-returns-2
-returns-2 c = ?
+returns-2 c = refused _ _ (verdict 2 1 _) refl (bad-byte _ _ (c .before .before .before .before .before .if1 .left) _ (sym (c .before .before .bad .given .1) ∙ c .before .before .before .before .first-bad .ensures)) _ (c .new2 .ensures) _ (c .before .before .before .before .before .before .before .before .clear .ensures) (same-length-2 c)
 
 enum-told : tie.Need-enum-told
 enum-told c = search needs
 
 fill-requires : tie.Need-fill-requires
-fill-requires c κs = ?
+fill-requires c κs = (c .before .before .before .before .if1 .left, pad-own _ _ [] (c .before .before .before .before .before .before .before .clear .ensures) refl)
 
 clear-requires-2 : tie.Need-clear-requires-2
 clear-requires-2 c κs = search needs
@@ -54,7 +61,7 @@ same-length-3 : tie.Need-same-length-3
 same-length-3 c = search needs
 
 returns-3 : tie.Need-returns-3
-returns-3 c = ?
+returns-3 c = refused _ _ (verdict 4 0 0) refl (full _ _ (c .before .before .before .before .before .before .before .before .before .before .before .before .before .if1 .left) (sym (c .before .before .before .before .before .before .before .before .before .before .enum-told .given .1) ∙ c .before .before .before .before .before .before .before .before .before .before .before .before .first-bad .ensures) _ (c .before .before .before .before .before .before .before .before .fill .ensures .0) (c .before .before .before .before .before .if2 .taken)) _ (c .new3 .ensures) _ (c .before .before .before .clear2 .ensures) (same-length-3 c)
 
 new-requires-4 : tie.Need-new-requires-4
 new-requires-4 c κs = search needs
@@ -63,7 +70,7 @@ same-length-4 : tie.Need-same-length-4
 same-length-4 c = search needs
 
 returns-4 : tie.Need-returns-4
-returns-4 c = ?
+returns-4 c = accepted _ _ _ (fits _ _ (c .before .before .before .before .before .before .before .before .before .if1 .left) (sym (c .before .before .before .before .before .before .enum-told .given .1) ∙ c .before .before .before .before .before .before .before .before .first-bad .ensures) _ (c .before .before .before .before .fill .ensures .0) (c .before .if2 .left)) _ (c .new4 .ensures) _ (c .before .before .before .before .fill .ensures .1) (same-length-4 c)
 
 pub scan-line-spec : {M : Type 1} → statement M
 scan-line-spec =
