@@ -98,7 +98,7 @@ told base v (b ∷ s) h =
 
 -- ---- the claims
 
--- with no digits before
+-- from the start, where nothing was read before
 told-of : (base : ℕ) (bs : List ℕ) {r : Number} → readDigits base 0 bs ≡ r → Told base 0 bs r
 told-of base bs e = subst (Told base 0 bs) e (told base 0 bs (ltb-true 0 limit refl))
 
@@ -114,20 +114,23 @@ of-range (range d) = d
 
 pub digits-read : DigitsRead
 unfolding readDigits
-digits-read base h bs n =
-    (λ e. let d = of-value (told-of base bs e) in (d .0 .0, d .1, rw (d .1) at (d .0 .1)),
-    λ d e l. rw append-nil at (reads base h 0 bs [] (d, rw e l)) ∙ ap value e)
+digits-read base h bs n = (
+  λ e. let d = of-value (told-of base bs e) in (d .0 .0, d .1, rw (d .1) at (d .0 .1)),
+  λ d e l. rw append-nil at (reads base h 0 bs [] (d, rw e l)) ∙ ap value e,
+)
 
 pub suffix-found : SuffixFound
 unfolding readDigits
-suffix-found base h =
-    (λ bs e. let d = of-suffix (told-of base bs e) in (d .front, d .byte, d .rest, d .parts, d .small, d .decides),
-    λ p b q k l. reads base h 0 p (b ∷ q) k ∙ rw (le-ltb (digitOf b) base l))
+suffix-found base h = (
+  λ bs e. let d = of-suffix (told-of base bs e) in (d .front, d .byte, d .rest, d .parts, d .small, d .decides),
+  λ p b q k l. reads base h 0 p (b ∷ q) k ∙ rw (le-ltb (digitOf b) base l),
+)
 
 pub range-found : RangeFound
 unfolding readDigits
-range-found base h =
-    (λ bs e.
-        let d = of-range (told-of base bs e) in
-        (d .front, d .byte, d .rest, d .parts, d .small, d .decides .0, rw after-snoc (d .decides .1)),
-    λ p b q k l m. reads base h 0 p (b ∷ q) k ∙ rw (lt-ltb (digitOf b) base l, le-ltb _ limit (rw after-snoc at m)))
+range-found base h = (
+  λ bs e.
+      let d = of-range (told-of base bs e) in
+      (d .front, d .byte, d .rest, d .parts, d .small, d .decides .0, rw after-snoc (d .decides .1)),
+  λ p b q k l m. reads base h 0 p (b ∷ q) k ∙ rw (lt-ltb (digitOf b) base l, le-ltb _ limit (rw after-snoc at m)),
+)

@@ -21,6 +21,7 @@ next : (at b n : ℕ) (s : List ℕ) → 0 < n → scanFrom (n - 1) (suc at) s �
 next at b zero s h = absurd (omega arith)
 next at b (suc n) s h = let z : suc n - 1 ≡ n = omega arith in rw z (skips n (suc at) (at + suc n) s (omega arith))
 
+-- one lexeme, and those of what is left
 pub scan-unfolds : ScanUnfolds
 unfolding scanFrom
 scan-unfolds at =
@@ -34,17 +35,19 @@ Another P =
 
 -- then it holds everywhere, where it holds at the end
 module _ (P : ℕ → List ℕ → List Placed → Type 0) (ends : (at : ℕ) → P at [] []) (another : Another P) where
-  within : (fuel at : ℕ) (s : List ℕ) → length s < fuel → P at s (scanFrom 0 at s)
+  -- bytes fewer than `fuel`
+  bounded : (fuel at : ℕ) (s : List ℕ) → length s < fuel → P at s (scanFrom 0 at s)
   unfolding scanFrom
-  within zero at s l = absurd (omega arith)
-  within (suc fuel) at [] l = ends at
-  within (suc fuel) at (b ∷ s) l =
+  bounded zero at s l = absurd (omega arith)
+  bounded (suc fuel) at [] l = ends at
+  bounded (suc fuel) at (b ∷ s) l =
       let n = lexeme (b ∷ s) .size in
       let h = size-fits b s in
-      rw (scan-unfolds at .1 b s) (another at b s _ (within fuel (at + n) (drop n (b ∷ s)) (rw length-drop (omega arith))))
+      rw (scan-unfolds at .1 b s) (another at b s _ (bounded fuel (at + n) (drop n (b ∷ s)) (rw length-drop (omega arith))))
 
+  -- a whole line
   everywhere : (s : List ℕ) → P 0 s (scanFrom 0 0 s)
-  everywhere s = within (suc (length s)) 0 s (omega arith)
+  everywhere s = bounded (suc (length s)) 0 s (omega arith)
 
 -- ---- spans
 
@@ -52,9 +55,11 @@ module _ (P : ℕ → List ℕ → List Placed → Type 0) (ends : (at : ℕ) �
 abbrev Spans : ℕ → List ℕ → List Placed → Type 0
 Spans at s ps = (e : ℕ) → at + length s ≡ e → Join at e ps × (length ps ≤ length s)
 
+-- no span at the end
 no-span : (at : ℕ) → Spans at [] []
 no-span at e h = let z : at ≡ e = omega arith in rw z (joined-none, omega arith)
 
+-- a span and those after it
 another-span : Another Spans
 another-span at b s ps more e h =
     let k = size-fits b s in
@@ -74,9 +79,11 @@ module _ (line : List ℕ) where
       drop at line ≡ s → (p : Placed) → List·Memᴰ p ps
       → (p .start < length line) × (p ≡ placed (p .start) (lexeme (drop (p .start) line)))
 
+  -- no lexeme at the end
   no-rule : (at : ℕ) → Ruled at [] []
   no-rule at e p m = absurd (List·Memᴰ·not-nil m)
 
+  -- the first is by its rule, and those after it are
   another-rule : Another Ruled
   another-rule at b s ps more e p m =
       elim (List·Memᴰ·cases-cons m) [
