@@ -1,15 +1,14 @@
--- Digits: what is read, and where a first byte is refused.
-use Prim.Native.Nat.{ℕ, zero, suc, _+_, _*_, _≤_, _<_}
-use mathlib.Core.Path.{_≡_, refl, sym, ap, subst, _∙_}
-use mathlib.Core.Bool.{Bool, true, false, _&&_}
+-- Digits: the number that is read, or the first byte that decides.
+use Prim.Native.Nat.{ℕ, _+_, _*_, _≤_, _<_}
+use mathlib.Core.Path.{_≡_, refl, ap, subst, _∙_}
+use mathlib.Core.Bool.{true}
 use mathlib.Core.List.{List, [], _∷_, _++_, map, append-nil}
-use native.Mathlib.Nat.{le-trans, lt-of-le-of-lt, le-mul-of-pos-right, le-add-right}
+use native.Mathlib.Nat.{lt-of-le-of-lt, le-mul-of-pos-right}
 use native.Mathlib.Omega.{arith}
 use borrow.Author.Tests.{ltb-true, ltb-false, lt-ltb, le-ltb}
 use lib.Dec.{ltb}
-use Rattle.language.specs.Choice.{if′}
 use Rattle.language.specs.Integers.{limit, valueFrom}
-use Rattle.language.specs.Lexemes.{digitOf, Number, value, wrong, LexErrorKind, unexpectedChar, unterminatedString, intOutOfRange, intLeadingZero, intInvalidSuffix, badIPv4Literal, readDigits, areDigits, Before, DigitsRead, SuffixFound, RangeFound}
+use Rattle.language.specs.Lexemes.{digitOf, Number, value, wrong, intOutOfRange, intInvalidSuffix, readDigits, areDigits, DigitsRead, SuffixFound, RangeFound}
 use Rattle.language.proofs.Tests.{both}
 use Rattle.language.proofs.LexemeSizes.{by-cases}
 
@@ -17,6 +16,7 @@ use Rattle.language.proofs.LexemeSizes.{by-cases}
 abbrev after : ℕ → ℕ → List ℕ → ℕ
 after base v bs = valueFrom base v (map digitOf bs)
 
+-- a digit more at the end
 after-snoc : (base v : ℕ) (p : List ℕ) (b : ℕ) → after base v (p ++ b ∷ []) ≡ after base v p * base + digitOf b
 after-snoc base v [] b = refl
 after-snoc base v (c ∷ p) b = after-snoc base (v * base + digitOf c) p b
@@ -49,6 +49,7 @@ record Stops (base v : ℕ) (Q : ℕ → ℕ → Type 0) (bs : List ℕ) : Type 
   small : Small base v front
   decides : Q (after base v front) byte
 
+-- the two ways to decide
 abbrev NoDigit : ℕ → ℕ → ℕ → Type 0
 NoDigit base m b = base ≤ digitOf b
 
@@ -63,8 +64,8 @@ data Told (base v : ℕ) (bs : List ℕ) : Number → Type 0 where
 
 -- a digit more in front changes nothing
 module _ (base v b : ℕ) (e : ltb (digitOf b) base ≡ true) where
-  stops-more : (Q : ℕ → ℕ → Type 0) (s : List ℕ) → Stops base (v * base + digitOf b) Q s → Stops base v Q (b ∷ s)
-  stops-more Q s d =
+  stops-more : {Q : ℕ → ℕ → Type 0} {s : List ℕ} → Stops base (v * base + digitOf b) Q s → Stops base v Q (b ∷ s)
+  stops-more d =
       record {
         front = b ∷ d .front;
         byte = d .byte;
@@ -74,15 +75,16 @@ module _ (base v b : ℕ) (e : ltb (digitOf b) base ≡ true) where
         decides = d .decides;
       }
 
-  told-more : (s : List ℕ) {r : Number} → Told base (v * base + digitOf b) s r → Told base v (b ∷ s) r
-  told-more s (whole k) = whole (rw e (k .0), k .1)
-  told-more s (suffix d) = suffix (stops-more (NoDigit base) s d)
-  told-more s (range d) = range (stops-more (TooLarge base) s d)
+  told-more : {s : List ℕ} {r : Number} → Told base (v * base + digitOf b) s r → Told base v (b ∷ s) r
+  told-more (whole k) = whole (rw e (k .0), k .1)
+  told-more (suffix d) = suffix (stops-more d)
+  told-more (range d) = range (stops-more d)
 
 -- the first byte decides
-at-once : (base v b : ℕ) (s : List ℕ) (Q : ℕ → ℕ → Type 0) → v < limit → Q v b → Stops base v Q (b ∷ s)
-at-once base v b s Q h d = record { front = []; byte = b; rest = s; parts = refl; small = (refl, h); decides = d }
+at-once : {base v b : ℕ} {s : List ℕ} {Q : ℕ → ℕ → Type 0} → v < limit → Q v b → Stops base v Q (b ∷ s)
+at-once {b = b} {s = s} h d = record { front = []; byte = b; rest = s; parts = refl; small = (refl, h); decides = d }
 
+-- every reading is one of the three
 told : (base v : ℕ) (bs : List ℕ) → v < limit → Told base v bs (readDigits base v bs)
 unfolding readDigits
 told base v [] h = whole (refl, h)
@@ -90,15 +92,15 @@ told base v (b ∷ s) h =
     let m = v * base + digitOf b in
     by-cases (Told base v (b ∷ s)) (ltb (digitOf b) base)
     (λ e. by-cases (Told base v (b ∷ s)) (ltb m limit)
-    (λ f. told-more base v b e s (told base m s (ltb-true m limit f)))
-    (λ f. range (at-once base v b s (TooLarge base) h (ltb-true (digitOf b) base e, ltb-false m limit f))))
-    (λ e. suffix (at-once base v b s (NoDigit base) h (ltb-false (digitOf b) base e)))
+    (λ f. told-more base v b e (told base m s (ltb-true m limit f)))
+    (λ f. range (at-once h (ltb-true (digitOf b) base e, ltb-false m limit f))))
+    (λ e. suffix (at-once h (ltb-false (digitOf b) base e)))
 
 -- ---- the claims
 
--- from the first byte on
-told-of : (base : ℕ) (bs : List ℕ) (r : Number) → readDigits base 0 bs ≡ r → Told base 0 bs r
-told-of base bs r e = subst (Told base 0 bs) e (told base 0 bs (ltb-true 0 limit refl))
+-- from the start, where nothing was read before
+told-of : (base : ℕ) (bs : List ℕ) {r : Number} → readDigits base 0 bs ≡ r → Told base 0 bs r
+told-of base bs e = subst (Told base 0 bs) e (told base 0 bs (ltb-true 0 limit refl))
 
 -- each of the three by itself
 of-value : {base v n : ℕ} {bs : List ℕ} → Told base v bs (value n) → Small base v bs × (after base v bs ≡ n)
@@ -113,14 +115,14 @@ of-range (range d) = d
 pub digits-read : DigitsRead
 unfolding readDigits
 digits-read base h bs n = (
-  λ e. let d = of-value (told-of base bs (value n) e) in (d .0 .0, d .1, rw (d .1) at (d .0 .1)),
+  λ e. let d = of-value (told-of base bs e) in (d .0 .0, d .1, rw (d .1) at (d .0 .1)),
   λ d e l. rw append-nil at (reads base h 0 bs [] (d, rw e l)) ∙ ap value e,
 )
 
 pub suffix-found : SuffixFound
 unfolding readDigits
 suffix-found base h = (
-  λ bs e. let d = of-suffix (told-of base bs _ e) in (d .front, d .byte, d .rest, d .parts, d .small, d .decides),
+  λ bs e. let d = of-suffix (told-of base bs e) in (d .front, d .byte, d .rest, d .parts, d .small, d .decides),
   λ p b q k l. reads base h 0 p (b ∷ q) k ∙ rw (le-ltb (digitOf b) base l),
 )
 
@@ -128,7 +130,7 @@ pub range-found : RangeFound
 unfolding readDigits
 range-found base h = (
   λ bs e.
-      let d = of-range (told-of base bs _ e) in
+      let d = of-range (told-of base bs e) in
       (d .front, d .byte, d .rest, d .parts, d .small, d .decides .0, rw after-snoc (d .decides .1)),
   λ p b q k l m. reads base h 0 p (b ∷ q) k ∙ rw (lt-ltb (digitOf b) base l, le-ltb _ limit (rw after-snoc at m)),
 )

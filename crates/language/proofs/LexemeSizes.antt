@@ -10,7 +10,7 @@ use borrow.Author.Tests.{ltb-true, eqb-true, eqb-false}
 use lib.Dec.{ltb, eqb}
 use lib.ListN.{length, getD, take, drop, length-append, length-drop, List·getD-eq-default}
 use Rattle.language.specs.Choice.{if′}
-use Rattle.language.specs.Utf8.{Char, char, noChar, charAt, encode}
+use Rattle.language.specs.Utf8.{Char, char, noChar, charAt}
 use Rattle.language.specs.Lexemes.{Tok, Kind, Lexeme, lexemeOf, run, isBlank, blankRun, isDigit, isWord, isWordStart, isBody, notNewline, octet, joined, Quad, quad, notQuad, further, quadFrom, quadLexeme, integer, number, string, punctuation, ascii, lexemeAt, lexeme, SizeFits}
 use Rattle.language.proofs.Utf8Rows.{not-empty, character-at}
 
@@ -25,10 +25,6 @@ by-cases P false f g = g refl
 run-fits : (p : ℕ → Bool) (s : List ℕ) → run p s ≤ length s
 run-fits p [] = omega arith
 run-fits p (b ∷ s) = by-cases (λ (n : ℕ). n ≤ suc (length s)) (p b) (λ _. omega (arith, run-fits p s)) (λ _. omega arith)
-
--- a run that the first byte begins has a byte
-run-some : (p : ℕ → Bool) (b : ℕ) (s : List ℕ) → p b ≡ true → 0 < run p (b ∷ s)
-run-some p b s e = rw e (omega arith)
 
 -- a run of blank characters ends within the list
 blanks-fit : (skip : ℕ) (s : List ℕ) → blankRun skip s ≤ length s
@@ -63,6 +59,7 @@ further-fits : (n : ℕ) (s : List ℕ) {q : Quad} → n ≤ length s → QuadFi
 further-fits n s l (fit m h k) = let z = rw length-drop at k in fit (n + m) (omega arith) (omega arith)
 further-fits n s l unfit = unfit
 
+-- a quad ends within the list
 quad-fits : (dots : ℕ) (a : Option ℕ) (s : List ℕ) → QuadFits (length s) (quadFrom dots a s)
 unfolding quadFrom
 quad-fits zero a s =
@@ -81,6 +78,7 @@ record Fits (n : ℕ) (l : Lexeme) : Type 0 where
   some-byte : 0 < l .size
   in-room : l .size ≤ n
 
+-- a lexeme of m bytes
 sized : {n : ℕ} {k : Kind} (m : ℕ) → 0 < m → m ≤ n → Fits n (lexemeOf k m)
 sized m a z = record { some-byte = a; in-room = z }
 
@@ -88,7 +86,7 @@ sized m a z = record { some-byte = a; in-room = z }
 fits : {n : ℕ} (t : Bool) {a b : Lexeme} → (t ≡ true → Fits n a) → (t ≡ false → Fits n b) → Fits n (if′ t a b)
 fits {n} t f g = by-cases (Fits n) t f g
 
--- one byte
+-- a byte alone
 alone : {k : Kind} (s : List ℕ) → Fits (suc (length s)) (lexemeOf k 1)
 alone s = sized 1 (omega arith) (omega arith)
 
@@ -102,7 +100,7 @@ closed s n c h e = let z = stands s n c h e in sized (n + 2) (omega arith) (omeg
 
 -- a run that the first byte begins
 whole-run : {k : Kind} (p : ℕ → Bool) (b : ℕ) (s : List ℕ) → p b ≡ true → Fits (suc (length s)) (lexemeOf k (run p (b ∷ s)))
-whole-run p b s e = sized (run p (b ∷ s)) (run-some p b s e) (run-fits p (b ∷ s))
+whole-run p b s e = sized (run p (b ∷ s)) (rw e (omega arith)) (run-fits p (b ∷ s))
 
 -- a quad, and a run after it
 quad-and-run : (n : ℕ) (a : Option ℕ) (more m : ℕ) → 0 < n → n + more ≤ m → Fits m (quadLexeme n a more)
@@ -110,22 +108,25 @@ quad-and-run n (some a) zero m h l = sized n h (omega arith)
 quad-and-run n (some a) (suc more) m h l = sized (n + suc more) (omega arith) l
 quad-and-run n none more m h l = sized (n + more) (omega arith) l
 
-number-fits : (s : List ℕ) → 0 < run isWord s → Fits (length s) (number s)
+-- what starts with a digit: a quad, or a word
+number-fits : (b : ℕ) (s : List ℕ) → isWord b ≡ true → Fits (suc (length s)) (number (b ∷ s))
 unfolding number
-number-fits s h = go (quad-fits 3 (some 0) s)
+number-fits b s h = go refl (quad-fits 3 (some 0) (b ∷ s))
   where
-    go : {q : Quad} → QuadFits (length s) q
-        → Fits (length s) (elim q [ quad n a ↦ quadLexeme n a (run isWord (drop n s)) | notQuad ↦ lexemeOf (integer (take (run isWord s) s)) (run isWord s) ])
-    go (fit n {a} k l) = quad-and-run n a (run isWord (drop n s)) (length s) k (omega (arith, rw length-drop at (run-fits isWord (drop n s))))
-    go unfit = sized (run isWord s) h (run-fits isWord s)
+    go : {q : Quad} → quadFrom 3 (some 0) (b ∷ s) ≡ q → QuadFits (suc (length s)) q → Fits (suc (length s)) (number (b ∷ s))
+    go e (fit n {a} k l) =
+        let m = rw length-drop at (run-fits isWord (drop n (b ∷ s))) in
+        rw (e, number) (quad-and-run n a (run isWord (drop n (b ∷ s))) (suc (length s)) k (omega arith))
+    go e unfit = rw (e, number) (whole-run isWord b s h)
 
+-- what a quote starts, before the rest s
 string-fits : (s : List ℕ) → Fits (suc (length s)) (string s)
 unfolding string
 string-fits s =
     let n = run isBody s in
     fits (eqb (getD s n 0) 34) (λ e. closed s n 34 refl e) (λ _. sized (n + 1) (omega arith) (omega (arith, run-fits isBody s)))
 
--- word characters
+-- letters and digits are word characters
 start-is-word : (b : ℕ) → isWordStart b ≡ true → isWord b ≡ true
 unfolding isWord
 start-is-word b e = rw e
@@ -134,6 +135,7 @@ digit-is-word : (b : ℕ) → isDigit b ≡ true → isWord b ≡ true
 unfolding isWord
 digit-is-word b e = rw e (or-true (isWordStart b))
 
+-- what an ASCII character starts
 ascii-fits : (o : Option Tok) (b : ℕ) (s : List ℕ) → punctuation b ≡ o → Fits (suc (length s)) (ascii b s)
 unfolding ascii
 ascii-fits (some t) b s e = rw (e, ascii) (alone s)
@@ -144,9 +146,10 @@ ascii-fits none b s e =
     (λ _. fits (eqb b 58) (λ _. fits (eqb (getD s 0 0) 58) (λ h. closed s 0 58 refl h) (λ _. alone s))
     (λ _. fits (eqb b 34) (λ _. string-fits s)
     (λ _. fits (isWordStart b) (λ h. whole-run isWord b s (start-is-word b h))
-    (λ _. fits (isDigit b) (λ h. number-fits (b ∷ s) (run-some isWord b s (digit-is-word b h)))
+    (λ _. fits (isDigit b) (λ h. number-fits b s (digit-is-word b h))
     (λ _. alone s)))))))
 
+-- what a character starts
 lexeme-at-fits : (c : Char) (b : ℕ) (s : List ℕ) → charAt (b ∷ s) ≡ c → Fits (suc (length s)) (lexemeAt c b s)
 unfolding blankRun
 lexeme-at-fits noChar b s e = alone s
