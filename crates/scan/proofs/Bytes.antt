@@ -9,14 +9,14 @@ use mathlib.Core.Bool.{Bool, true, false, not, _&&_, _||_, or-true, or-false, or
 use mathlib.Core.List.{List, [], _∷_}
 use mathlib.Core.Logic.{_⊎_, inl, inr}
 use native.Mathlib.Omega.{arith}
-use borrow.Author.Tests.{eq-eqb, ne-eqb, eqb-true, eqb-false}
+use borrow.Author.Tests.{eq-eqb, ne-eqb, eqb-true, eqb-false, not-true, not-false}
 use lib.Dec.{eqb}
 use lib.ListN.{getD}
 use types.Run.{OneOf}
 use mir.Val.{boolByte}
 use denote.Enum.Declared.{tagOf}
 use Rattle.language.specs.Choice.{within}
-use Rattle.language.specs.Tables.{bit}
+use Rattle.wide.specs.declared.Wide.{Wide}
 use Rattle.language.specs.Utf8.{Range, to}
 use Rattle.language.specs.Lexemes.{inOne, isBlank, isDigit, isWordStart, isWord, isBody, notNewline, digitOf, punctuation}
 use Rattle.language.proofs.Tests.{both, inside-test, outside-test}
@@ -103,6 +103,13 @@ module _ (n : ℕ) where
 
 -- ---- bytes
 
+-- what `if !f(b)` says of f's claim
+pub refused : {t u : Bool} → t ≡ u → not t ≡ true → u ≡ false
+refused e h = sym e ∙ not-true _ h
+
+pub passed : {t u : Bool} → t ≡ u → not t ≡ false → u ≡ true
+passed e h = sym e ∙ not-false _ h
+
 one-byte : (k b : ℕ) → eqb b k ≡ within k k b
 one-byte k b = go (eqb b k) refl
   where
@@ -164,9 +171,9 @@ module _ (b : ℕ) where
 
 -- ---- kinds
 
-pub bool-bit : (b : Bool) → boolByte b ≡ bit b
-bool-bit true = refl
-bool-bit false = refl
+pub bool-value : (b : Bool) → _≡_ {A = Wide} (record { hi = 0; lo = boolByte b }) (tokValue (tok-is.BooleanLiteral b))
+bool-value true = refl
+bool-value false = refl
 
 -- x is no key
 strange : (ks : List ℕ) (x : ℕ) → all (λ k. not (eqb k x)) ks ≡ true → OneOf ks x → ⊥
