@@ -13,10 +13,8 @@ use borrow.Author.Tests.{eq-eqb, ne-eqb, eqb-true, eqb-false, not-true, not-fals
 use lib.Dec.{eqb}
 use lib.ListN.{getD}
 use types.Run.{OneOf}
-use mir.Val.{boolByte}
 use denote.Enum.Declared.{tagOf}
 use Rattle.language.specs.Choice.{within}
-use Rattle.wide.specs.declared.Wide.{Wide}
 use Rattle.language.specs.Utf8.{Range, to}
 use Rattle.language.specs.Lexemes.{inOne, isBlank, isDigit, isWordStart, isWord, isBody, notNewline, digitOf, punctuation}
 use Rattle.language.proofs.Tests.{both, inside-test, outside-test}
@@ -170,10 +168,6 @@ module _ (b : ℕ) where
       )
 
 -- ---- kinds
-
-pub bool-value : (b : Bool) → _≡_ {A = Wide} (record { hi = 0; lo = boolByte b }) (tokValue (tok-is.BooleanLiteral b))
-bool-value true = refl
-bool-value false = refl
 
 -- x is no key
 strange : (ks : List ℕ) (x : ℕ) → all (λ k. not (eqb k x)) ks ≡ true → OneOf ks x → ⊥

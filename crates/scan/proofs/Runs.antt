@@ -50,3 +50,26 @@ module _ (p : ℕ → Bool) {s : List ℕ} {at i : ℕ} (r : Reached (runEnd p) 
   pub run-end : length s ≤ i → i ≡ runEnd p s at
   unfolding runEnd
   run-end h = arrive r (rw drop-of-length-le (omega arith))
+
+-- ---- a run of blank characters
+
+-- what is left of a character is passed over
+skipped : (k : ℕ) (s : List ℕ) → k ≤ length s → blankRun k s ≡ k + blankRun 0 (drop k s)
+unfolding blankRun
+skipped zero s h = omega arith
+skipped (suc k) [] h = absurd (omega arith)
+skipped (suc k) (b ∷ s) h = let e = skipped k s (omega arith) in omega arith
+
+-- what a test of the character c says of the run that it starts
+first-blank :
+    (b : ℕ) (s : List ℕ) (n m : ℕ) → charAt (b ∷ s) ≡ char n m → isBlank n ≡ true → blankRun 0 (b ∷ s) ≡ suc (blankRun (m - 1) s)
+unfolding blankRun
+first-blank b s n m c e = rw (c, blankRun, e)
+
+first-other : (b : ℕ) (s : List ℕ) (n m : ℕ) → charAt (b ∷ s) ≡ char n m → isBlank n ≡ false → blankRun 0 (b ∷ s) ≡ 0
+unfolding blankRun
+first-other b s n m c e = rw (c, blankRun, e)
+
+first-none : (b : ℕ) (s : List ℕ) → charAt (b ∷ s) ≡ noChar → blankRun 0 (b ∷ s) ≡ 0
+unfolding blankRun
+first-none b s c = rw (c, blankRun)

@@ -1,7 +1,7 @@
-use mathlib.Core.Path.{sym, ap, _∙_}
+use mathlib.Core.Path.{sym, ap}
 use borrow.Author.Needs.{needs}
 use Rattle.scan.specs.Scanning.{tokValue}
-use Rattle.scan.proofs.Bytes.{bool-value, other-token}
+use Rattle.scan.proofs.Bytes.{other-token}
 use Rattle.scan.proofs.Tok.value.Statement.{statement}
 use Rattle.scan.proofs.Tok.value.Tie as tie
 
@@ -24,7 +24,7 @@ enum-known-self-4 : tie.Need-enum-known-self-4
 enum-known-self-4 c = search needs
 
 returns : tie.Need-returns
-returns c = bool-value _ ∙ sym (ap tokValue (c .before .self .given .1))
+returns c = sym (ap tokValue (c .before .self .given .1))
 
 returns-2 : tie.Need-returns-2
 returns-2 c = sym (ap tokValue (c .before .self2 .given .1))
@@ -36,7 +36,7 @@ returns-4 : tie.Need-returns-4
 returns-4 c = search needs
 
 returns-5 : tie.Need-returns-5
-returns-5 c = other-token _ (c .match .keys5)
+returns-5 c = other-token (c .before .args .self) (c .match .keys5)
 
 pub value-spec : {M : Type 1} → statement M
 value-spec =
