@@ -60,16 +60,56 @@ skipped zero s h = omega arith
 skipped (suc k) [] h = absurd (omega arith)
 skipped (suc k) (b ∷ s) h = let e = skipped k s (omega arith) in omega arith
 
--- what a test of the character c says of the run that it starts
-first-blank :
-    (b : ℕ) (s : List ℕ) (n m : ℕ) → charAt (b ∷ s) ≡ char n m → isBlank n ≡ true → blankRun 0 (b ∷ s) ≡ suc (blankRun (m - 1) s)
-unfolding blankRun
-first-blank b s n m c e = rw (c, blankRun, e)
+-- the run that starts with the character c, before s
+abbrev blankFrom : Char → List ℕ → ℕ
+blankFrom (char n size) s = if′ (isBlank n) (suc (blankRun (size - 1) s)) 0
+blankFrom noChar s = 0
 
-first-other : (b : ℕ) (s : List ℕ) (n m : ℕ) → charAt (b ∷ s) ≡ char n m → isBlank n ≡ false → blankRun 0 (b ∷ s) ≡ 0
-unfolding blankRun
-first-other b s n m c e = rw (c, blankRun, e)
+-- what `decode` says of it
+module _ (at : ℕ) (s : List ℕ) where
+  starts-none : (c : Char) → Nothing ≡ placed at c → blankFrom c s ≡ 0
+  starts-none (char n m) e = let z : _≡_ {A = ℕ} 0 1 = cc in absurd (omega arith)
+  starts-none noChar e = refl
 
-first-none : (b : ℕ) (s : List ℕ) → charAt (b ∷ s) ≡ noChar → blankRun 0 (b ∷ s) ≡ 0
-unfolding blankRun
-first-none b s c = rw (c, blankRun)
+  module _ (n next : ℕ) where
+    starts-other : (c : Char) → Read n next ≡ placed at c → isBlank n ≡ false → blankFrom c s ≡ 0
+    starts-other (char k m) e h = let p : n ≡ k = cc in rw (← p, h)
+    starts-other noChar e h = refl
+
+    starts-blank : (c : Char) → Read n next ≡ placed at c → isBlank n ≡ true → blankFrom c s ≡ suc (blankRun (next - at - 1) s)
+    starts-blank (char k m) e h =
+        let p : n ≡ k = cc in
+        let q : next ≡ at + m = cc in
+        let z : m - 1 ≡ next - at - 1 = omega arith in
+        rw (← p, h, z)
+    starts-blank noChar e h = let z : _≡_ {A = ℕ} 0 1 = cc in absurd (omega arith)
+
+module _ {s : List ℕ} {at i : ℕ} (r : Reached blankEnd s at i) where
+  pub blank-end : length s ≤ i → i ≡ blankEnd s at
+  unfolding blankEnd blankRun
+  blank-end h = arrive r (rw drop-of-length-le (omega arith))
+
+  module _ (h : i < length s) where
+    here : blankRun 0 (drop i s) ≡ blankFrom (charAt (drop i s)) (drop (suc i) s)
+    unfolding blankRun
+    here = rw (drop-cons s i 0 h)
+
+    pub blank-none : Nothing ≡ placed i (charAt (drop i s)) → i ≡ blankEnd s at
+    unfolding blankEnd
+    blank-none e = arrive r (omega (arith, here, starts-none i (drop (suc i) s) (charAt (drop i s)) e))
+
+    pub blank-other : {n next : ℕ} → Read n next ≡ placed i (charAt (drop i s)) → isBlank n ≡ false → i ≡ blankEnd s at
+    unfolding blankEnd
+    blank-other {n} {next} e b = arrive r (omega (arith, here, starts-other i (drop (suc i) s) n next (charAt (drop i s)) e b))
+
+    pub blank-more : {n next : ℕ} → Read n next ≡ placed i (charAt (drop i s)) → isBlank n ≡ true → Reached blankEnd s at next
+    unfolding blankEnd
+    blank-more {n} {next} e b =
+        let o = bad-char s i h n next e in
+        let k = next - i - 1 in
+        let l : k ≤ length (drop (suc i) s) = omega (arith, o .in-source, length-drop (suc i) s) in
+        let p : suc i + k ≡ next = omega (arith, o .further) in
+        let d : drop k (drop (suc i) s) ≡ drop next s = rw (drop-drop, p) in
+        let first = starts-blank i (drop (suc i) s) n next (charAt (drop i s)) e b in
+        let rest = rw d at (skipped k (drop (suc i) s) l) in
+        onward r (o .in-source) (omega (arith, here, first, rest, p))

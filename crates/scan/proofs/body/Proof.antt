@@ -1,4 +1,5 @@
 use borrow.Author.Needs.{needs}
+use Rattle.scan.proofs.Parts.{some-body, no-body}
 use Rattle.scan.proofs.body.Lts as lts
 use Rattle.scan.proofs.body.Reads as reads
 use Rattle.scan.proofs.body.Statement.{statement}
@@ -23,13 +24,13 @@ part-result-end : tie.Need-part-result-end
 part-result-end c = search needs
 
 returns : tie.Need-returns
-returns c = ?
+returns c = some-body _ _ _ (c .before .before .before .if1 .taken) (c .before .if3 .taken)
 
 slice-aggregate-result : tie.Need-slice-aggregate-result
 slice-aggregate-result c = search needs
 
 returns-2 : tie.Need-returns-2
-returns-2 c = ?
+returns-2 c = no-body _ _ _ ?
 
 pub body-spec : {M : Type 1} → statement M
 body-spec =
