@@ -62,8 +62,7 @@ skipped (suc k) (b ∷ s) h = let e = skipped k s (omega arith) in omega arith
 
 -- the run that starts with the character c, before s
 abbrev blankFrom : Char → List ℕ → ℕ
-blankFrom (char n size) s = if′ (isBlank n) (suc (blankRun (size - 1) s)) 0
-blankFrom noChar s = 0
+blankFrom c s = elim c [ char n size ↦ if′ (isBlank n) (suc (blankRun (size - 1) s)) 0 | noChar ↦ 0 ]
 
 -- what `decode` says of it
 module _ (at : ℕ) (s : List ℕ) where

@@ -77,7 +77,26 @@ module _ (s k : List ℕ) (at e : ℕ) (fits : (at ≤ e) × (e ≤ length s)) w
 
 -- ---- tokens
 
-module _ (w : List ℕ) {a b c d : Bool} where
-  pub word-import : a ≡ same w import′ → a ≡ true → tok-is.ImportKeyword ≡ tokAs (word w)
+module _ (w : List ℕ) where
+  pub word-import : same w import′ ≡ true → tok-is.ImportKeyword ≡ tokAs (word w)
   unfolding word
-  word-import e h = simp (sym e ∙ h)
+  word-import h = rw h
+
+  module _ (no-import : same w import′ ≡ false) where
+    pub word-let : same w let′ ≡ true → tok-is.LetKeyword ≡ tokAs (word w)
+    unfolding word
+    word-let h = rw (no-import, h)
+
+    module _ (no-let : same w let′ ≡ false) where
+      pub word-true : same w true′ ≡ true → tok-is.BooleanLiteral true ≡ tokAs (word w)
+      unfolding word
+      word-true h = rw (no-import, no-let, h)
+
+      module _ (no-true : same w true′ ≡ false) where
+        pub word-false : same w false′ ≡ true → tok-is.BooleanLiteral false ≡ tokAs (word w)
+        unfolding word
+        word-false h = rw (no-import, no-let, no-true, h)
+
+        pub word-other : same w false′ ≡ false → tok-is.Identifier ≡ tokAs (word w)
+        unfolding word
+        word-other h = rw (no-import, no-let, no-true, h)

@@ -1,3 +1,5 @@
+use mathlib.Core.Logic.{⊎-elim}
+use native.Mathlib.Omega.{arith}
 use borrow.Author.Needs.{needs}
 use Rattle.scan.proofs.Parts.{some-body, no-body}
 use Rattle.scan.proofs.body.Lts as lts
@@ -30,7 +32,7 @@ slice-aggregate-result : tie.Need-slice-aggregate-result
 slice-aggregate-result c = search needs
 
 returns-2 : tie.Need-returns-2
-returns-2 c = no-body _ _ _ ?
+returns-2 c = no-body _ _ _ (⊎-elim (λ w. omega arith) (⊎-elim (λ w. omega arith) (λ w. omega arith)) (c .before .if1 .came))
 
 pub body-spec : {M : Type 1} → statement M
 body-spec =
