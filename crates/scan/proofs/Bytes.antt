@@ -1,8 +1,10 @@
 -- Facts on one number: a byte, a character, or the tag of a kind.
---     of-each      what holds of every key of a `match` arm holds of one of them
---     blank-in     the ranges of blank characters, by their place in the list; not-blank what is in none
---     digit-..     what a digit stands for
---     other-..     a kind that no arm names carries nothing
+--     of-each               what holds of every key of an arm holds of one of them
+--     blank-one, blank-in   a blank character by its number, and by its range's place in the list
+--     not-blank             a number that no arm has
+--     refused, passed       what `if !f(b)` says of what f tests
+--     ..-digit              what a digit stands for
+--     other-..              a kind that no arm names carries nothing
 use Prim.Native.Nat.{ℕ, zero, suc, _+_, _-_, _≤_, _<_}
 use mathlib.Core.Path.{_≡_, refl, sym, ap, _∙_}
 use mathlib.Core.Bool.{Bool, true, false, not, _&&_, _||_, or-true, or-false, or-assoc, false≢true}
@@ -75,16 +77,15 @@ module _ (n : ℕ) where
   blank-in k h g = sym (in-one blanks k n h g)
 
   pub not-blank :
-      (OneOf (0x09 ∷ 0x20 ∷ 0x85 ∷ 0xA0 ∷ 0x1680 ∷ []) n → ⊥)
-      → (OneOf (0x202F ∷ 0x205F ∷ 0x3000 ∷ []) n → ⊥)
+      (Unit {0} × (OneOf (0x09 ∷ 0x20 ∷ 0x85 ∷ 0xA0 ∷ 0x1680 ∷ []) n → ⊥)) × (OneOf (0x202F ∷ 0x205F ∷ 0x3000 ∷ []) n → ⊥)
       → 0 < (0x0B - n) + (n - 0x0D)
       → 0 < (0x2000 - n) + (n - 0x200A)
       → 0 < (0x2028 - n) + (n - 0x2029)
       → false ≡ isBlank n
   unfolding isBlank
-  not-blank h k a b c =
-      let u = none-of (0x09 ∷ 0x20 ∷ 0x85 ∷ 0xA0 ∷ 0x1680 ∷ []) n h in
-      let v = none-of (0x202F ∷ 0x205F ∷ 0x3000 ∷ []) n k in
+  not-blank r a b c =
+      let u = none-of (0x09 ∷ 0x20 ∷ 0x85 ∷ 0xA0 ∷ 0x1680 ∷ []) n (r .0 .1) in
+      let v = none-of (0x202F ∷ 0x205F ∷ 0x3000 ∷ []) n (r .1) in
       rw (
         u .0,
         outside-test 0x0B 0x0D n a,
@@ -101,7 +102,6 @@ module _ (n : ℕ) where
 
 -- ---- bytes
 
--- what `if !f(b)` says of f's claim
 pub refused : {t u : Bool} → t ≡ u → not t ≡ true → u ≡ false
 refused e h = sym e ∙ not-true _ h
 

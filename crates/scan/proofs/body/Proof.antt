@@ -2,8 +2,6 @@ use mathlib.Core.Logic.{⊎-elim}
 use native.Mathlib.Omega.{arith}
 use borrow.Author.Needs.{needs}
 use Rattle.scan.proofs.Parts.{some-body, no-body}
-use Rattle.scan.proofs.body.Lts as lts
-use Rattle.scan.proofs.body.Reads as reads
 use Rattle.scan.proofs.body.Statement.{statement}
 use Rattle.scan.proofs.body.Tie as tie
 

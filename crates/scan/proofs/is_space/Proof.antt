@@ -8,24 +8,16 @@ use Rattle.scan.proofs.is_space.Statement.{statement}
 use Rattle.scan.proofs.is_space.Tie as tie
 
 returns : tie.Need-returns
-returns c =
-    let m = c .before .match .rest in
-    not-blank _ (m .0 .1) (m .1) (omega arith) (omega arith) (omega arith)
+returns c = not-blank _ (c .before .match .rest) (omega arith) (omega arith) (omega arith)
 
 returns-2 : tie.Need-returns-2
-returns-2 c =
-    let m = c .before .before .before .match .rest in
-    not-blank _ (m .0 .1) (m .1) (omega arith) (omega arith) (omega arith)
+returns-2 c = not-blank _ (c .before .before .before .match .rest) (omega arith) (omega arith) (omega arith)
 
 returns-3 : tie.Need-returns-3
-returns-3 c =
-    let m = c .before .before .before .before .before .match .rest in
-    not-blank _ (m .0 .1) (m .1) (omega arith) (omega arith) (omega arith)
+returns-3 c = not-blank _ (c .before .before .before .before .before .match .rest) (omega arith) (omega arith) (omega arith)
 
 returns-4 : tie.Need-returns-4
-returns-4 c =
-    let m = c .before .before .before .before .before .before .match .rest in
-    not-blank _ (m .0 .1) (m .1) (omega arith) (omega arith) (omega arith)
+returns-4 c = not-blank _ (c .before .before .before .before .before .before .match .rest) (omega arith) (omega arith) (omega arith)
 
 returns-5 : tie.Need-returns-5
 unfolding isBlank
