@@ -9,7 +9,7 @@ use Prim.Native.Nat.{ℕ, zero, suc, _+_, _-_, _≤_, _<_}
 use mathlib.Core.Path.{_≡_, refl, sym, ap, _∙_}
 use mathlib.Core.Bool.{Bool, true, false, not, _&&_, _||_, or-true, or-false, or-assoc, false≢true}
 use mathlib.Core.List.{List, [], _∷_}
-use mathlib.Core.Logic.{_⊎_, inl, inr}
+use mathlib.Core.Logic.{inl, inr}
 use native.Mathlib.Omega.{arith}
 use borrow.Author.Tests.{eq-eqb, ne-eqb, eqb-true, eqb-false, not-true, not-false}
 use lib.Dec.{eqb}
@@ -18,7 +18,7 @@ use types.Run.{OneOf}
 use denote.Enum.Declared.{tagOf}
 use Rattle.language.specs.Choice.{within}
 use Rattle.language.specs.Utf8.{Range, to}
-use Rattle.language.specs.Lexemes.{inOne, isBlank, isDigit, isWordStart, isWord, isBody, notNewline, digitOf, punctuation}
+use Rattle.language.specs.Lexemes.{inOne, isBlank, isWordStart, isBody, notNewline, digitOf, punctuation}
 use Rattle.language.proofs.Tests.{both, inside-test, outside-test}
 use Rattle.scan.specs.declared.Tok.{Tok}
 use Rattle.scan.specs.declared.Tok.the-variants as tok-is

@@ -6,17 +6,16 @@
 --     run-..      of a run of bytes with p: one more, the first without p, the end of the line
 --     blank-..    of a run of blank characters
 use Prim.Native.Nat.{ℕ, zero, suc, _+_, _-_, _≤_, _<_}
-use mathlib.Core.Path.{_≡_, refl, sym, ap, _∙_}
+use mathlib.Core.Path.{_≡_, refl, sym, _∙_}
 use mathlib.Core.Bool.{Bool, true, false}
 use mathlib.Core.List.{List, [], _∷_}
 use native.Mathlib.Numerals.{add-one}
-use native.Mathlib.Nat.{add-zero}
 use native.Mathlib.Omega.{arith}
 use lib.ListN.{length, getD, drop, drop-of-length-le, length-drop}
 use lib.Seq.{drop-cons, drop-drop}
 use Rattle.language.specs.Choice.{if′}
 use Rattle.language.specs.Utf8.{Char, char, noChar, charAt}
-use Rattle.language.specs.Lexemes.{run, blankRun, isBlank}
+use Rattle.language.specs.Lexemes.{blankRun, isBlank}
 use Rattle.utf8.specs.declared.Decoded.the-variants.{Read, Nothing}
 use Rattle.utf8.specs.Decoding.{placed}
 use Rattle.utf8.proofs.Places.{bad-char}
