@@ -1,3 +1,8 @@
+use borrow.Author.Tests.{leb-true, leb-false}
+use mathlib.Core.Path.{refl}
+use mathlib.Core.Logic.{inl, ⊎-elim}
+use native.Mathlib.Omega.{arith}
+use Rattle.scan.proofs.Quads.{part-ends, too-long, zero-first, not-number, byte, not-byte}
 use borrow.Author.Needs.{needs}
 use Rattle.scan.proofs.quad_part.Statement.{statement}
 use Rattle.scan.proofs.quad_part.Tie as tie
@@ -10,16 +15,28 @@ sub-if1 : tie.Need-sub-if1
 sub-if1 c = search needs
 
 returns : tie.Need-returns
-returns c = ?
+returns c =
+    let s = c .before .before in
+    let l = s .args .line .now in
+    too-long l (s .args .at) _ (s .pre .0) (s .pre .1) (c .if1 .taken)
 
 starts-zero-requires : tie.Need-starts-zero-requires
-starts-zero-requires c κs = ?
+starts-zero-requires c κs =
+    let s = c .before .before in
+    let l = s .args .line .now in
+    part-ends l (s .args .at) _ (s .pre .0) (s .pre .1) .0
 
 returns-2 : tie.Need-returns-2
-returns-2 c = ?
+returns-2 c =
+    let s = c .before .before .before .before in
+    let l = s .args .line .now in
+    zero-first l (s .args .at) _ (s .pre .0) (s .pre .1) (c .before .before .if1 .left) _ (c .before .starts-zero .ensures) (c .if2 .taken)
 
 read-digits-requires : tie.Need-read-digits-requires
-read-digits-requires c κs = ?
+read-digits-requires c κs =
+    let s = c .before .before .before .before in
+    let l = s .args .line .now in
+    (omega arith, part-ends l (s .args .at) _ (s .pre .0) (s .pre .1) .1, inl refl)
 
 enum-known-n : tie.Need-enum-known-n
 enum-known-n c = search needs
@@ -28,16 +45,25 @@ enum-told : tie.Need-enum-told
 enum-told c = search needs
 
 returns-3 : tie.Need-returns-3
-returns-3 c = ?
+returns-3 c =
+    let s = c .before .before .before .before .before .before .before in
+    let l = s .args .line .now in
+    not-number l (s .args .at) _ (s .pre .0) (s .pre .1) (c .before .before .before .before .before .if1 .left) _ (c .before .before .before .before .starts-zero .ensures) (c .before .before .before .if2 .left) _ (c .before .before .read-digits .ensures) _ (c .enum-told .given .1)
 
 cast-t12 : tie.Need-cast-t12
-cast-t12 c = ?
+cast-t12 c = omega (arith, leb-true)
 
 returns-4 : tie.Need-returns-4
-returns-4 c = ?
+returns-4 c =
+    let s = c .before .before .before .before .before .before .before .before .before .before .before in
+    let l = s .args .line .now in
+    byte l (s .args .at) _ (s .pre .0) (s .pre .1) (c .before .before .before .before .before .before .before .before .before .if1 .left) _ (c .before .before .before .before .before .before .before .before .starts-zero .ensures) (c .before .before .before .before .before .before .before .if2 .left) _ (c .before .before .before .before .before .before .read-digits .ensures) _ (c .before .before .before .before .n .given .1) (c .before .if3 .taken) (leb-true _ 255 (c .if4 .taken))
 
 returns-5 : tie.Need-returns-5
-returns-5 c = ?
+returns-5 c =
+    let s = c .before .before .before .before .before .before .before .before .before .before in
+    let l = s .args .line .now in
+    not-byte l (s .args .at) _ (s .pre .0) (s .pre .1) (c .before .before .before .before .before .before .before .before .if1 .left) _ (c .before .before .before .before .before .before .before .starts-zero .ensures) (c .before .before .before .before .before .before .if2 .left) _ (c .before .before .before .before .before .read-digits .ensures) _ (c .before .before .before .n .given .1) (⊎-elim (λ w. omega (arith, leb-false)) (λ w. omega arith) (c .if3 .came))
 
 pub quad-part-spec : {M : Type 1} → statement M
 quad-part-spec =
