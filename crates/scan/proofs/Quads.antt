@@ -4,15 +4,16 @@ use mathlib.Core.Path.{_≡_, refl, sym, ap, _∙_}
 use mathlib.Core.Bool.{Bool, true, false, _&&_, not}
 use mathlib.Core.List.{List, [], _∷_}
 use mathlib.Core.Option.{Option, none, some}
-use native.Mathlib.Numerals.{add-one}
+use mathlib.Core.Logic.{_⊎_, inl, inr, ⊎-elim}
+use native.Mathlib.Decide.{decLt}
 use native.Mathlib.Omega.{arith}
-use borrow.Author.Tests.{le-leb, lt-leb, leb-true, eq-eqb, ne-eqb}
+use borrow.Author.Tests.{le-leb, lt-leb, leb-true, eq-eqb, ne-eqb, eqb-true}
 use lib.Dec.{leb, eqb}
-use lib.ListN.{length, getD, take, drop, length-drop}
+use lib.ListN.{length, getD, take, drop, length-drop, List·getD-eq-default}
 use lib.Seq.{length-take-le, getD-drop, drop-drop}
 use Rattle.language.specs.Choice.{if′}
 use Rattle.language.specs.Lexemes as language
-use Rattle.language.specs.Lexemes.{isDigit, isWord, run, readDigits, value, wrong, startsZero, octet, quad, notQuad, joined, further, quadFrom}
+use Rattle.language.specs.Lexemes.{isDigit, isWord, run, readDigits, value, wrong, startsZero, octet, quad, notQuad, joined, further, quadFrom, quadLexeme, integer, number, lexemeOf, error, badIPv4Literal}
 use Rattle.wide.specs.declared.Wide.{Wide}
 use Rattle.wide.specs.Wide.{valueOf, wideOf}
 use Rattle.scan.specs.declared.LexErrorKind.{LexErrorKind}
@@ -20,10 +21,16 @@ use Rattle.scan.specs.declared.Number.{Number}
 use Rattle.scan.specs.declared.Number.the-variants.{Value, Wrong}
 use Rattle.scan.specs.declared.Octet.{Octet}
 use Rattle.scan.specs.declared.Octet.the-variants.{Good, Bad}
+use Rattle.scan.specs.declared.Quad.{Quad}
+use Rattle.scan.specs.declared.Tok.the-variants.{IPv4Literal}
+use Rattle.scan.specs.declared.LexErrorKind.the-variants as error-is
+use Rattle.scan.specs.declared.Lexeme.{Lexeme}
+use Rattle.scan.specs.declared.LexemeKind.{LexemeKind}
+use Rattle.scan.specs.declared.LexemeKind.the-variants as kind-is
 use Rattle.scan.specs.declared.Quad.the-variants.{Dotted, Not}
-use Rattle.scan.specs.Scanning.{between, runEnd, numberAs, octetAs, Below, joinedAs, quadAs}
+use Rattle.scan.specs.Scanning.{between, runEnd, numberAs, octetAs, Below, joinedAs, quadAs, kindAs, lexemeAs}
 use Rattle.scan.proofs.Digits.{value-wide}
-use Rattle.scan.proofs.Numerals.{run-starts, run-between, zero-run}
+use Rattle.scan.proofs.Numerals.{run-le, run-starts, run-between, zero-run}
 
 -- ---- a number of a quad
 
@@ -172,3 +179,173 @@ further-as i n m e (quad k a) =
     let p : i + (suc n + k) ≡ m + k = omega arith in
     ap (λ (x : ℕ). Dotted x (octetAs a)) p
 further-as i n m e notQuad = refl
+
+-- a byte that is not zero stands in the list
+stands : (s : List ℕ) (e b : ℕ) → b ≡ getD s e 0 → 0 < b → e < length s
+stands s e b h l =
+    elim (decLt e (length s)) [ yes i ↦ i | no o ↦ absurd (omega (arith, List·getD-eq-default s 0 {n = e} (omega arith))) ]
+
+-- i, dots and address of the loop: so many dots are to come from i on, after numbers that give the address
+pub record Dots (s : List ℕ) (at i dots : ℕ) (address : Octet) : Type 0 where
+  pub so-far : Option ℕ
+  pub said : address ≡ octetAs so-far
+  pub inside : i ≤ length s
+  pub room : Below (roomOf dots) address
+  pub same : quadAs i (quadFrom dots so-far (drop i s)) ≡ quadAs at (quadFrom 3 (some 0) (drop at s))
+
+pub earlier : (n : ℕ) → (n ≡ 0 → ⊥) → n ≡ suc (n - 1)
+earlier n z = omega arith
+
+pub start : (s : List ℕ) (at : ℕ) → at < length s → Dots s at at 3 (Good 0)
+start s at h = record { so-far = some 0; said = refl; inside = omega arith; room = omega arith; same = refl }
+
+-- e is where the digits from i on end
+module _ {s : List ℕ} {at i dots : ℕ} {address : Octet} (q : Dots s at i dots address) (e : ℕ) (k : e ≡ runEnd isDigit s i) where
+  pub no-digits : e ≡ i → Not ≡ quadAs at (quadFrom 3 (some 0) (drop at s))
+  unfolding runEnd
+  no-digits z =
+      let n : run isDigit (drop i s) ≡ 0 = omega arith in
+      rw (← q .same, no-run (drop i s) dots (q .so-far) n)
+
+  module _ (m : e ≡ i → ⊥) where
+    pub digits : (i < e) × (e ≡ runEnd isDigit s i)
+    unfolding runEnd
+    digits = (omega arith, k)
+
+    pub ends : e ≤ length s
+    ends = run-starts isDigit s i e (digits .0) k .1
+
+    some-run : run isDigit (drop i s) ≡ 0 → ⊥
+    unfolding runEnd
+    some-run z = m (omega arith)
+
+    place : i + run isDigit (drop i s) ≡ e
+    unfolding runEnd
+    place = sym k
+
+    -- n is their number, and a the address with it
+    module _ (n : Octet) (n-said : n ≡ octetAs (octet (between s i e))) where
+      pub fits : Below 16777216 address × Below 256 n
+      fits = (below-le (roomOf dots) 16777216 address (room-most dots) (q .room), rw n-said (octet-below (between s i e)))
+
+      module _ (a : Octet) (a-said : a ≡ joinedAs address n) where
+        joined-now : octetAs (joined (q .so-far) (octet (take (run isDigit (drop i s)) (drop i s)))) ≡ a
+        joined-now = rw (← run-between isDigit s i e k, a-said, q .said, n-said) (sym (joined-as (q .so-far) (octet (between s i e))))
+
+        pub whole : dots ≡ 0 → Dotted e a ≡ quadAs at (quadFrom 3 (some 0) (drop at s))
+        whole z = rw (← q .same, z, last-run (drop i s) (q .so-far) some-run, joined-now, place)
+
+        -- b is the byte after the digits
+        module _ (d : ℕ) (more : dots ≡ suc d) (b : ℕ) (b-said : b ≡ getD s e 0) where
+          byte-after : getD (drop i s) (run isDigit (drop i s)) 0 ≡ b
+          byte-after = rw (getD-drop, place) (sym b-said)
+
+          pub no-dot : (b ≡ 46 → ⊥) → Not ≡ quadAs at (quadFrom 3 (some 0) (drop at s))
+          no-dot n = rw (← q .same, more, run-no-dot (drop i s) (q .so-far) some-run d (λ z. n (sym byte-after ∙ z)))
+
+          pub next : b ≡ 46 → Dots s at (e + 1) d a
+          next z =
+              let o = joined (q .so-far) (octet (take (run isDigit (drop i s)) (drop i s))) in
+              let p : i + suc (run isDigit (drop i s)) ≡ e + 1 = omega (arith, place) in
+              let l : drop (suc (run isDigit (drop i s))) (drop i s) ≡ drop (e + 1) s = rw (drop-drop, p) in
+              record {
+                so-far = o;
+                said = sym joined-now;
+                inside = omega (arith, stands s e b b-said (omega arith));
+                room = below-le (roomOf dots * 256) (roomOf d) a (rw more (room-falls d)) (rw a-said (below-joined (roomOf dots) address n (q .room) (fits .1)));
+                same = rw (← q .same, more, run-dot (drop i s) (q .so-far) some-run d (byte-after ∙ z), further-as i (run isDigit (drop i s)) (e + 1) (sym p), l);
+              }
+
+-- ---- what starts with a digit
+
+-- a quad takes n bytes at the most
+abbrev Within : ℕ → language.Quad → Type 0
+Within n (quad m a) = m ≤ n
+Within n notQuad = Unit {0}
+
+further-within : (n m : ℕ) → n ≤ m → (q : language.Quad) → Within (m - n) q → Within m (further n q)
+further-within n m h (quad k a) w = omega arith
+further-within n m h notQuad w = tt
+
+quad-within : (d : ℕ) (a : Option ℕ) (t : List ℕ) → Within (length t) (quadFrom d a t)
+unfolding quadFrom
+quad-within zero a t = go (eqb (run isDigit t) 0)
+  where
+    go : (k : Bool) → Within (length t) (if′ k notQuad (quad (run isDigit t) (joined a (octet (take (run isDigit t) t)))))
+    go true = tt
+    go false = run-le isDigit t
+quad-within (suc d) a t =
+    let n = run isDigit t in
+    let b = joined a (octet (take n t)) in
+    go n (eqb n 0) (eqb (getD t n 0) 46) refl (quadFrom d b (drop (suc n) t)) (quad-within d b (drop (suc n) t))
+  where
+    go : (n : ℕ) (k l : Bool) → eqb (getD t n 0) 46 ≡ l → (q : language.Quad) → Within (length (drop (suc n) t)) q → Within (length t) (if′ k notQuad (if′ l (further (suc n) q) notQuad))
+    go n true l e q w = tt
+    go n false true e q w = further-within (suc n) (length t) (stands t n (getD t n 0) refl (omega (arith, eqb-true (getD t n 0) 46 e))) q (rw length-drop at w)
+    go n false false e q w = tt
+
+abbrev numberFrom : language.Quad → List ℕ → language.Lexeme
+numberFrom q t =
+    elim q [
+      | quad n a ↦ quadLexeme n a (run isWord (drop n t))
+      | notQuad ↦ lexemeOf (integer (take (run isWord t) t)) (run isWord t)
+    ]
+
+bad-quad : (n more : ℕ) (a : Option ℕ) → (octetAs a ≡ Bad) ⊎ (more ≡ 0 → ⊥) → quadLexeme n a more ≡ lexemeOf (error badIPv4Literal) (n + more)
+bad-quad n more none h = refl
+bad-quad n zero (some a) (inl e) = let z : _≡_ {A = ℕ} 0 1 = cc in absurd (omega arith)
+bad-quad n zero (some a) (inr f) = absurd (f refl)
+bad-quad n (suc more) (some a) h = refl
+
+-- what the code makes of it
+abbrev lexemeFrom : ℕ → ℕ → LexemeKind → Lexeme
+lexemeFrom at e k = record { start = at; end = e; kind = k }
+
+-- of a quad q that starts at `at`; d is where it ends, o its address, and e where the word characters after it end
+module _ (s : List ℕ) (at d e : ℕ) (k : e ≡ runEnd isWord s d) where
+  good-case : (q : language.Quad) (a : ℕ) → quadAs at q ≡ Dotted d (Good a) → e ≡ d → lexemeFrom at e (kind-is.Tok (IPv4Literal a)) ≡ lexemeAs at (numberFrom q (drop at s))
+  unfolding runEnd
+  good-case (quad m (some b)) a w z =
+      let p : at + m ≡ d = cc in
+      let v : b ≡ a = cc in
+      let n : run isWord (drop d s) ≡ 0 = omega arith in
+      rw (drop-drop m at s, p, n, z) (rw (p, v))
+  good-case (quad m none) a w z = let x : _≡_ {A = ℕ} 0 1 = cc in absurd (omega arith)
+  good-case notQuad a w z = let x : _≡_ {A = ℕ} 0 1 = cc in absurd (omega arith)
+
+  bad-case : (q : language.Quad) (o : Octet) → quadAs at q ≡ Dotted d o → (o ≡ Bad) ⊎ (e ≡ d → ⊥) → lexemeFrom at e (kind-is.Error error-is.IPv4Literal) ≡ lexemeAs at (numberFrom q (drop at s))
+  unfolding runEnd
+  bad-case (quad m b) o w h =
+      let p : at + m ≡ d = cc in
+      let v : octetAs b ≡ o = cc in
+      let n : e ≡ at + (m + run isWord (drop d s)) = omega arith in
+      rw (drop-drop m at s, p, bad-quad m (run isWord (drop d s)) b (⊎-elim (λ x. inl (v ∙ x)) (λ x. inr (λ y. x (omega arith))) h), n)
+  bad-case notQuad o w h = let x : _≡_ {A = ℕ} 0 1 = cc in absurd (omega arith)
+
+within-as : (at n : ℕ) (q : language.Quad) (d : ℕ) (o : Octet) → Within n q → quadAs at q ≡ Dotted d o → d ≤ at + n
+within-as at n (quad m a) d o h w = let p : at + m ≡ d = cc in omega arith
+within-as at n notQuad d o h w = let x : _≡_ {A = ℕ} 0 1 = cc in absurd (omega arith)
+
+not-case : (s : List ℕ) (at : ℕ) (q : language.Quad) → quadAs at q ≡ Not → (e : ℕ) → e ≡ runEnd isWord s at → lexemeFrom at e (kindAs (integer (between s at e))) ≡ lexemeAs at (numberFrom q (drop at s))
+unfolding runEnd
+not-case s at (quad m a) w e f = let x : _≡_ {A = ℕ} 0 1 = cc in absurd (omega arith)
+not-case s at notQuad w e f = rw (run-between isWord s at e f, f)
+
+-- r is what the code finds at `at`
+module _ (s : List ℕ) (at : ℕ) (r : Quad) (r-said : r ≡ quadAs at (quadFrom 3 (some 0) (drop at s))) where
+  pub quad-ends : at < length s → (d : ℕ) (o : Octet) → r ≡ Dotted d o → d ≤ length s
+  quad-ends h d o w =
+      omega (arith, length-drop at s, within-as at (length (drop at s)) (quadFrom 3 (some 0) (drop at s)) d o (quad-within 3 (some 0) (drop at s)) (sym r-said ∙ w))
+
+  module _ (d : ℕ) (o : Octet) (w : r ≡ Dotted d o) (e : ℕ) (k : e ≡ runEnd isWord s d) where
+    pub address : (a : ℕ) → o ≡ Good a → e ≡ d → lexemeFrom at e (kind-is.Tok (IPv4Literal a)) ≡ lexemeAs at (number (drop at s))
+    unfolding number
+    address a g z = good-case s at d e k (quadFrom 3 (some 0) (drop at s)) a (rw g at (sym r-said ∙ w)) z
+
+    pub malformed : (o ≡ Bad) ⊎ (e ≡ d → ⊥) → lexemeFrom at e (kind-is.Error error-is.IPv4Literal) ≡ lexemeAs at (number (drop at s))
+    unfolding number
+    malformed h = bad-case s at d e k (quadFrom 3 (some 0) (drop at s)) o (sym r-said ∙ w) h
+
+  pub no-quad : r ≡ Not → (e : ℕ) → e ≡ runEnd isWord s at → (k : LexemeKind) → k ≡ kindAs (integer (between s at e)) → lexemeFrom at e k ≡ lexemeAs at (number (drop at s))
+  unfolding number
+  no-quad w e f k g = rw g (not-case s at (quadFrom 3 (some 0) (drop at s)) (sym r-said ∙ w) e f)
