@@ -77,10 +77,6 @@ module _ (p : ℕ → Bool) where
       go true h = suc-le-suc h
       go false h = zero-le
 
-  pub run-ends : (s : List ℕ) (at e : ℕ) → at ≤ length s → e ≡ runEnd p s at → e ≤ length s
-  unfolding runEnd
-  run-ends s at e h k = omega (arith, run-le (drop at s), length-drop at s)
-
   pub run-starts : (s : List ℕ) (at e : ℕ) → at < e → e ≡ runEnd p s at → (at < length s) × (e ≤ length s)
   unfolding runEnd
   run-starts s at e h k =
@@ -161,16 +157,20 @@ isX b = eqb b 120
 abbrev isHex : ℕ → Bool
 isHex b = ltb (digitOf b) 16
 
-module _ (p : ℕ → Bool) (digits : (b : ℕ) → isDigit b ≡ true → p b ≡ true) (t : List ℕ) where
+-- where each digit has p
+module _ (p : ℕ → Bool) (digits : (b : ℕ) → isDigit b ≡ true → p b ≡ true) where
   zeros : (b : ℕ) → is0 b ≡ true → p b ≡ true
   zeros b e = digits b (is-digit-zero b e)
 
-  after-zero : is0 (getD t 0 0) ≡ true → 0 < run p t
-  after-zero e = taken p is0 zeros refl 0 t zero-le e
+  after-zero : (t : List ℕ) → is0 (getD t 0 0) ≡ true → 0 < run p t
+  after-zero t e = taken p is0 zeros refl 0 t zero-le e
 
-  pub zero-run : startsZero (take (run p t) t) ≡ startsZero t
+  zero-run : (t : List ℕ) → startsZero (take (run p t) t) ≡ startsZero t
   unfolding startsZero isDigit
-  zero-run = both-same _ _ _ _ (seen p is0 zeros refl 0 t zero-le) (λ e. seen p isDigit digits refl 1 t (after-zero e))
+  zero-run t = both-same _ _ _ _ (seen p is0 zeros refl 0 t zero-le) (λ e. seen p isDigit digits refl 1 t (after-zero t e))
+
+  pub zero-between : (s : List ℕ) (at e : ℕ) → e ≡ runEnd p s at → startsZero (between s at e) ≡ startsZero (drop at s)
+  zero-between s at e k = rw (run-between p s at e k) (zero-run (drop at s))
 
 module _ (t : List ℕ) where
   after-x : is0 (getD t 0 0) ≡ true → isX (getD t 1 0) ≡ true → 1 < run isWord t
@@ -179,7 +179,7 @@ module _ (t : List ℕ) where
   hex-run : startsHex (take (run isWord t) t) ≡ startsHex t
   unfolding startsHex digitOf
   hex-run =
-      both-same _ _ _ _ (seen isWord is0 (zeros isWord digit-word t) refl 0 t zero-le)
+      both-same _ _ _ _ (seen isWord is0 (zeros isWord digit-word) refl 0 t zero-le)
       (λ e. both-same _ _ _ _ (seen isWord isX is-word-x refl 1 t (after-zero isWord digit-word t e))
       (λ f. seen isWord isHex is-word-hex refl 2 t (after-x e f)))
 
@@ -201,15 +201,15 @@ literal-as f g h (value n) = ap kind-is.Tok (sym (h n))
 literal-as f g h (wrong e) = refl
 
 -- of the word from `at` to e
-module _ (s : List ℕ) (at e : ℕ) (h : at < length s) (k : e ≡ runEnd isWord s at) where
+module _ (s : List ℕ) (at e : ℕ) (h : (at < length s) × (e ≡ runEnd isWord s at)) where
   pub word-ends : (at ≤ e) × (e ≤ length s)
   unfolding runEnd
-  word-ends = (omega arith, run-ends isWord s at e (omega arith) k)
+  word-ends = (omega arith, omega (arith, run-le isWord (drop at s), length-drop at s))
 
   -- x and z are what its start is found to be
   module _ (x : Bool) (x-said : x ≡ startsHex (drop at s)) where
     hex-same : startsHex (between s at e) ≡ x
-    hex-same = rw (run-between isWord s at e k) (hex-run (drop at s) ∙ sym x-said)
+    hex-same = rw (run-between isWord s at e (h .1)) (hex-run (drop at s) ∙ sym x-said)
 
     module _ (t : x ≡ true) where
       pub two-digits : at + 2 ≤ e
@@ -229,7 +229,7 @@ module _ (s : List ℕ) (at e : ℕ) (h : at < length s) (k : e ≡ runEnd isWor
 
     module _ (f : x ≡ false) (z : Bool) (z-said : z ≡ startsZero (drop at s)) where
       zero-same : startsZero (between s at e) ≡ z
-      zero-same = rw (run-between isWord s at e k) (zero-run isWord digit-word (drop at s) ∙ sym z-said)
+      zero-same = zero-between isWord digit-word s at e (h .1) ∙ sym z-said
 
       pub leading-zero : z ≡ true → kind-is.Error IntLeadingZero ≡ kindAs (integer (between s at e))
       unfolding integer

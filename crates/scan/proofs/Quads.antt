@@ -30,7 +30,7 @@ use Rattle.scan.specs.declared.LexemeKind.the-variants as kind-is
 use Rattle.scan.specs.declared.Quad.the-variants.{Dotted, Not}
 use Rattle.scan.specs.Scanning.{between, runEnd, numberAs, octetAs, Below, joinedAs, quadAs, kindAs, lexemeAs}
 use Rattle.scan.proofs.Digits.{value-wide}
-use Rattle.scan.proofs.Numerals.{run-le, run-starts, run-between, zero-run}
+use Rattle.scan.proofs.Numerals.{run-le, run-starts, run-between, zero-between}
 
 -- ---- a number of a quad
 
@@ -51,9 +51,9 @@ value-case (value n) v e =
 value-case (wrong y) v e = let z : _≡_ {A = ℕ} 0 1 = cc in absurd (omega arith)
 
 -- of the digits from `at` to e
-module _ (s : List ℕ) (at e : ℕ) (h : at < e) (k : e ≡ runEnd isDigit s at) where
+module _ (s : List ℕ) (at e : ℕ) (h : (at < e) × (e ≡ runEnd isDigit s at)) where
   pub part-ends : (at < length s) × (e ≤ length s)
-  part-ends = run-starts isDigit s at e h k
+  part-ends = run-starts isDigit s at e (h .0) (h .1)
 
   size : length (between s at e) ≡ e - at
   size =
@@ -67,7 +67,7 @@ module _ (s : List ℕ) (at e : ℕ) (h : at < e) (k : e ≡ runEnd isDigit s at
   -- z is whether they start with a zero and another digit
   module _ (few : e - at ≤ 3) (z : Bool) (z-said : z ≡ startsZero (drop at s)) where
     zero-same : startsZero (between s at e) ≡ z
-    zero-same = rw (run-between isDigit s at e k) (zero-run isDigit (λ b i. i) (drop at s) ∙ sym z-said)
+    zero-same = zero-between isDigit (λ b i. i) s at e (h .1) ∙ sym z-said
 
     pub zero-first : z ≡ true → Bad ≡ octetAs (octet (between s at e))
     unfolding octet
@@ -297,55 +297,62 @@ bad-quad n zero (some a) (inl e) = let z : _≡_ {A = ℕ} 0 1 = cc in absurd (o
 bad-quad n zero (some a) (inr f) = absurd (f refl)
 bad-quad n (suc more) (some a) h = refl
 
+good-said : (a : Option ℕ) (n : ℕ) → octetAs a ≡ Good n → a ≡ some n
+good-said none n e = let z : _≡_ {A = ℕ} 0 1 = cc in absurd (omega arith)
+good-said (some m) n e = let p : m ≡ n = cc in rw p
+
+-- what a quad is that the code finds from `at` to d, with the address o
+record Found (at d : ℕ) (o : Octet) (q : language.Quad) : Type 0 where
+  bytes : ℕ
+  address : Option ℕ
+  is : q ≡ quad bytes address
+  end : at + bytes ≡ d
+  said : octetAs address ≡ o
+
+found : (at d : ℕ) (o : Octet) (q : language.Quad) → quadAs at q ≡ Dotted d o → Found at d o q
+found at d o (quad m a) w = record { bytes = m; address = a; is = refl; end = cc; said = cc }
+found at d o notQuad w = let z : _≡_ {A = ℕ} 0 1 = cc in absurd (omega arith)
+
+not-found : (at : ℕ) (q : language.Quad) → quadAs at q ≡ Not → q ≡ notQuad
+not-found at (quad m a) w = let z : _≡_ {A = ℕ} 0 1 = cc in absurd (omega arith)
+not-found at notQuad w = refl
+
 -- what the code makes of it
 abbrev lexemeFrom : ℕ → ℕ → LexemeKind → Lexeme
 lexemeFrom at e k = record { start = at; end = e; kind = k }
 
--- of a quad q that starts at `at`; d is where it ends, o its address, and e where the word characters after it end
-module _ (s : List ℕ) (at d e : ℕ) (k : e ≡ runEnd isWord s d) where
-  good-case : (q : language.Quad) (a : ℕ) → quadAs at q ≡ Dotted d (Good a) → e ≡ d → lexemeFrom at e (kind-is.Tok (IPv4Literal a)) ≡ lexemeAs at (numberFrom q (drop at s))
-  unfolding runEnd
-  good-case (quad m (some b)) a w z =
-      let p : at + m ≡ d = cc in
-      let v : b ≡ a = cc in
-      let n : run isWord (drop d s) ≡ 0 = omega arith in
-      rw (drop-drop m at s, p, n, z) (rw (p, v))
-  good-case (quad m none) a w z = let x : _≡_ {A = ℕ} 0 1 = cc in absurd (omega arith)
-  good-case notQuad a w z = let x : _≡_ {A = ℕ} 0 1 = cc in absurd (omega arith)
-
-  bad-case : (q : language.Quad) (o : Octet) → quadAs at q ≡ Dotted d o → (o ≡ Bad) ⊎ (e ≡ d → ⊥) → lexemeFrom at e (kind-is.Error error-is.IPv4Literal) ≡ lexemeAs at (numberFrom q (drop at s))
-  unfolding runEnd
-  bad-case (quad m b) o w h =
-      let p : at + m ≡ d = cc in
-      let v : octetAs b ≡ o = cc in
-      let n : e ≡ at + (m + run isWord (drop d s)) = omega arith in
-      rw (drop-drop m at s, p, bad-quad m (run isWord (drop d s)) b (⊎-elim (λ x. inl (v ∙ x)) (λ x. inr (λ y. x (omega arith))) h), n)
-  bad-case notQuad o w h = let x : _≡_ {A = ℕ} 0 1 = cc in absurd (omega arith)
-
-within-as : (at n : ℕ) (q : language.Quad) (d : ℕ) (o : Octet) → Within n q → quadAs at q ≡ Dotted d o → d ≤ at + n
-within-as at n (quad m a) d o h w = let p : at + m ≡ d = cc in omega arith
-within-as at n notQuad d o h w = let x : _≡_ {A = ℕ} 0 1 = cc in absurd (omega arith)
-
-not-case : (s : List ℕ) (at : ℕ) (q : language.Quad) → quadAs at q ≡ Not → (e : ℕ) → e ≡ runEnd isWord s at → lexemeFrom at e (kindAs (integer (between s at e))) ≡ lexemeAs at (numberFrom q (drop at s))
-unfolding runEnd
-not-case s at (quad m a) w e f = let x : _≡_ {A = ℕ} 0 1 = cc in absurd (omega arith)
-not-case s at notQuad w e f = rw (run-between isWord s at e f, f)
-
 -- r is what the code finds at `at`
 module _ (s : List ℕ) (at : ℕ) (r : Quad) (r-said : r ≡ quadAs at (quadFrom 3 (some 0) (drop at s))) where
-  pub quad-ends : at < length s → (d : ℕ) (o : Octet) → r ≡ Dotted d o → d ≤ length s
-  quad-ends h d o w =
-      omega (arith, length-drop at s, within-as at (length (drop at s)) (quadFrom 3 (some 0) (drop at s)) d o (quad-within 3 (some 0) (drop at s)) (sym r-said ∙ w))
+  number-from : {q : language.Quad} → quadFrom 3 (some 0) (drop at s) ≡ q → number (drop at s) ≡ numberFrom q (drop at s)
+  unfolding number
+  number-from e = ap (λ (q : language.Quad). numberFrom q (drop at s)) e
 
-  module _ (d : ℕ) (o : Octet) (w : r ≡ Dotted d o) (e : ℕ) (k : e ≡ runEnd isWord s d) where
-    pub address : (a : ℕ) → o ≡ Good a → e ≡ d → lexemeFrom at e (kind-is.Tok (IPv4Literal a)) ≡ lexemeAs at (number (drop at s))
-    unfolding number
-    address a g z = good-case s at d e k (quadFrom 3 (some 0) (drop at s)) a (rw g at (sym r-said ∙ w)) z
+  module _ (d : ℕ) (o : Octet) (w : r ≡ Dotted d o) where
+    here : Found at d o (quadFrom 3 (some 0) (drop at s))
+    here = found at d o (quadFrom 3 (some 0) (drop at s)) (sym r-said ∙ w)
 
-    pub malformed : (o ≡ Bad) ⊎ (e ≡ d → ⊥) → lexemeFrom at e (kind-is.Error error-is.IPv4Literal) ≡ lexemeAs at (number (drop at s))
-    unfolding number
-    malformed h = bad-case s at d e k (quadFrom 3 (some 0) (drop at s)) o (sym r-said ∙ w) h
+    pub quad-ends : at < length s → d ≤ length s
+    quad-ends h = omega (arith, length-drop at s, here .end, rw (here .is) at (quad-within 3 (some 0) (drop at s)))
+
+    -- e is where the word characters after it end
+    module _ (e : ℕ) (k : e ≡ runEnd isWord s d) where
+      number-is : number (drop at s) ≡ quadLexeme (here .bytes) (here .address) (run isWord (drop d s))
+      number-is = number-from (here .is) ∙ rw (drop-drop, here .end)
+
+      pub address : (a : ℕ) → o ≡ Good a → e ≡ d → lexemeFrom at e (kind-is.Tok (IPv4Literal a)) ≡ lexemeAs at (number (drop at s))
+      unfolding runEnd
+      address a g z =
+          let n : run isWord (drop d s) ≡ 0 = omega arith in
+          rw (number-is, good-said (here .address) a (here .said ∙ g), n, here .end, z)
+
+      pub malformed : (o ≡ Bad) ⊎ (e ≡ d → ⊥) → lexemeFrom at e (kind-is.Error error-is.IPv4Literal) ≡ lexemeAs at (number (drop at s))
+      unfolding runEnd
+      malformed h =
+          let p : e ≡ at + (here .bytes + run isWord (drop d s)) = omega (arith, here .end) in
+          let c : (octetAs (here .address) ≡ Bad) ⊎ (run isWord (drop d s) ≡ 0 → ⊥) = ⊎-elim (λ x. inl (here .said ∙ x)) (λ x. inr (λ y. x (omega arith))) h in
+          rw (number-is, bad-quad (here .bytes) (run isWord (drop d s)) (here .address) c, p)
 
   pub no-quad : r ≡ Not → (e : ℕ) → e ≡ runEnd isWord s at → (k : LexemeKind) → k ≡ kindAs (integer (between s at e)) → lexemeFrom at e k ≡ lexemeAs at (number (drop at s))
-  unfolding number
-  no-quad w e f k g = rw g (not-case s at (quadFrom 3 (some 0) (drop at s)) (sym r-said ∙ w) e f)
+  unfolding runEnd
+  no-quad w e f k g =
+      rw (number-from (not-found at (quadFrom 3 (some 0) (drop at s)) (sym r-said ∙ w)), g, run-between isWord s at e f, f)

@@ -29,19 +29,31 @@ quad-part-requires : tie.Need-quad-part-requires Inv-loop μ-loop
 quad-part-requires c κs = digits (c .before .before .loop .inv) _ (c .before .eat-digits .ensures) (c .if1 .left)
 
 join-requires : tie.Need-join-requires Inv-loop μ-loop
-join-requires c κs = fits (c .before .before .before .loop .inv) _ (c .before .before .eat-digits .ensures) (c .before .if1 .left) _ (c .quad-part .ensures)
+join-requires c κs =
+    let d = c .before .before in
+    fits (d .before .loop .inv) _ (d .eat-digits .ensures) (c .before .if1 .left) _ (c .quad-part .ensures)
 
 returns-2 : tie.Need-returns-2 Inv-loop μ-loop
-returns-2 c = whole (c .before .before .before .before .before .loop .inv) _ (c .before .before .before .before .eat-digits .ensures) (c .before .before .before .if1 .left) _ (c .before .before .quad-part .ensures) _ (c .before .join .ensures) (c .if2 .taken)
+returns-2 c =
+    let p = c .before .before in
+    let d = p .before .before in
+    whole (d .before .loop .inv) _ (d .eat-digits .ensures) (p .before .if1 .left) _ (p .quad-part .ensures) _ (c .before .join .ensures) (c .if2 .taken)
 
 peek-requires : tie.Need-peek-requires Inv-loop μ-loop
 peek-requires c κs = search needs
 
 returns-3 : tie.Need-returns-3 Inv-loop μ-loop
-returns-3 c = no-dot (c .before .before .before .before .before .before .before .loop .inv) _ (c .before .before .before .before .before .before .eat-digits .ensures) (c .before .before .before .before .before .if1 .left) _ (c .before .before .before .before .quad-part .ensures) _ (c .before .before .before .join .ensures) _ (earlier _ (c .before .before .if2 .left)) _ (c .before .peek .ensures) (c .if3 .taken)
+returns-3 c =
+    let j = c .before .before .before in
+    let p = j .before in
+    let d = p .before .before in
+    no-dot (d .before .loop .inv) _ (d .eat-digits .ensures) (p .before .if1 .left) _ (p .quad-part .ensures) _ (j .join .ensures) _ (earlier _ (c .before .before .if2 .left)) _ (c .before .peek .ensures) (c .if3 .taken)
 
 add-i : tie.Need-add-i Inv-loop μ-loop
-add-i c = omega (arith, ends (c .before .before .before .before .before .before .before .loop .inv) _ (c .before .before .before .before .before .before .eat-digits .ensures) (c .before .before .before .before .before .if1 .left))
+add-i c =
+    let p = c .before .before .before .before in
+    let d = p .before .before in
+    omega (arith, ends (d .before .loop .inv) _ (d .eat-digits .ensures) (p .before .if1 .left))
 
 sub-dots : tie.Need-sub-dots Inv-loop μ-loop
 sub-dots c = omega arith
@@ -50,7 +62,11 @@ loop-less : tie.Need-loop-less Inv-loop μ-loop
 loop-less c = omega arith
 
 loop-again : tie.Need-loop-again Inv-loop μ-loop
-loop-again c = next (c .before .before .before .before .before .before .before .loop .inv) _ (c .before .before .before .before .before .before .eat-digits .ensures) (c .before .before .before .before .before .if1 .left) _ (c .before .before .before .before .quad-part .ensures) _ (c .before .before .before .join .ensures) _ (earlier _ (c .before .before .if2 .left)) _ (c .before .peek .ensures) (c .if3 .left)
+loop-again c =
+    let j = c .before .before .before in
+    let p = j .before in
+    let d = p .before .before in
+    next (d .before .loop .inv) _ (d .eat-digits .ensures) (p .before .if1 .left) _ (p .quad-part .ensures) _ (j .join .ensures) _ (earlier _ (c .before .before .if2 .left)) _ (c .before .peek .ensures) (c .if3 .left)
 
 pub dotted-quad-spec : {M : Type 1} → statement M
 dotted-quad-spec =

@@ -19,9 +19,9 @@ add-read-digits c = search needs
 
 read-digits-requires : tie.Need-read-digits-requires
 read-digits-requires c κs =
-    let s = c .before .before .before in
-    let l = s .args .line .now in
-    (two-digits l (s .args .at) _ (s .pre .0) (s .pre .1) _ (c .before .starts-hex .ensures) (c .if1 .taken), word-ends l (s .args .at) _ (s .pre .0) (s .pre .1) .1, inr refl)
+    let h = c .before in
+    let s = h .before .before in
+    (two-digits (s .args .line .now) (s .args .at) _ (s .pre) _ (h .starts-hex .ensures) (c .if1 .taken), word-ends (s .args .line .now) (s .args .at) _ (s .pre) .1, inr refl)
 
 enum-known-n : tie.Need-enum-known-n
 enum-known-n c = search needs
@@ -31,30 +31,32 @@ enum-known-n-2 c = search needs
 
 returns : tie.Need-returns
 returns c =
-    let s = c .before .before .before .before .before .before .before in
-    let l = s .args .line .now in
-    hexadecimal l (s .args .at) _ (s .pre .0) (s .pre .1) _ (c .before .before .before .before .before .starts-hex .ensures) (c .before .before .before .before .if1 .taken) _ (Value _) (c .before .before .before .read-digits .ensures) (c .before .n .given .1)
+    let r = c .before .before .before in
+    let h = r .before .before in
+    let s = h .before .before in
+    hexadecimal (s .args .line .now) (s .args .at) _ (s .pre) _ (h .starts-hex .ensures) (r .before .if1 .taken) _ (Value _) (r .read-digits .ensures) (c .before .n .given .1)
 
 returns-2 : tie.Need-returns-2
 returns-2 c =
-    let s = c .before .before .before .before .before .before .before in
-    let l = s .args .line .now in
-    hexadecimal l (s .args .at) _ (s .pre .0) (s .pre .1) _ (c .before .before .before .before .before .starts-hex .ensures) (c .before .before .before .before .if1 .taken) _ (Wrong _) (c .before .before .before .read-digits .ensures) (c .before .n2 .given .1)
+    let r = c .before .before .before in
+    let h = r .before .before in
+    let s = h .before .before in
+    hexadecimal (s .args .line .now) (s .args .at) _ (s .pre) _ (h .starts-hex .ensures) (r .before .if1 .taken) _ (Wrong _) (r .read-digits .ensures) (c .before .n2 .given .1)
 
 starts-zero-requires : tie.Need-starts-zero-requires
 starts-zero-requires c κs = search needs
 
 returns-3 : tie.Need-returns-3
 returns-3 c =
-    let s = c .before .before .before .before .before in
-    let l = s .args .line .now in
-    leading-zero l (s .args .at) _ (s .pre .0) (s .pre .1) _ (c .before .before .before .starts-hex .ensures) (c .before .before .if1 .left) _ (c .before .starts-zero .ensures) (c .if2 .taken)
+    let z = c .before in
+    let h = z .before .before in
+    let s = h .before .before in
+    leading-zero (s .args .line .now) (s .args .at) _ (s .pre) _ (h .starts-hex .ensures) (z .before .if1 .left) _ (z .starts-zero .ensures) (c .if2 .taken)
 
 read-digits-requires-2 : tie.Need-read-digits-requires-2
 read-digits-requires-2 c κs =
     let s = c .before .before .before .before .before in
-    let l = s .args .line .now in
-    let w = word-ends l (s .args .at) _ (s .pre .0) (s .pre .1) in
+    let w = word-ends (s .args .line .now) (s .args .at) _ (s .pre) in
     (w .0, w .1, inl refl)
 
 enum-known-n-3 : tie.Need-enum-known-n-3
@@ -65,15 +67,19 @@ enum-known-n-4 c = search needs
 
 returns-4 : tie.Need-returns-4
 returns-4 c =
-    let s = c .before .before .before .before .before .before .before .before .before in
-    let l = s .args .line .now in
-    decimal l (s .args .at) _ (s .pre .0) (s .pre .1) _ (c .before .before .before .before .before .before .before .starts-hex .ensures) (c .before .before .before .before .before .before .if1 .left) _ (c .before .before .before .before .before .starts-zero .ensures) (c .before .before .before .before .if2 .left) _ (Value _) (c .before .before .before .read-digits2 .ensures) (c .before .n3 .given .1)
+    let r = c .before .before .before in
+    let z = r .before .before in
+    let h = z .before .before in
+    let s = h .before .before in
+    decimal (s .args .line .now) (s .args .at) _ (s .pre) _ (h .starts-hex .ensures) (z .before .if1 .left) _ (z .starts-zero .ensures) (r .before .if2 .left) _ (Value _) (r .read-digits2 .ensures) (c .before .n3 .given .1)
 
 returns-5 : tie.Need-returns-5
 returns-5 c =
-    let s = c .before .before .before .before .before .before .before .before .before in
-    let l = s .args .line .now in
-    decimal l (s .args .at) _ (s .pre .0) (s .pre .1) _ (c .before .before .before .before .before .before .before .starts-hex .ensures) (c .before .before .before .before .before .before .if1 .left) _ (c .before .before .before .before .before .starts-zero .ensures) (c .before .before .before .before .if2 .left) _ (Wrong _) (c .before .before .before .read-digits2 .ensures) (c .before .n4 .given .1)
+    let r = c .before .before .before in
+    let z = r .before .before in
+    let h = z .before .before in
+    let s = h .before .before in
+    decimal (s .args .line .now) (s .args .at) _ (s .pre) _ (h .starts-hex .ensures) (z .before .if1 .left) _ (z .starts-zero .ensures) (r .before .if2 .left) _ (Wrong _) (r .read-digits2 .ensures) (c .before .n4 .given .1)
 
 pub integer-spec : {M : Type 1} → statement M
 integer-spec =

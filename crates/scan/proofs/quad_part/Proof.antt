@@ -17,26 +17,23 @@ sub-if1 c = search needs
 returns : tie.Need-returns
 returns c =
     let s = c .before .before in
-    let l = s .args .line .now in
-    too-long l (s .args .at) _ (s .pre .0) (s .pre .1) (c .if1 .taken)
+    too-long (s .args .line .now) (s .args .at) _ (s .pre) (c .if1 .taken)
 
 starts-zero-requires : tie.Need-starts-zero-requires
 starts-zero-requires c κs =
     let s = c .before .before in
-    let l = s .args .line .now in
-    part-ends l (s .args .at) _ (s .pre .0) (s .pre .1) .0
+    part-ends (s .args .line .now) (s .args .at) _ (s .pre) .0
 
 returns-2 : tie.Need-returns-2
 returns-2 c =
-    let s = c .before .before .before .before in
-    let l = s .args .line .now in
-    zero-first l (s .args .at) _ (s .pre .0) (s .pre .1) (c .before .before .if1 .left) _ (c .before .starts-zero .ensures) (c .if2 .taken)
+    let z = c .before in
+    let s = z .before .before .before in
+    zero-first (s .args .line .now) (s .args .at) _ (s .pre) (z .before .if1 .left) _ (z .starts-zero .ensures) (c .if2 .taken)
 
 read-digits-requires : tie.Need-read-digits-requires
 read-digits-requires c κs =
     let s = c .before .before .before .before in
-    let l = s .args .line .now in
-    (omega arith, part-ends l (s .args .at) _ (s .pre .0) (s .pre .1) .1, inl refl)
+    (omega arith, part-ends (s .args .line .now) (s .args .at) _ (s .pre) .1, inl refl)
 
 enum-known-n : tie.Need-enum-known-n
 enum-known-n c = search needs
@@ -46,24 +43,28 @@ enum-told c = search needs
 
 returns-3 : tie.Need-returns-3
 returns-3 c =
-    let s = c .before .before .before .before .before .before .before in
-    let l = s .args .line .now in
-    not-number l (s .args .at) _ (s .pre .0) (s .pre .1) (c .before .before .before .before .before .if1 .left) _ (c .before .before .before .before .starts-zero .ensures) (c .before .before .before .if2 .left) _ (c .before .before .read-digits .ensures) _ (c .enum-told .given .1)
+    let r = c .before .before in
+    let z = r .before .before in
+    let s = z .before .before .before in
+    not-number (s .args .line .now) (s .args .at) _ (s .pre) (z .before .if1 .left) _ (z .starts-zero .ensures) (r .before .if2 .left) _ (r .read-digits .ensures) _ (c .enum-told .given .1)
 
 cast-t12 : tie.Need-cast-t12
 cast-t12 c = omega (arith, leb-true)
 
 returns-4 : tie.Need-returns-4
 returns-4 c =
-    let s = c .before .before .before .before .before .before .before .before .before .before .before in
-    let l = s .args .line .now in
-    byte l (s .args .at) _ (s .pre .0) (s .pre .1) (c .before .before .before .before .before .before .before .before .before .if1 .left) _ (c .before .before .before .before .before .before .before .before .starts-zero .ensures) (c .before .before .before .before .before .before .before .if2 .left) _ (c .before .before .before .before .before .before .read-digits .ensures) _ (c .before .before .before .before .n .given .1) (c .before .if3 .taken) (leb-true _ 255 (c .if4 .taken))
+    let r = c .before .before .before .before .before .before in
+    let z = r .before .before in
+    let s = z .before .before .before in
+    byte (s .args .line .now) (s .args .at) _ (s .pre) (z .before .if1 .left) _ (z .starts-zero .ensures) (r .before .if2 .left) _ (r .read-digits .ensures) _ (c .before .before .before .before .n .given .1) (c .before .if3 .taken) (leb-true _ 255 (c .if4 .taken))
 
 returns-5 : tie.Need-returns-5
 returns-5 c =
-    let s = c .before .before .before .before .before .before .before .before .before .before in
-    let l = s .args .line .now in
-    not-byte l (s .args .at) _ (s .pre .0) (s .pre .1) (c .before .before .before .before .before .before .before .before .if1 .left) _ (c .before .before .before .before .before .before .before .starts-zero .ensures) (c .before .before .before .before .before .before .if2 .left) _ (c .before .before .before .before .before .read-digits .ensures) _ (c .before .before .before .n .given .1) (⊎-elim (λ w. omega (arith, leb-false)) (λ w. omega arith) (c .if3 .came))
+    let r = c .before .before .before .before .before in
+    let z = r .before .before in
+    let s = z .before .before .before in
+    let n = c .before .before .before in
+    not-byte (s .args .line .now) (s .args .at) _ (s .pre) (z .before .if1 .left) _ (z .starts-zero .ensures) (r .before .if2 .left) _ (r .read-digits .ensures) _ (n .n .given .1) (⊎-elim (λ w. omega (arith, leb-false)) (λ w. omega arith) (c .if3 .came))
 
 pub quad-part-spec : {M : Type 1} → statement M
 quad-part-spec =

@@ -17,16 +17,21 @@ enum-known-q c = search needs
 
 eat-word-requires : tie.Need-eat-word-requires
 eat-word-requires c κs =
-    let s = c .before .before .before .before .before in
-    quad-ends (s .args .line .now) (s .args .at) _ (c .before .before .before .dotted-quad .ensures) (s .pre .0) _ _ (c .before .q .given .1)
+    let q = c .before in
+    let d = q .before .before in
+    let s = d .before .before in
+    quad-ends (s .args .line .now) (s .args .at) _ (d .dotted-quad .ensures) _ _ (q .q .given .1) (s .pre .0)
 
 enum-known-address : tie.Need-enum-known-address
 enum-known-address c = search needs
 
 returns : tie.Need-returns
 returns c =
-    let s = c .before .before .before .before .before .before .before .before .before .before in
-    address (s .args .line .now) (s .args .at) _ (c .before .before .before .before .before .before .before .before .dotted-quad .ensures) _ _ (c .before .before .before .before .before .before .q .given .1) _ (c .before .before .before .before .eat-word .ensures) _ (c .before .before .address .given .1) (c .if1 .taken)
+    let w = c .before .before .before .before in
+    let q = w .before .before in
+    let d = q .before .before in
+    let s = d .before .before in
+    address (s .args .line .now) (s .args .at) _ (d .dotted-quad .ensures) _ _ (q .q .given .1) _ (w .eat-word .ensures) _ (c .before .before .address .given .1) (c .if1 .taken)
 
 enum-told : tie.Need-enum-told
 enum-told c = search needs
@@ -42,18 +47,25 @@ integer-requires c κs = search needs
 
 returns-2 : tie.Need-returns-2
 returns-2 c =
-    let s = c .before .before .before .before .before .before .before .before .before .before in
-    malformed (s .args .line .now) (s .args .at) _ (c .before .before .before .before .before .before .before .before .dotted-quad .ensures) _ _ (c .before .before .before .before .before .before .q .given .1) _ (c .before .before .before .before .eat-word .ensures) (inr (c .if1 .left))
+    let w = c .before .before .before .before in
+    let q = w .before .before in
+    let d = q .before .before in
+    let s = d .before .before in
+    malformed (s .args .line .now) (s .args .at) _ (d .dotted-quad .ensures) _ _ (q .q .given .1) _ (w .eat-word .ensures) (inr (c .if1 .left))
 
 returns-3 : tie.Need-returns-3
 returns-3 c =
-    let s = c .before .before .before .before .before .before .before .before in
-    malformed (s .args .line .now) (s .args .at) _ (c .before .before .before .before .before .before .dotted-quad .ensures) _ _ (c .before .before .before .before .q .given .1) _ (c .before .before .eat-word .ensures) (inl (c .enum-told .given .1))
+    let w = c .before .before in
+    let q = w .before .before in
+    let d = q .before .before in
+    let s = d .before .before in
+    malformed (s .args .line .now) (s .args .at) _ (d .dotted-quad .ensures) _ _ (q .q .given .1) _ (w .eat-word .ensures) (inl (c .enum-told .given .1))
 
 returns-4 : tie.Need-returns-4
 returns-4 c =
-    let s = c .before .before .before .before .before .before in
-    no-quad (s .args .line .now) (s .args .at) _ (c .before .before .before .before .dotted-quad .ensures) (c .before .before .enum-told2 .given .1) _ (c .before .eat-word2 .ensures) _ (c .integer .ensures)
+    let d = c .before .before .before .before in
+    let s = d .before .before in
+    no-quad (s .args .line .now) (s .args .at) _ (d .dotted-quad .ensures) (c .before .before .enum-told2 .given .1) _ (c .before .eat-word2 .ensures) _ (c .integer .ensures)
 
 pub number-spec : {M : Type 1} → statement M
 number-spec =
