@@ -1,6 +1,6 @@
 -- Reading digits one by one, as the code does.
 use Prim.Native.Nat.{ℕ, suc, _+_, _*_, _-_, _<_, _≤_}
-use mathlib.Core.Path.{_≡_, refl, sym, ap, _∙_}
+use mathlib.Core.Path.{_≡_, refl, sym, _∙_}
 use mathlib.Core.Bool.{Bool, true, false}
 use mathlib.Core.List.{List, [], _∷_}
 use mathlib.Core.Logic.{inl, inr}
@@ -12,11 +12,11 @@ use lib.ListN.{length, getD}
 use lib.Seq.{drop-cons}
 use Rattle.language.specs.Choice.{if′}
 use Rattle.language.specs.Integers.{limit}
-use Rattle.language.specs.Lexemes.{digitOf, readDigits, value, wrong, intOutOfRange, intInvalidSuffix}
+use Rattle.language.specs.Lexemes.{digitOf, readDigits, wrong, intOutOfRange, intInvalidSuffix}
 use Rattle.wide.specs.declared.Wide.{Wide}
 use Rattle.wide.specs.declared.Scaled.{Scaled}
 use Rattle.wide.specs.declared.Scaled.the-variants.{Fits, Over}
-use Rattle.wide.specs.Wide.{word, valueOf, wideOf, fitted, scaled}
+use Rattle.wide.specs.Wide.{valueOf, wideOf, fitted, scaled}
 use Rattle.scan.specs.declared.LexErrorKind.the-variants.{IntOutOfRange, IntInvalidSuffix}
 use Rattle.scan.specs.declared.Number.the-variants.{Value, Wrong}
 use Rattle.scan.specs.Scanning.{between, Base, numberAs}
@@ -73,8 +73,8 @@ module _ {base : ℕ} {s : List ℕ} {at e : ℕ} {v : Wide} {i : ℕ} (r : Read
     step :
         readDigits base 0 (between s at e)
         ≡ if′ (ltb d base)
-          (if′ (ltb (valueOf v * base + d) limit) (readDigits base (valueOf v * base + d) (between s (i + 1) e)) (wrong intOutOfRange))
-          (wrong intInvalidSuffix)
+        (if′ (ltb (valueOf v * base + d) limit) (readDigits base (valueOf v * base + d) (between s (i + 1) e)) (wrong intOutOfRange))
+        (wrong intInvalidSuffix)
     unfolding readDigits
     step = sym (r .same) ∙ rw (between-cons s i e, given)
 

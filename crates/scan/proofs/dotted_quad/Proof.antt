@@ -1,14 +1,10 @@
+-- The invariant: the dots left, after numbers that give the address, come to what the whole quad comes to. The measure is
+-- the dots left.
 use native.Mathlib.Omega.{arith}
 use borrow.Author.Needs.{needs}
 use Rattle.scan.proofs.Quads.{Dots, earlier, start, ends, no-digits, digits, fits, whole, no-dot, next}
 use Rattle.scan.proofs.dotted_quad.Statement.{statement}
 use Rattle.scan.proofs.dotted_quad.Tie as tie
-use Rattle.scan.proofs.dotted_quad.Reads as reads
-use Rattle.scan.proofs.dotted_quad.Lts as lts
-use Rattle.scan.proofs.eat_digits.Reads as eat-digits-reads
-use Rattle.scan.proofs.join.Reads as join-reads
-use Rattle.scan.proofs.peek.Reads as peek-reads
-use Rattle.scan.proofs.quad_part.Reads as quad-part-reads
 
 abbrev Inv-loop : tie.InvT-loop
 Inv-loop line at i₀ dots₀ address₀ i dots address = Dots line at i dots address

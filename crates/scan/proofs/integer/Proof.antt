@@ -1,15 +1,11 @@
+-- A start that is seen in the rest of the line is seen in the word too.
 use mathlib.Core.Path.{refl}
 use mathlib.Core.Logic.{inl, inr}
+use borrow.Author.Needs.{needs}
 use Rattle.scan.specs.declared.Number.the-variants.{Value, Wrong}
 use Rattle.scan.proofs.Numerals.{word-ends, two-digits, hexadecimal, leading-zero, decimal}
-use borrow.Author.Needs.{needs}
 use Rattle.scan.proofs.integer.Statement.{statement}
 use Rattle.scan.proofs.integer.Tie as tie
-use Rattle.scan.proofs.integer.Reads as reads
-use Rattle.scan.proofs.integer.Lts as lts
-use Rattle.scan.proofs.read_digits.Reads as read-digits-reads
-use Rattle.scan.proofs.starts_hex.Reads as starts-hex-reads
-use Rattle.scan.proofs.starts_zero.Reads as starts-zero-reads
 
 starts-hex-requires : tie.Need-starts-hex-requires
 starts-hex-requires c κs = search needs

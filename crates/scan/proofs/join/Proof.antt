@@ -1,10 +1,9 @@
-use Rattle.scan.proofs.Quads.{below}
+-- Neither product nor sum wraps, since an address has room for one number more.
 use native.Mathlib.Omega.{arith}
 use borrow.Author.Needs.{needs}
+use Rattle.scan.proofs.Quads.{below}
 use Rattle.scan.proofs.join.Statement.{statement}
 use Rattle.scan.proofs.join.Tie as tie
-use Rattle.scan.proofs.join.Reads as reads
-use Rattle.scan.proofs.join.Lts as lts
 
 enum-known-address : tie.Need-enum-known-address
 enum-known-address c = search needs

@@ -1,12 +1,9 @@
-use borrow.Author.Needs.{needs}
+-- A base that is not ten is sixteen.
 use native.Mathlib.Omega.{arith}
+use borrow.Author.Needs.{needs}
 use Rattle.scan.proofs.Digits.{sixteen}
 use Rattle.scan.proofs.push_digit.Statement.{statement}
 use Rattle.scan.proofs.push_digit.Tie as tie
-use Rattle.scan.proofs.push_digit.Reads as reads
-use Rattle.scan.proofs.push_digit.Lts as lts
-use Rattle.wide.proofs.Wide.times10_plus.Reads as times10-plus-reads
-use Rattle.wide.proofs.Wide.times16_plus.Reads as times16-plus-reads
 
 times10-plus-requires : tie.Need-times10-plus-requires
 times10-plus-requires c κs = search needs

@@ -1,15 +1,12 @@
-use borrow.Author.Tests.{leb-true, leb-false}
+-- The tests of `octet`, in its order.
 use mathlib.Core.Path.{refl}
 use mathlib.Core.Logic.{inl, ⊎-elim}
 use native.Mathlib.Omega.{arith}
-use Rattle.scan.proofs.Quads.{part-ends, too-long, zero-first, not-number, byte, not-byte}
+use borrow.Author.Tests.{leb-true, leb-false}
 use borrow.Author.Needs.{needs}
+use Rattle.scan.proofs.Quads.{part-ends, too-long, zero-first, not-number, byte, not-byte}
 use Rattle.scan.proofs.quad_part.Statement.{statement}
 use Rattle.scan.proofs.quad_part.Tie as tie
-use Rattle.scan.proofs.quad_part.Reads as reads
-use Rattle.scan.proofs.quad_part.Lts as lts
-use Rattle.scan.proofs.read_digits.Reads as read-digits-reads
-use Rattle.scan.proofs.starts_zero.Reads as starts-zero-reads
 
 sub-if1 : tie.Need-sub-if1
 sub-if1 c = search needs

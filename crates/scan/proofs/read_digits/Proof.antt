@@ -1,13 +1,9 @@
+-- The invariant: from i on, digits that follow v come to what all of them come to. The measure is the digits left.
 use Prim.Native.Nat.{_-_}
 use borrow.Author.Needs.{needs}
 use Rattle.scan.proofs.Digits.{Reading, start, finished, suffix, out-of-range, again}
 use Rattle.scan.proofs.read_digits.Statement.{statement}
 use Rattle.scan.proofs.read_digits.Tie as tie
-use Rattle.scan.proofs.read_digits.Reads as reads
-use Rattle.scan.proofs.read_digits.Lts as lts
-use Rattle.scan.proofs.digit.Reads as digit-reads
-use Rattle.scan.proofs.push_digit.Reads as push-digit-reads
-use Rattle.wide.proofs.Wide.zero.Reads as zero-reads
 
 abbrev Inv-loop : tie.InvT-loop
 Inv-loop line at end base v₀ i₀ v i = Reading base line at end v i

@@ -1,11 +1,8 @@
-use Rattle.scan.proofs.Numerals.{not-hex, not-x, hex-start}
+-- The three bytes one after the other, as `startsHex` tests them.
 use borrow.Author.Needs.{needs}
+use Rattle.scan.proofs.Numerals.{not-hex, not-x, hex-start}
 use Rattle.scan.proofs.starts_hex.Statement.{statement}
 use Rattle.scan.proofs.starts_hex.Tie as tie
-use Rattle.scan.proofs.starts_hex.Reads as reads
-use Rattle.scan.proofs.starts_hex.Lts as lts
-use Rattle.scan.proofs.digit.Reads as digit-reads
-use Rattle.scan.proofs.peek.Reads as peek-reads
 
 peek-requires : tie.Need-peek-requires
 peek-requires c κs = search needs

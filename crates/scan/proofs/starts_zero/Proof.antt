@@ -1,11 +1,8 @@
-use Rattle.scan.proofs.Numerals.{not-zero, zero-start}
+-- The two bytes one after the other, as `startsZero` tests them.
 use borrow.Author.Needs.{needs}
+use Rattle.scan.proofs.Numerals.{not-zero, zero-start}
 use Rattle.scan.proofs.starts_zero.Statement.{statement}
 use Rattle.scan.proofs.starts_zero.Tie as tie
-use Rattle.scan.proofs.starts_zero.Reads as reads
-use Rattle.scan.proofs.starts_zero.Lts as lts
-use Rattle.scan.proofs.is_digit.Reads as is-digit-reads
-use Rattle.scan.proofs.peek.Reads as peek-reads
 
 peek-requires : tie.Need-peek-requires
 peek-requires c κs = search needs

@@ -1,13 +1,9 @@
+-- A quad, with or without word characters after it, or else the integer that the word is.
 use mathlib.Core.Logic.{inl, inr}
-use Rattle.scan.proofs.Quads.{quad-ends, address, malformed, no-quad}
 use borrow.Author.Needs.{needs}
+use Rattle.scan.proofs.Quads.{quad-ends, address, malformed, no-quad}
 use Rattle.scan.proofs.Scanner.number.Statement.{statement}
 use Rattle.scan.proofs.Scanner.number.Tie as tie
-use Rattle.scan.proofs.Scanner.number.Reads as reads
-use Rattle.scan.proofs.Scanner.number.Lts as lts
-use Rattle.scan.proofs.dotted_quad.Reads as dotted-quad-reads
-use Rattle.scan.proofs.eat_word.Reads as eat-word-reads
-use Rattle.scan.proofs.integer.Reads as integer-reads
 
 dotted-quad-requires : tie.Need-dotted-quad-requires
 dotted-quad-requires c κs = search needs
