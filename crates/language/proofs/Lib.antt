@@ -5,3 +5,7 @@ pub mod Utf8Rows
 pub mod Utf8
 pub mod Integers
 pub mod LexemeExamples
+pub mod LexemeSizes
+pub mod LexemeSpans
+pub mod LexemeDigits
+pub mod TokenExamples

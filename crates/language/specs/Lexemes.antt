@@ -1,14 +1,14 @@
 -- What stands at a place of a line (01, "Lexemes"). Everything is said of the rest of the line from that place on: the
 -- lexeme that starts there, and how many bytes it takes.
-use Prim.Native.Nat.{ℕ, zero, suc, _+_, _-_, _*_}
+use Prim.Native.Nat.{ℕ, zero, suc, _+_, _-_, _*_, _≤_, _<_}
 use mathlib.Core.Path.{_≡_}
 use mathlib.Core.Bool.{Bool, true, false, _&&_, _||_, not}
-use mathlib.Core.List.{List, [], _∷_, _++_}
+use mathlib.Core.List.{List, [], _∷_, _++_, map, List·Memᴰ}
 use mathlib.Core.Option.{Option, none, some}
 use lib.Dec.{leb, ltb, eqb}
 use lib.ListN.{length, getD, take, drop}
 use Rattle.language.specs.Choice.{if′, within}
-use Rattle.language.specs.Integers.{limit}
+use Rattle.language.specs.Integers.{limit, valueOf}
 use Rattle.language.specs.Utf8.{Range, to, Char, char, noChar, charAt}
 
 -- ---- the names of lex.rs
@@ -277,3 +277,71 @@ scanFrom zero at (b ∷ s) = placed at (lexeme (b ∷ s)) ∷ scanFrom (lexeme (
 
 abbrev pub scan : List ℕ → List Placed
 scan line = scanFrom 0 0 line
+
+-- ---- the claims
+
+-- each lexeme has a byte at least, and ends within the line
+abbrev pub SizeFits : Type 0
+SizeFits = (b : ℕ) (s : List ℕ) → (0 < lexeme (b ∷ s) .size) × (lexeme (b ∷ s) .size ≤ length (b ∷ s))
+
+-- spans one after the other from `at` to e, none empty
+pub data Join : ℕ → ℕ → List Placed → Type 0 where
+  joined-none : {at : ℕ} → Join at at []
+  joined-one : {e : ℕ} {ps : List Placed} (p : Placed) → p .start < p .end → Join (p .end) e ps → Join (p .start) e (p ∷ ps)
+
+-- "Non-empty spans, joined in order, give the line", "within as many steps as the line has bytes"
+abbrev pub SpansJoin : Type 0
+SpansJoin = (line : List ℕ) → Join 0 (length line) (scan line) × (length (scan line) ≤ length line)
+
+-- each lexeme of a line is the one that its rule gives at its start
+abbrev pub EachByItsRule : Type 0
+EachByItsRule =
+    (line : List ℕ) (p : Placed) → List·Memᴰ p (scan line)
+    → (p .start < length line) × (p ≡ placed (p .start) (lexeme (drop (p .start) line)))
+
+-- the equations that a reader expects: no lexeme of nothing; else the first, and then those of what is left
+abbrev pub ScanUnfolds : Type 0
+ScanUnfolds =
+    (at : ℕ) → (scanFrom 0 at [] ≡ [])
+    × ((b : ℕ) (s : List ℕ)
+    → scanFrom 0 at (b ∷ s)
+    ≡ placed at (lexeme (b ∷ s)) ∷ scanFrom 0 (at + lexeme (b ∷ s) .size) (drop (lexeme (b ∷ s) .size) (b ∷ s)))
+
+abbrev pub all : (ℕ → Bool) → List ℕ → Bool
+all p [] = true
+all p (b ∷ s) = p b && all p s
+
+-- bytes that are digits of a base, and the value that they have in plain positional notation
+abbrev pub areDigits : ℕ → List ℕ → Bool
+areDigits base bs = all (λ b. ltb (digitOf b) base) bs
+
+abbrev pub positional : ℕ → List ℕ → ℕ
+positional base bs = valueOf base (map digitOf bs)
+
+-- a number is read exactly where all are digits and their value is below 2^127, and it is that value
+abbrev pub DigitsRead : Type 0
+DigitsRead =
+    (base : ℕ) → 1 < base → (bs : List ℕ) (n : ℕ)
+    → (readDigits base 0 bs ≡ value n → (areDigits base bs ≡ true) × (positional base bs ≡ n) × (n < limit))
+    × (areDigits base bs ≡ true → positional base bs ≡ n → n < limit → readDigits base 0 bs ≡ value n)
+
+-- what stands before the first byte that decides: digits whose value is below 2^127
+abbrev pub Before : ℕ → List ℕ → Type 0
+Before base p = (areDigits base p ≡ true) × (positional base p < limit)
+
+-- `IntInvalidSuffix` exactly where the byte after them is no digit
+abbrev pub SuffixFound : Type 0
+SuffixFound =
+    (base : ℕ) → 1 < base
+    → ((bs : List ℕ) → readDigits base 0 bs ≡ wrong intInvalidSuffix
+    → (p : List ℕ) × (b : ℕ) × (q : List ℕ) × (bs ≡ p ++ b ∷ q) × Before base p × (base ≤ digitOf b))
+    × ((p : List ℕ) (b : ℕ) (q : List ℕ) → Before base p → base ≤ digitOf b → readDigits base 0 (p ++ b ∷ q) ≡ wrong intInvalidSuffix)
+
+-- `IntOutOfRange` exactly where it is one, and with it the value is 2^127 or more
+abbrev pub RangeFound : Type 0
+RangeFound =
+    (base : ℕ) → 1 < base
+    → ((bs : List ℕ) → readDigits base 0 bs ≡ wrong intOutOfRange
+    → (p : List ℕ) × (b : ℕ) × (q : List ℕ) × (bs ≡ p ++ b ∷ q) × Before base p × (digitOf b < base) × (limit ≤ positional base (p ++ b ∷ [])))
+    × ((p : List ℕ) (b : ℕ) (q : List ℕ) → Before base p → digitOf b < base → limit ≤ positional base (p ++ b ∷ [])
+    → readDigits base 0 (p ++ b ∷ q) ≡ wrong intOutOfRange)

@@ -1,8 +1,10 @@
 -- The rows of the lent tables: which words each has, and the number of each kind. docs/TABLES.md says the same in prose.
-use Prim.Native.Nat.{ℕ, _/_, _%_}
+use Prim.Native.Nat.{ℕ, suc, _/_, _%_}
+use lib.ListN.{length}
 use mathlib.Core.Bool.{Bool, true, false}
 use mathlib.Core.List.{List, [], _∷_}
 use Rattle.language.specs.Lexemes.{Tok, lParen, rParen, dot, doubleColon, colon, semiColon, equals, comma, slash, importKeyword, letKeyword, identifier, booleanLiteral, ipv4Literal, hexLiteral, decLiteral, LexErrorKind, unexpectedChar, unterminatedString, intOutOfRange, intLeadingZero, intInvalidSuffix, badIPv4Literal, Kind, trivia, str, tok, error, Placed}
+use Rattle.language.specs.Tokens.{Content, eof, plain, name, string, Token}
 
 -- ---- kinds
 
@@ -29,24 +31,46 @@ abbrev pub bit : Bool → ℕ
 bit true = 1
 bit false = 0
 
+-- 2^64: a number takes two words, the low one first
+abbrev pub word : ℕ
+word = 0x10000000000000000
+
 -- the value that a token carries, 0 where it carries none
-abbrev pub tokValue : Tok → ℕ
-tokValue lParen = 0
-tokValue rParen = 0
-tokValue dot = 0
-tokValue doubleColon = 0
-tokValue colon = 0
-tokValue semiColon = 0
-tokValue equals = 0
-tokValue comma = 0
-tokValue slash = 0
-tokValue importKeyword = 0
-tokValue letKeyword = 0
-tokValue identifier = 0
-tokValue (booleanLiteral b) = bit b
-tokValue (ipv4Literal n) = n
-tokValue (hexLiteral n) = n
-tokValue (decLiteral n) = n
+abbrev pub tokLow : Tok → ℕ
+tokLow lParen = 0
+tokLow rParen = 0
+tokLow dot = 0
+tokLow doubleColon = 0
+tokLow colon = 0
+tokLow semiColon = 0
+tokLow equals = 0
+tokLow comma = 0
+tokLow slash = 0
+tokLow importKeyword = 0
+tokLow letKeyword = 0
+tokLow identifier = 0
+tokLow (booleanLiteral b) = bit b
+tokLow (ipv4Literal n) = n
+tokLow (hexLiteral n) = n % word
+tokLow (decLiteral n) = n % word
+
+abbrev pub tokHigh : Tok → ℕ
+tokHigh lParen = 0
+tokHigh rParen = 0
+tokHigh dot = 0
+tokHigh doubleColon = 0
+tokHigh colon = 0
+tokHigh semiColon = 0
+tokHigh equals = 0
+tokHigh comma = 0
+tokHigh slash = 0
+tokHigh importKeyword = 0
+tokHigh letKeyword = 0
+tokHigh identifier = 0
+tokHigh (booleanLiteral b) = 0
+tokHigh (ipv4Literal n) = 0
+tokHigh (hexLiteral n) = n / word
+tokHigh (decLiteral n) = n / word
 
 -- the kinds of lexical errors, in the order of lex.rs without its `StringLiteral`
 abbrev pub errorKind : LexErrorKind → ℕ
@@ -83,15 +107,45 @@ kindOf str = 0
 kindOf (tok t) = tokKind t
 kindOf (error e) = errorKind e
 
-abbrev pub valueOf : Kind → ℕ
-valueOf trivia = 0
-valueOf str = 0
-valueOf (tok t) = tokValue t
-valueOf (error e) = errorChar e
+abbrev pub lowOf : Kind → ℕ
+lowOf trivia = 0
+lowOf str = 0
+lowOf (tok t) = tokLow t
+lowOf (error e) = errorChar e
 
--- 2^64: a number in two words, the low one first
-abbrev pub word : ℕ
-word = 0x10000000000000000
+abbrev pub highOf : Kind → ℕ
+highOf trivia = 0
+highOf str = 0
+highOf (tok t) = tokHigh t
+highOf (error e) = 0
 
 unfoldable pub lexemeRow : Placed → List ℕ
-lexemeRow p = p .start ∷ p .end ∷ classOf (p .kind) ∷ kindOf (p .kind) ∷ (valueOf (p .kind) % word) ∷ (valueOf (p .kind) / word) ∷ []
+lexemeRow p = p .start ∷ p .end ∷ classOf (p .kind) ∷ kindOf (p .kind) ∷ lowOf (p .kind) ∷ highOf (p .kind) ∷ []
+
+-- ---- a token's row: kind, line, column, start, end, and its value in two words
+
+abbrev pub tokenWidth : ℕ
+tokenWidth = 7
+
+abbrev pub contentKind : Content → ℕ
+contentKind eof = 1
+contentKind (plain t) = tokKind t
+contentKind (name bs) = 13
+contentKind (string b bs) = 16
+
+-- of a string how many bodies it has
+abbrev pub contentLow : Content → ℕ
+contentLow eof = 0
+contentLow (plain t) = tokLow t
+contentLow (name bs) = 0
+contentLow (string b bs) = suc (length bs)
+
+abbrev pub contentHigh : Content → ℕ
+contentHigh eof = 0
+contentHigh (plain t) = tokHigh t
+contentHigh (name bs) = 0
+contentHigh (string b bs) = 0
+
+unfoldable pub tokenRow : Token → List ℕ
+tokenRow t =
+    contentKind (t .content) ∷ t .line ∷ t .column ∷ t .start ∷ t .end ∷ contentLow (t .content) ∷ contentHigh (t .content) ∷ []

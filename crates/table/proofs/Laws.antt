@@ -68,6 +68,10 @@ module _ {A : Type 0} (row : A → List ℕ) where
   unfolding tabled
   length-tabled width n xs = length-pad n (flat row (take (n / width) xs))
 
+  -- a table's own length is the one that its rows are laid out for
+  pub tabled-own : {t : List ℕ} (width k n : ℕ) (xs : List A) → t ≡ tabled row width k xs → length t ≡ n → t ≡ tabled row width n xs
+  tabled-own width k n xs e l = e ∙ ap (λ (m : ℕ). tabled row width m xs) (sym (length-tabled width k xs) ∙ sym (ap length e) ∙ l)
+
   -- a table that holds no row is zero from end to end
   pub tabled-none : (width n : ℕ) → tabled row width n [] ≡ padTo n []
   unfolding tabled

@@ -1,0 +1,68 @@
+-- What scanning a line answers and leaves, for each way that it goes.
+use mathlib.Core.Path.{_≡_, refl, sym, ap, _∙_}
+use mathlib.Core.Bool.{Bool, true, false}
+use mathlib.Core.List.{List, []}
+use mathlib.Core.Option.{Option, none, some}
+use Prim.Native.Nat.{ℕ, suc, _+_, _≤_, _<_, _/_}
+use native.Mathlib.Numerals.{add-one}
+use native.Mathlib.Omega.{arith}
+use borrow.Author.Tests.{lt-ltb, le-ltb}
+use lib.Dec.{eqb}
+use lib.ListN.{length}
+use Rattle.table.specs.Table.{padTo, tabled}
+use Rattle.table.proofs.Laws.{pad-own, tabled-none, tabled-own}
+use Rattle.language.specs.Utf8.{firstBad}
+use Rattle.language.specs.Lexemes.{scan}
+use Rattle.language.specs.Tables.{lexemeRow, lexemeWidth}
+use Rattle.language.specs.Numbers as numbers
+use Rattle.language.specs.Numbers.{verdict, scanned, scanAnswer, scanTable}
+use Rattle.utf8.specs.Decoding.{badOf}
+use Rattle.utf8.specs.declared.Bad.the-variants.{At, Nowhere}
+use Rattle.scan.specs.declared.Verdict.{Verdict}
+use Rattle.scan.specs.declared.Scanned.{Scanned}
+use Rattle.scan.specs.Scanning.{verdictAs, scannedAs}
+
+bad-at : (o : Option ℕ) (at : ℕ) → At at ≡ badOf o → o ≡ some at
+bad-at (some x) at e = cc
+bad-at none at e = let z : _≡_ {A = ℕ} 0 1 = cc in absurd (omega arith)
+
+bad-nowhere : (o : Option ℕ) → Nowhere ≡ badOf o → o ≡ none
+bad-nowhere (some x) e = let z : _≡_ {A = ℕ} 0 1 = cc in absurd (omega arith)
+bad-nowhere none e = refl
+
+module _ (line : List ℕ) (room : ℕ) where
+  pub too-long : 65536 < length line → scanAnswer line room ≡ scanned (verdict 1 0 0) 0
+  unfolding scanAnswer
+  too-long h = rw (lt-ltb _ _ h)
+
+  module _ (h : length line ≤ 65536) where
+    pub bad-byte : (at : ℕ) → At at ≡ badOf (firstBad line) → scanAnswer line room ≡ scanned (verdict 2 1 (at + 1)) 0
+    unfolding scanAnswer
+    bad-byte at e = rw (le-ltb _ _ h, bad-at (firstBad line) at e, add-one, scanAnswer)
+
+    pub full : Nowhere ≡ badOf (firstBad line) → (k : ℕ) → k ≡ length (scan line) → room < k → scanAnswer line room ≡ scanned (verdict 4 0 0) 0
+    unfolding scanAnswer
+    full e k c m = rw (le-ltb _ _ h, bad-nowhere (firstBad line) e, scanAnswer, ← c, lt-ltb _ _ m)
+
+    pub fits : Nowhere ≡ badOf (firstBad line) → (k : ℕ) → k ≡ length (scan line) → k ≤ room → scanAnswer line room ≡ scanned (verdict 0 0 0) k
+    unfolding scanAnswer
+    fits e k c m = rw (le-ltb _ _ h, bad-nowhere (firstBad line) e, scanAnswer, ← c, le-ltb _ _ m)
+
+abbrev pub result : Verdict → ℕ → Scanned
+result v k = record { verdict = v; count = k }
+
+module _ (line : List ℕ) (n : ℕ) where
+  -- a refusal leaves a table of zeros
+  pub refused : (v : numbers.Verdict) → eqb (v .number) 0 ≡ false → scanAnswer line (n / lexemeWidth) ≡ scanned v 0
+      → (w : Verdict) → w ≡ verdictAs v → {t : List ℕ} (k : ℕ) → t ≡ padTo k [] → length t ≡ n
+      → (result w 0 ≡ scannedAs (scanAnswer line (n / lexemeWidth))) × (t ≡ scanTable line n)
+  unfolding scanTable
+  refused v not-0 e w d k z l =
+      (rw (e, d), pad-own k n [] z l ∙ rw (e, not-0) (sym (tabled-none lexemeRow lexemeWidth n)))
+
+  -- what is done leaves every lexeme's row
+  pub accepted : (count : ℕ) → scanAnswer line (n / lexemeWidth) ≡ scanned (verdict 0 0 0) count
+      → (w : Verdict) → w ≡ verdictAs (verdict 0 0 0) → {t : List ℕ} (k : ℕ) → t ≡ tabled lexemeRow lexemeWidth k (scan line) → length t ≡ n
+      → (result w count ≡ scannedAs (scanAnswer line (n / lexemeWidth))) × (t ≡ scanTable line n)
+  unfolding scanTable
+  accepted count e w d k z l = (rw (e, d), tabled-own lexemeRow lexemeWidth k n (scan line) z l ∙ rw e)

@@ -1,0 +1,34 @@
+use Rattle.scan.proofs.Starts.{run-ends, string-closed, string-open}
+use Rattle.language.specs.Lexemes.{isBody}
+use mathlib.Core.Path.{_≡_, refl, sym, ap, _∙_}
+use Prim.Native.Nat.{_+_}
+use native.Mathlib.Omega.{arith}
+use borrow.Author.Needs.{needs}
+use Rattle.scan.proofs.string.Statement.{statement}
+use Rattle.scan.proofs.string.Tie as tie
+use Rattle.scan.proofs.string.Reads as reads
+use Rattle.scan.proofs.string.Lts as lts
+use Rattle.scan.proofs.eat_body.Reads as eat-body-reads
+use Rattle.scan.proofs.peek.Reads as peek-reads
+
+add-eat-body : tie.Need-add-eat-body
+add-eat-body c = search needs
+
+eat-body-requires : tie.Need-eat-body-requires
+eat-body-requires c κs = search needs
+
+peek-requires : tie.Need-peek-requires
+peek-requires c κs = search needs
+
+add-t7 : tie.Need-add-t7
+add-t7 c = let e = run-ends (c .before .before .before .before .args .line .now) ((c .before .before .before .before .args .at) + 1) isBody (omega arith) in let r = c .before .before .eat-body .ensures in omega arith
+
+returns : tie.Need-returns
+returns c = string-closed (c .before .before .before .before .args .line .now) (c .before .before .before .before .args .at) _ (c .before .before .eat-body .ensures) (sym (c .before .peek .ensures) ∙ c .if1 .taken)
+
+returns-2 : tie.Need-returns-2
+returns-2 c = string-open (c .before .before .before .before .args .line .now) (c .before .before .before .before .args .at) _ (c .before .before .eat-body .ensures) (λ z. c .if1 .left (c .before .peek .ensures ∙ z))
+
+pub string-spec : {M : Type 1} → statement M
+string-spec =
+    tie.close (tie.spec add-eat-body eat-body-requires peek-requires add-t7 returns returns-2)

@@ -1,0 +1,862 @@
+// The scanner: what stands at each place of a line. Ports lex.rs `Scanner`, `Lexeme` and `LexemeKind`; the definitions
+// are `Lexemes` of the crate `language`.
+ghost use mathlib.Core.Path.{_≡_};
+ghost use mathlib.Core.Bool.{true};
+ghost use mathlib.Core.List.{[]};
+ghost use mathlib.Core.Option.{some};
+ghost use Prim.Native.Nat.{_+_, _-_, _≤_, _<_, _/_};
+ghost use lib.ListN.{length, take, drop, getD};
+ghost use Rattle.language.specs.Lexemes.{isBlank, isDigit, isWordStart, isWord, isBody, notNewline, digitOf, readDigits, startsHex, startsZero, integer, octet, quadFrom, number, comment, string, punctuation, ascii, lexeme};
+ghost use Rattle.language.specs.Lexemes.{scan};
+ghost use Rattle.language.specs.Tables.{lexemeRow, lexemeWidth};
+ghost use Rattle.language.specs.Numbers.{scanAnswer, scanTable};
+ghost use Rattle.table.specs.Table.{padTo, tabled};
+ghost use Rattle.wide.specs.Wide.{valueOf, scaled};
+ghost use Rattle.scan.specs.Scanning.{between, runEnd, blankEnd, spelled, wordAt, Base, numberAs, octetAs, Below, joinedAs, quadAs, kindAs, markAs, lexemeAs, signOf, stepAt, bodyOf, tokNumber, tokValue, errorNumber, errorChar, classNumber, kindNumber, kindValue, rowOf, scannedAs};
+use utf8::Bad;
+use utf8::Decoded;
+use wide::Scaled;
+use wide::Wide;
+
+// A token of the resynth language. The bytes of an `Identifier` and of a `StringLiteral` are its span.
+pub enum Tok {
+    LParen,
+    RParen,
+    Dot,
+    DoubleColon,
+    Colon,
+    SemiColon,
+    Equals,
+    Comma,
+    Slash,
+    ImportKeyword,
+    LetKeyword,
+    Identifier,
+    BooleanLiteral(bool),
+    IPv4Literal(u32),
+    HexLiteral(Wide),
+    DecLiteral(Wide),
+}
+
+// What is wrong with the source.
+pub enum LexErrorKind {
+    // No token starts with this character.
+    UnexpectedChar(u32),
+    // A `"` with no closing `"` on the same line.
+    UnterminatedString,
+    // An integer literal of 2^127 or more.
+    IntOutOfRange,
+    // A decimal integer literal with a leading zero.
+    IntLeadingZero,
+    // An integer literal with an unrecognized suffix.
+    IntInvalidSuffix,
+    IPv4Literal,
+}
+
+impl Tok {
+    // The number of its kind, in the order of lex.rs; 1 is `Eof` and 16 `StringLiteral`.
+    pub fn kind(self) -> u64
+        ensures { λ r. ⌜ r ≡ tokNumber self ⌝ }
+    {
+        match self {
+            Tok::LParen => 2,
+            Tok::RParen => 3,
+            Tok::Dot => 4,
+            Tok::DoubleColon => 5,
+            Tok::Colon => 6,
+            Tok::SemiColon => 7,
+            Tok::Equals => 8,
+            Tok::Comma => 9,
+            Tok::Slash => 10,
+            Tok::ImportKeyword => 11,
+            Tok::LetKeyword => 12,
+            Tok::Identifier => 13,
+            Tok::BooleanLiteral(_) => 14,
+            Tok::IPv4Literal(_) => 15,
+            Tok::HexLiteral(_) => 17,
+            Tok::DecLiteral(_) => 18,
+        }
+    }
+
+    // The value that a literal carries.
+    pub fn value(self) -> Wide
+        ensures { λ r. ⌜ r ≡ tokValue self ⌝ }
+    {
+        match self {
+            Tok::BooleanLiteral(b) => Wide {
+                hi: 0,
+                lo: b as u64,
+            },
+            Tok::IPv4Literal(a) => Wide {
+                hi: 0,
+                lo: a as u64,
+            },
+            Tok::HexLiteral(v) => v,
+            Tok::DecLiteral(v) => v,
+            _ => Wide { hi: 0, lo: 0 },
+        }
+    }
+}
+
+impl LexErrorKind {
+    // The number of its kind, in the order of lex.rs without its `StringLiteral`.
+    pub fn kind(self) -> u64
+        ensures { λ r. ⌜ r ≡ errorNumber self ⌝ }
+    {
+        match self {
+            LexErrorKind::UnexpectedChar(_) => 1,
+            LexErrorKind::UnterminatedString => 2,
+            LexErrorKind::IntOutOfRange => 3,
+            LexErrorKind::IntLeadingZero => 4,
+            LexErrorKind::IntInvalidSuffix => 5,
+            LexErrorKind::IPv4Literal => 6,
+        }
+    }
+
+    // The character of an `UnexpectedChar`.
+    pub fn character(self) -> u64
+        ensures { λ r. ⌜ r ≡ errorChar self ⌝ }
+    {
+        if let LexErrorKind::UnexpectedChar(c) = self {
+            return c as u64;
+        }
+        0
+    }
+}
+
+// What the scanner found at one position in a line.
+pub enum LexemeKind {
+    // White space or a comment.
+    Trivia,
+    // A string literal, its body between the quotes.
+    Str,
+    Tok(Tok),
+    Error(LexErrorKind),
+}
+
+pub struct Lexeme {
+    pub start: usize,
+    pub end: usize,
+    pub kind: LexemeKind,
+}
+
+// ---- characters
+
+// White space, but not byte 10.
+fn is_space(c: u32) -> bool
+    ensures { λ r. ⌜ r ≡ isBlank c ⌝ }
+{
+    match c {
+        0x09 | 0x0B..=0x0D | 0x20 | 0x85 | 0xA0 | 0x1680 => true,
+        0x2000..=0x200A | 0x2028..=0x2029 | 0x202F | 0x205F | 0x3000 => true,
+        _ => false,
+    }
+}
+
+fn is_digit(b: u8) -> bool
+    ensures { λ r. ⌜ r ≡ isDigit b ⌝ }
+{
+    (48 <= b) & (b <= 57)
+}
+
+fn is_word_start(b: u8) -> bool
+    ensures { λ r. ⌜ r ≡ isWordStart b ⌝ }
+{
+    (97 <= b) & (b <= 122) | (65 <= b) & (b <= 90) | (b == 95)
+}
+
+fn is_word(b: u8) -> bool
+    ensures { λ r. ⌜ r ≡ isWord b ⌝ }
+{
+    is_word_start(b) | is_digit(b)
+}
+
+// ---- runs: the end of the longest run of bytes of one kind
+
+fn eat_digits(line: &[u8], at: usize) -> usize
+    requires { ⌜ at ≤ length (now line) ⌝ }
+    ensures { λ r. ⌜ r ≡ runEnd isDigit (now (line .entry)) at ⌝ }
+{
+    let mut i = at;
+    while i < line.len() {
+        let b = line[i];
+        if !is_digit(b) {
+            return i;
+        }
+        i += 1;
+    }
+    i
+}
+
+fn eat_word(line: &[u8], at: usize) -> usize
+    requires { ⌜ at ≤ length (now line) ⌝ }
+    ensures { λ r. ⌜ r ≡ runEnd isWord (now (line .entry)) at ⌝ }
+{
+    let mut i = at;
+    while i < line.len() {
+        let b = line[i];
+        if !is_word(b) {
+            return i;
+        }
+        i += 1;
+    }
+    i
+}
+
+fn eat_body(line: &[u8], at: usize) -> usize
+    requires { ⌜ at ≤ length (now line) ⌝ }
+    ensures { λ r. ⌜ r ≡ runEnd isBody (now (line .entry)) at ⌝ }
+{
+    let mut i = at;
+    while i < line.len() {
+        let b = line[i];
+        if (b == 34) | (b == 10) {
+            return i;
+        }
+        i += 1;
+    }
+    i
+}
+
+fn eat_comment(line: &[u8], at: usize) -> usize
+    requires { ⌜ at ≤ length (now line) ⌝ }
+    ensures { λ r. ⌜ r ≡ runEnd notNewline (now (line .entry)) at ⌝ }
+{
+    let mut i = at;
+    while i < line.len() {
+        if line[i] == 10 {
+            return i;
+        }
+        i += 1;
+    }
+    i
+}
+
+// The end of the longest run of blank characters.
+fn eat_spaces(line: &[u8], at: usize) -> usize
+    requires { ⌜ at ≤ length (now line) ⌝ }
+    ensures { λ r. ⌜ r ≡ blankEnd (now (line .entry)) at ⌝ }
+{
+    let mut i = at;
+    while i < line.len() {
+        let d = utf8::decode(line, i);
+        match d {
+            Decoded::Read(c, next) => {
+                if !is_space(c) {
+                    return i;
+                }
+                i = next;
+            }
+            Decoded::Nothing => {
+                return i;
+            }
+        }
+    }
+    i
+}
+
+// ---- words
+
+// Whether a word is `key`.
+fn is_key(line: &[u8], at: usize, end: usize, key: &[u8]) -> bool
+    requires { ⌜ (at ≤ end) × (end ≤ length (now line)) ⌝ }
+    ensures { λ r. ⌜ r ≡ spelled (now (line .entry)) at end (now (key .entry)) ⌝ }
+{
+    let size = end - at;
+    if size != key.len() {
+        return false;
+    }
+    let mut i = 0;
+    while i < key.len() {
+        let p = at + i;
+        if line[p] != key[i] {
+            return false;
+        }
+        i += 1;
+    }
+    true
+}
+
+// Classifies a word: a keyword, a boolean literal, or else an identifier.
+fn word(line: &[u8], at: usize, end: usize) -> Tok
+    requires { ⌜ (at ≤ end) × (end ≤ length (now line)) ⌝ }
+    ensures { λ r. ⌜ r ≡ wordAt (now (line .entry)) at end ⌝ }
+{
+    if is_key(line, at, end, b"import") {
+        return Tok::ImportKeyword;
+    }
+    if is_key(line, at, end, b"let") {
+        return Tok::LetKeyword;
+    }
+    if is_key(line, at, end, b"true") {
+        return Tok::BooleanLiteral(true);
+    }
+    if is_key(line, at, end, b"false") {
+        return Tok::BooleanLiteral(false);
+    }
+    Tok::Identifier
+}
+
+// ---- numbers
+
+// What reading digits came to.
+pub enum Number {
+    Value(Wide),
+    Wrong(LexErrorKind),
+}
+
+// What a digit stands for, 16 where a byte is no digit.
+fn digit(b: u8) -> u64
+    ensures { λ r. ⌜ r ≡ digitOf b ⌝ }
+{
+    match b {
+        48..=57 => (b - 48) as u64,
+        97..=102 => (b - 87) as u64,
+        65..=70 => (b - 55) as u64,
+        _ => 16,
+    }
+}
+
+// The value with a digit more, in a base of 10 or 16.
+fn push_digit(v: Wide, base: u64, d: u64) -> Scaled
+    requires { ⌜ (d < base) × Base base ⌝ }
+    ensures { λ r. ⌜ r ≡ scaled base (valueOf v) d ⌝ }
+{
+    if base == 10 {
+        return v.times10_plus(d);
+    }
+    v.times16_plus(d)
+}
+
+// The digits from `at` up to `end`. A byte that is no digit is found before a value that is too large.
+fn read_digits(line: &[u8], at: usize, end: usize, base: u64) -> Number
+    requires { ⌜ (at ≤ end) × (end ≤ length (now line)) × Base base ⌝ }
+    ensures { λ r. ⌜ r ≡ numberAs (readDigits base 0 (between (now (line .entry)) at end)) ⌝ }
+{
+    let mut v = Wide::zero();
+    let mut i = at;
+    while i < end {
+        let b = line[i];
+        let d = digit(b);
+        if base <= d {
+            return Number::Wrong(LexErrorKind::IntInvalidSuffix);
+        }
+        let Scaled::Fits(next) = push_digit(v, base, d) else {
+            return Number::Wrong(LexErrorKind::IntOutOfRange);
+        };
+        v = next;
+        i += 1;
+    }
+    Number::Value(v)
+}
+
+// The byte at a place, 0 past the end.
+fn peek(line: &[u8], at: usize) -> u8
+    ensures { λ r. ⌜ r ≡ getD (now (line .entry)) at 0 ⌝ }
+{
+    if at < line.len() {
+        return line[at];
+    }
+    0
+}
+
+// `0x` and a hex digit.
+fn starts_hex(line: &[u8], at: usize) -> bool
+    requires { ⌜ at < length (now line) ⌝ }
+    ensures { λ r. ⌜ r ≡ startsHex (drop at (now (line .entry))) ⌝ }
+{
+    if peek(line, at) != 48 {
+        return false;
+    }
+    if peek(line, at + 1) != 120 {
+        return false;
+    }
+    let b = peek(line, at + 2);
+    digit(b) < 16
+}
+
+// `0` and another digit.
+fn starts_zero(line: &[u8], at: usize) -> bool
+    requires { ⌜ at < length (now line) ⌝ }
+    ensures { λ r. ⌜ r ≡ startsZero (drop at (now (line .entry))) ⌝ }
+{
+    if peek(line, at) != 48 {
+        return false;
+    }
+    let b = peek(line, at + 1);
+    is_digit(b)
+}
+
+// The integer that a word is.
+fn integer(line: &[u8], at: usize, end: usize) -> LexemeKind
+    requires { ⌜ (at < length (now line)) × (end ≡ runEnd isWord (now line) at) ⌝ }
+    ensures { λ r. ⌜ r ≡ kindAs (integer (between (now (line .entry)) at end)) ⌝ }
+{
+    if starts_hex(line, at) {
+        let n = read_digits(line, at + 2, end, 16);
+        return match n {
+            Number::Value(v) => LexemeKind::Tok(Tok::HexLiteral(v)),
+            Number::Wrong(e) => LexemeKind::Error(e),
+        };
+    }
+    if starts_zero(line, at) {
+        return LexemeKind::Error(LexErrorKind::IntLeadingZero);
+    }
+    let n = read_digits(line, at, end, 10);
+    match n {
+        Number::Value(v) => LexemeKind::Tok(Tok::DecLiteral(v)),
+        Number::Wrong(e) => LexemeKind::Error(e),
+    }
+}
+
+// A number of a quad, or the address that several make.
+pub enum Octet {
+    Good(u32),
+    Bad,
+}
+
+// A number of a quad: at most three digits, no leading zero, up to 255.
+fn quad_part(line: &[u8], at: usize, end: usize) -> Octet
+    requires { ⌜ (at < end) × (end ≡ runEnd isDigit (now line) at) ⌝ }
+    ensures { λ r. ⌜ r ≡ octetAs (octet (between (now (line .entry)) at end)) ⌝ }
+{
+    if 3 < end - at {
+        return Octet::Bad;
+    }
+    if starts_zero(line, at) {
+        return Octet::Bad;
+    }
+    let n = read_digits(line, at, end, 10);
+    let Number::Value(v) = n else {
+        return Octet::Bad;
+    };
+    let lo = v.lo;
+    if v.hi == 0 && lo <= 255 {
+        return Octet::Good(lo as u32);
+    }
+    Octet::Bad
+}
+
+pub enum Quad {
+    // Four runs of digits with dots between: where they end, and their address.
+    Dotted(usize, Octet),
+    Not,
+}
+
+// An address with one number more.
+fn join(address: Octet, n: Octet) -> Octet
+    requires { ⌜ Below 16777216 address × Below 256 n ⌝ }
+    ensures { λ r. ⌜ r ≡ joinedAs address n ⌝ }
+{
+    match address {
+        Octet::Good(a) => match n {
+            Octet::Good(m) => Octet::Good(a * 256 + m),
+            Octet::Bad => Octet::Bad,
+        },
+        Octet::Bad => Octet::Bad,
+    }
+}
+
+// Four runs of digits with dots between, from `at` on.
+fn dotted_quad(line: &[u8], at: usize) -> Quad
+    requires { ⌜ at < length (now line) ⌝ }
+    ensures { λ r. ⌜ r ≡ quadAs at (quadFrom 3 (some 0) (drop at (now (line .entry)))) ⌝ }
+{
+    let mut i = at;
+    let mut dots: usize = 3;
+    let mut address = Octet::Good(0);
+    loop {
+        let end = eat_digits(line, i);
+        if end == i {
+            return Quad::Not;
+        }
+        let n = quad_part(line, i, end);
+        address = join(address, n);
+        if dots == 0 {
+            return Quad::Dotted(end, address);
+        }
+        if peek(line, end) != 46 {
+            return Quad::Not;
+        }
+        i = end + 1;
+        dots -= 1;
+    }
+}
+
+// ---- strings, comments and punctuation
+
+// A string literal whose opening quote is at `at`.
+fn string(line: &[u8], at: usize) -> Lexeme
+    requires { ⌜ at < length (now line) ⌝ }
+    ensures { λ r. ⌜ r ≡ lexemeAs at (string (drop (at + 1) (now (line .entry)))) ⌝ }
+{
+    let end = eat_body(line, at + 1);
+    if peek(line, end) == 34 {
+        return Lexeme {
+            start: at,
+            end: end + 1,
+            kind: LexemeKind::Str,
+        };
+    }
+    Lexeme {
+        start: at,
+        end: end,
+        kind: LexemeKind::Error(LexErrorKind::UnterminatedString),
+    }
+}
+
+// A token, or none.
+pub enum Mark {
+    Is(Tok),
+    Not,
+}
+
+// The punctuation that is one byte long wherever it stands.
+fn punctuation(b: u8) -> Mark
+    ensures { λ r. ⌜ r ≡ markAs (punctuation b) ⌝ }
+{
+    match b {
+        40 => Mark::Is(Tok::LParen),
+        41 => Mark::Is(Tok::RParen),
+        46 => Mark::Is(Tok::Dot),
+        59 => Mark::Is(Tok::SemiColon),
+        61 => Mark::Is(Tok::Equals),
+        44 => Mark::Is(Tok::Comma),
+        _ => Mark::Not,
+    }
+}
+
+fn token(at: usize, end: usize, tok: Tok) -> Lexeme
+    ensures { λ r. ⌜ r ≡ record { start = at; end = end; kind = LexemeKind.Tok tok } ⌝ }
+{
+    Lexeme {
+        start: at,
+        end: end,
+        kind: LexemeKind::Tok(tok),
+    }
+}
+
+fn comment(line: &[u8], at: usize) -> Lexeme
+    requires { ⌜ at < length (now line) ⌝ }
+    ensures { λ r. ⌜ r ≡ lexemeAs at (comment 1 (drop (at + 1) (now (line .entry)))) ⌝ }
+{
+    Lexeme {
+        start: at,
+        end: eat_comment(line, at + 1),
+        kind: LexemeKind::Trivia,
+    }
+}
+
+fn unexpected(at: usize, end: usize, c: u32) -> Lexeme
+    ensures { λ r. ⌜ r ≡ record { start = at; end = end; kind = LexemeKind.Error (LexErrorKind.UnexpectedChar c) } ⌝ }
+{
+    Lexeme {
+        start: at,
+        end: end,
+        kind: LexemeKind::Error(LexErrorKind::UnexpectedChar(c)),
+    }
+}
+
+// ---- the scanner
+
+// A position within one line.
+pub struct Scanner {
+    pub pos: usize,
+}
+
+// What the scanner finds next.
+pub enum Step {
+    Found(Lexeme, Scanner),
+    Done,
+}
+
+impl Scanner {
+    // How many bytes a source, and so a line, may have.
+    pub const MOST_BYTES: usize = 65536;
+    // How many words a row of the lexeme table has.
+    pub const ROW_WORDS: usize = 6;
+
+    pub fn new() -> Self
+        ensures { λ r. ⌜ r .pos ≡ 0 ⌝ }
+    {
+        Self { pos: 0 }
+    }
+
+    pub fn next(self, line: &[u8]) -> Step
+        ensures { λ r. ⌜ r ≡ stepAt (now (line .entry)) (self .pos) ⌝ }
+    {
+        let at = self.pos;
+        if at < line.len() {
+            let found = Scanner::lexeme(line, at);
+            return Step::Found(found, Scanner { pos: found.end });
+        }
+        Step::Done
+    }
+
+    // Whatever starts at `at`.
+    fn lexeme(line: &[u8], at: usize) -> Lexeme
+        requires { ⌜ at < length (now line) ⌝ }
+        ensures { λ r. ⌜ r ≡ lexemeAs at (lexeme (drop at (now (line .entry)))) ⌝ }
+    {
+        let d = utf8::decode(line, at);
+        match d {
+            Decoded::Read(c, next) => {
+                if is_space(c) {
+                    return Lexeme {
+                        start: at,
+                        end: eat_spaces(line, at),
+                        kind: LexemeKind::Trivia,
+                    };
+                }
+                if c < 128 {
+                    return Scanner::ascii(line, at);
+                }
+                unexpected(at, next, c)
+            }
+            Decoded::Nothing => {
+                let b = line[at];
+                unexpected(at, at + 1, b as u32)
+            }
+        }
+    }
+
+    // What starts with an ASCII character that is not blank.
+    fn ascii(line: &[u8], at: usize) -> Lexeme
+        requires { ⌜ at < length (now line) ⌝ }
+        ensures { λ r. ⌜ r ≡ lexemeAs at (ascii (getD (now (line .entry)) at 0) (drop (at + 1) (now (line .entry)))) ⌝ }
+    {
+        let b = line[at];
+        if is_word_start(b) {
+            let end = eat_word(line, at);
+            return token(at, end, word(line, at, end));
+        }
+        if is_digit(b) {
+            return Scanner::number(line, at);
+        }
+        let mark = punctuation(b);
+        if let Mark::Is(t) = mark {
+            return token(at, at + 1, t);
+        }
+        Scanner::sign(line, at)
+    }
+
+    // A comment, `/`, `:`, `::`, a string literal, or what no token starts with.
+    fn sign(line: &[u8], at: usize) -> Lexeme
+        requires { ⌜ at < length (now line) ⌝ }
+        ensures { λ r. ⌜ r ≡ lexemeAs at (signOf (now (line .entry)) at) ⌝ }
+    {
+        let b = line[at];
+        let next = peek(line, at + 1);
+        if b == 35 {
+            return comment(line, at);
+        }
+        if b == 47 {
+            if next == 47 {
+                return comment(line, at);
+            }
+            return token(at, at + 1, Tok::Slash);
+        }
+        if b == 58 {
+            if next == 58 {
+                return token(at, at + 2, Tok::DoubleColon);
+            }
+            return token(at, at + 1, Tok::Colon);
+        }
+        if b == 34 {
+            return string(line, at);
+        }
+        unexpected(at, at + 1, b as u32)
+    }
+
+    // What starts with a digit.
+    //
+    // Four runs of digits separated by `.` are an IPv4 literal. Otherwise, a run of word characters starting with `0x` and
+    // a hex digit is a hex literal, and any other is a decimal literal. Any word characters which follow the literal are
+    // part of it, so that `123abc` is one malformed literal, and not a literal followed by an identifier.
+    fn number(line: &[u8], at: usize) -> Lexeme
+        requires { ⌜ (at < length (now line)) × (isDigit (getD (now line) at 0) ≡ true) ⌝ }
+        ensures { λ r. ⌜ r ≡ lexemeAs at (number (drop at (now (line .entry)))) ⌝ }
+    {
+        let q = dotted_quad(line, at);
+        match q {
+            Quad::Dotted(dotted, address) => {
+                let end = eat_word(line, dotted);
+                if let Octet::Good(a) = address {
+                    if end == dotted {
+                        return Lexeme {
+                            start: at,
+                            end: end,
+                            kind: LexemeKind::Tok(Tok::IPv4Literal(a)),
+                        };
+                    }
+                }
+                Lexeme {
+                    start: at,
+                    end: end,
+                    kind: LexemeKind::Error(LexErrorKind::IPv4Literal),
+                }
+            }
+            Quad::Not => {
+                let end = eat_word(line, at);
+                Lexeme {
+                    start: at,
+                    end: end,
+                    kind: integer(line, at, end),
+                }
+            }
+        }
+    }
+}
+
+// The body of a string literal from `start` up to `end`: the part of the line between its quotes.
+pub fn body(line: &[u8], start: usize, end: usize) -> &[u8]
+    ensures { λ r. ⌜ now r ≡ bodyOf (now (line .entry)) start end ⌝ }
+{
+    if end <= line.len() {
+        if start < end {
+            if start + 1 < end {
+                return &line[start + 1..end - 1];
+            }
+        }
+    }
+    &line[..0]
+}
+
+// ---- the entry
+
+// What a call came to: its number, which kind of it, where, and the character of an `UnexpectedChar`. All zero: done.
+pub struct Verdict {
+    pub number: u64,
+    pub kind: u64,
+    pub line: u64,
+    pub column: u64,
+    pub character: u64,
+}
+
+pub struct Scanned {
+    pub verdict: Verdict,
+    pub count: u64,
+}
+
+impl Verdict {
+    // A number with a place, and no more.
+    pub fn new(number: u64, line: u64, column: u64) -> Self
+        ensures { λ r. ⌜ r ≡ record { number = number; kind = 0; line = line; column = column; character = 0 } ⌝ }
+    {
+        Self {
+            number: number,
+            kind: 0,
+            line: line,
+            column: column,
+            character: 0,
+        }
+    }
+}
+
+fn class_of(kind: LexemeKind) -> u64
+    ensures { λ r. ⌜ r ≡ classNumber kind ⌝ }
+{
+    match kind {
+        LexemeKind::Trivia => 1,
+        LexemeKind::Str => 2,
+        LexemeKind::Tok(_) => 3,
+        LexemeKind::Error(_) => 4,
+    }
+}
+
+fn kind_of(kind: LexemeKind) -> u64
+    ensures { λ r. ⌜ r ≡ kindNumber kind ⌝ }
+{
+    match kind {
+        LexemeKind::Trivia => 0,
+        LexemeKind::Str => 0,
+        LexemeKind::Tok(t) => t.kind(),
+        LexemeKind::Error(e) => e.kind(),
+    }
+}
+
+fn value_of(kind: LexemeKind) -> Wide
+    ensures { λ r. ⌜ r ≡ kindValue kind ⌝ }
+{
+    match kind {
+        LexemeKind::Trivia => Wide { hi: 0, lo: 0 },
+        LexemeKind::Str => Wide { hi: 0, lo: 0 },
+        LexemeKind::Tok(t) => t.value(),
+        LexemeKind::Error(e) => Wide {
+            hi: 0,
+            lo: e.character(),
+        },
+    }
+}
+
+// The six words of a lexeme's row.
+fn row_of(l: Lexeme) -> [u64; 6]
+    ensures { λ r. ⌜ r ≡ rowOf l ⌝ }
+{
+    let kind = l.kind;
+    let value = value_of(kind);
+    [
+        l.start as u64,
+        l.end as u64,
+        class_of(kind),
+        kind_of(kind),
+        value.lo,
+        value.hi,
+    ]
+}
+
+// Writes a row for each lexeme of a line into a table of zeros, and answers how many there are. A row that the table has
+// no room for is counted, and not kept.
+fn fill(line: &[u8], table: &mut [u64]) -> u64
+    requires { ⌜ length (now line) ≤ 65536 ⌝ }
+    requires { ⌜ now table ≡ padTo (length (now table)) [] ⌝ }
+    ensures { λ r. ⌜ r ≡ length (scan (now (line .entry))) ⌝ }
+    ensures { λ _. ⌜ now (table .exit) ≡ tabled lexemeRow lexemeWidth (length (now (table .entry))) (scan (now (line .entry))) ⌝ }
+{
+    let mut scanner = Scanner::new();
+    let mut count: usize = 0;
+    loop {
+        let step = scanner.next(line);
+        let Step::Found(found, next) = step else {
+            return count as u64;
+        };
+        let row = row_of(found);
+        table::put_row(table, count, &row);
+        count += 1;
+        scanner = next;
+    }
+}
+
+// Scans a line, which may hold byte 10, into a lent table of lexemes.
+pub fn scan_line(line: &[u8], table: &mut [u64]) -> Scanned
+    ensures { λ r. ⌜ r ≡ scannedAs (scanAnswer (now (line .entry)) (length (now (table .entry)) / lexemeWidth)) ⌝ }
+    ensures { λ _. ⌜ now (table .exit) ≡ scanTable (now (line .entry)) (length (now (table .entry))) ⌝ }
+{
+    let room = (table.len() / Scanner::ROW_WORDS) as u64;
+    table::clear(table);
+    if Scanner::MOST_BYTES < line.len() {
+        return Scanned {
+            verdict: Verdict::new(1, 0, 0),
+            count: 0,
+        };
+    }
+    let bad = utf8::first_bad(line);
+    if let Bad::At(at) = bad {
+        return Scanned {
+            verdict: Verdict::new(2, 1, at as u64 + 1),
+            count: 0,
+        };
+    }
+    let count = fill(line, table);
+    if room < count {
+        table::clear(table);
+        return Scanned {
+            verdict: Verdict::new(4, 0, 0),
+            count: 0,
+        };
+    }
+    Scanned {
+        verdict: Verdict::new(0, 0, 0),
+        count: count,
+    }
+}
