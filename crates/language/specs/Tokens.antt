@@ -1,8 +1,9 @@
 -- From a source to its tokens: lines, the lexemes of each, and strings that are joined (01, "The edge of the port" and
 -- "Lexemes"). A token is a content beside its place: everything above speaks of contents and of a token's index.
-use Prim.Native.Nat.{ℕ, zero, suc, _+_, _-_}
+use Prim.Native.Nat.{ℕ, zero, suc, _+_, _-_, _≤_, _<_}
+use mathlib.Core.Path.{_≡_}
 use mathlib.Core.Bool.{Bool, true, false}
-use mathlib.Core.List.{List, [], _∷_, _++_, map}
+use mathlib.Core.List.{List, [], _∷_, _++_, map, List·Memᴰ}
 use mathlib.Core.Option.{Option, none, some}
 use lib.Dec.{eqb}
 use lib.ListN.{length, take, drop}
@@ -197,3 +198,47 @@ placeFrom l c (b ∷ s) (suc at) = if′ (eqb b 10) (placeFrom (suc l) 1 s at) (
 
 abbrev pub placeOf : List ℕ → ℕ → Place
 placeOf s at = placeFrom 1 1 s at
+
+-- ---- the claims
+
+abbrev pub between : List ℕ → ℕ → ℕ → List ℕ
+between s at e = take (e - at) (drop at s)
+
+-- a token stands at the place of its first byte; its span is not empty and lies in the source
+abbrev pub PlacesRight : Type 0
+PlacesRight =
+    (s : List ℕ) (t : Token) → List·Memᴰ t (tokensFrom none (items s))
+    → (t .line ≡ placeOf s (t .start) .line) × (t .column ≡ placeOf s (t .start) .column) × (t .start < t .end) × (t .end ≤ length s)
+
+-- tokens stand in order: each starts where the one before it ends, or later
+pub data Ordered : ℕ → List Token → Type 0 where
+  ordered-none : {at : ℕ} → Ordered at []
+  ordered-one : {at : ℕ} {ts : List Token} (t : Token) → at ≤ t .start → t .start ≤ t .end → Ordered (t .end) ts → Ordered at (t ∷ ts)
+
+abbrev pub TokensInOrder : Type 0
+TokensInOrder = (s : List ℕ) → Ordered 0 (tokens s)
+
+-- a name's span holds its bytes
+abbrev pub NamesHeld : Type 0
+NamesHeld =
+    (s : List ℕ) (t : Token) (bs : List ℕ) → List·Memᴰ t (tokens s) → t .content ≡ name bs → between s (t .start) (t .end) ≡ bs
+
+-- the bodies of the literals among the lexemes of a list of bytes, which may hold byte 10
+abbrev pub bodyOf : Kind → List ℕ → List (List ℕ)
+bodyOf trivia bs = []
+bodyOf str bs = unquoted bs ∷ []
+bodyOf (tok t) bs = []
+bodyOf (error e) bs = []
+
+abbrev pub bodiesOf : List ℕ → List Placed → List (List ℕ)
+bodiesOf text [] = []
+bodiesOf text (p ∷ ps) = bodyOf (p .kind) (between text (p .start) (p .end)) ++ bodiesOf text ps
+
+abbrev pub bodiesIn : List ℕ → List (List ℕ)
+bodiesIn text = bodiesOf text (scan text)
+
+-- a string's span holds its bodies, each between its quotes
+abbrev pub BodiesHeld : Type 0
+BodiesHeld =
+    (s : List ℕ) (t : Token) (b : List ℕ) (bs : List (List ℕ)) → List·Memᴰ t (tokens s) → t .content ≡ string b bs
+    → bodiesIn (between s (t .start) (t .end)) ≡ b ∷ bs

@@ -1,0 +1,40 @@
+use borrow.Author.Needs.{needs}
+use Rattle.lex.proofs.Lexer.flush.Statement.{statement}
+use Rattle.lex.proofs.Lexer.flush.Tie as tie
+use Rattle.lex.proofs.Lexer.flush.Reads as reads
+use Rattle.lex.proofs.Lexer.flush.Lts as lts
+use Rattle.lex.proofs.PendingStr.none.Reads as none-reads
+use Rattle.table.proofs.put_row.Reads as put-row-reads
+
+returns : tie.Need-returns
+returns c = ?
+
+slice-aggregate-put-row : tie.Need-slice-aggregate-put-row
+slice-aggregate-put-row c = search needs
+
+put-row-requires : tie.Need-put-row-requires
+put-row-requires c κs = search needs
+
+add-t11 : tie.Need-add-t11
+add-t11 c = search needs
+
+none-requires : tie.Need-none-requires
+none-requires c κs = search needs
+
+same-length : tie.Need-same-length
+same-length c = search needs
+
+returns-2 : tie.Need-returns-2
+returns-2 c = ?
+
+pub flush-spec : {M : Type 1} → statement M
+flush-spec =
+    tie.close
+    (tie.spec
+    returns
+    slice-aggregate-put-row
+    put-row-requires
+    add-t11
+    none-requires
+    same-length
+    returns-2)

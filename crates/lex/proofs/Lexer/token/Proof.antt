@@ -1,0 +1,63 @@
+use borrow.Author.Needs.{needs}
+use Rattle.lex.proofs.Lexer.token.Statement.{statement}
+use Rattle.lex.proofs.Lexer.token.Tie as tie
+use Rattle.lex.proofs.Lexer.token.Reads as reads
+use Rattle.lex.proofs.Lexer.token.Lts as lts
+use Rattle.lex.proofs.Lexer.flush.Reads as flush-reads
+use Rattle.lex.proofs.PendingStr.none.Reads as none-reads
+use Rattle.scan.proofs.Tok.kind.Reads as kind-reads
+use Rattle.scan.proofs.Tok.value.Reads as value-reads
+use Rattle.table.proofs.put_row.Reads as put-row-reads
+
+flush-requires : tie.Need-flush-requires
+flush-requires c κs = search needs
+
+value-requires : tie.Need-value-requires
+value-requires c κs = search needs
+
+kind-requires : tie.Need-kind-requires
+kind-requires c κs = search needs
+
+add-t14 : tie.Need-add-t14
+add-t14 c = search needs
+
+add-t15 : tie.Need-add-t15
+add-t15 c = search needs
+
+add-t17 : tie.Need-add-t17
+add-t17 c = search needs
+
+slice-aggregate-put-row : tie.Need-slice-aggregate-put-row
+slice-aggregate-put-row c = search needs
+
+put-row-requires : tie.Need-put-row-requires
+put-row-requires c κs = ?
+
+add-t15-2 : tie.Need-add-t15-2
+add-t15-2 c = ?
+
+none-requires : tie.Need-none-requires
+none-requires c κs = search needs
+
+same-length : tie.Need-same-length
+same-length c = search needs
+
+returns : tie.Need-returns
+returns c = ?
+
+pub token-spec : {M : Type 1} → statement M
+token-spec =
+    tie.close
+    (tie.spec
+    flush-requires
+    value-requires
+    kind-requires
+    add-t14
+    add-t15
+    add-t17
+    slice-aggregate-put-row
+    put-row-requires
+    add-t15-2
+    none-requires
+    same-length
+    returns)

@@ -1,0 +1,133 @@
+use borrow.Author.Needs.{needs}
+use Rattle.lex.proofs.lex_source.Statement.{statement}
+use Rattle.lex.proofs.lex_source.Tie as tie
+use Rattle.lex.proofs.lex_source.Reads as reads
+use Rattle.lex.proofs.lex_source.Lts as lts
+use Rattle.lex.proofs.Lexer.finish.Reads as finish-reads
+use Rattle.lex.proofs.feed_lines.Reads as feed-lines-reads
+use Rattle.lex.proofs.refused.Reads as refused-reads
+use Rattle.lex.proofs.spot_of.Reads as spot-of-reads
+use Rattle.scan.proofs.Verdict.new.Reads as new-reads
+use Rattle.table.proofs.clear.Reads as clear-reads
+use Rattle.utf8.proofs.first_bad.Reads as first-bad-reads
+
+clear-requires : tie.Need-clear-requires
+clear-requires c κs = search needs
+
+new-requires : tie.Need-new-requires
+new-requires c κs = search needs
+
+refused-requires : tie.Need-refused-requires
+refused-requires c κs = search needs
+
+same-length : tie.Need-same-length
+same-length c = search needs
+
+returns : tie.Need-returns
+returns c = ?
+
+first-bad-requires : tie.Need-first-bad-requires
+first-bad-requires c κs = search needs
+
+enum-known-bad : tie.Need-enum-known-bad
+enum-known-bad c = search needs
+
+spot-of-requires : tie.Need-spot-of-requires
+spot-of-requires c κs = ?
+
+new-requires-2 : tie.Need-new-requires-2
+new-requires-2 c κs = search needs
+
+refused-requires-2 : tie.Need-refused-requires-2
+refused-requires-2 c κs = search needs
+
+same-length-2 : tie.Need-same-length-2
+same-length-2 c = search needs
+
+returns-2 : tie.Need-returns-2
+returns-2 c = ?
+
+enum-told : tie.Need-enum-told
+enum-told c = search needs
+
+feed-lines-requires : tie.Need-feed-lines-requires
+feed-lines-requires c κs = search needs
+
+enum-known-fed : tie.Need-enum-known-fed
+enum-known-fed c = search needs
+
+clear-requires-2 : tie.Need-clear-requires-2
+clear-requires-2 c κs = search needs
+
+refused-requires-3 : tie.Need-refused-requires-3
+refused-requires-3 c κs = search needs
+
+enum-known-fed-2 : tie.Need-enum-known-fed-2
+enum-known-fed-2 c = search needs
+
+finish-requires : tie.Need-finish-requires
+finish-requires c κs = ?
+
+clear-requires-3 : tie.Need-clear-requires-3
+clear-requires-3 c κs = search needs
+
+new-requires-3 : tie.Need-new-requires-3
+new-requires-3 c κs = search needs
+
+refused-requires-4 : tie.Need-refused-requires-4
+refused-requires-4 c κs = search needs
+
+same-length-3 : tie.Need-same-length-3
+same-length-3 c = ?
+
+returns-3 : tie.Need-returns-3
+returns-3 c = ?
+
+new-requires-4 : tie.Need-new-requires-4
+new-requires-4 c κs = search needs
+
+same-length-4 : tie.Need-same-length-4
+same-length-4 c = search needs
+
+returns-4 : tie.Need-returns-4
+returns-4 c = ?
+
+same-length-5 : tie.Need-same-length-5
+same-length-5 c = ?
+
+returns-5 : tie.Need-returns-5
+returns-5 c = ?
+
+pub lex-source-spec : {M : Type 1} → statement M
+lex-source-spec =
+    tie.close
+    (tie.spec
+    clear-requires
+    new-requires
+    refused-requires
+    same-length
+    returns
+    first-bad-requires
+    enum-known-bad
+    spot-of-requires
+    new-requires-2
+    refused-requires-2
+    same-length-2
+    returns-2
+    enum-told
+    feed-lines-requires
+    enum-known-fed
+    clear-requires-2
+    refused-requires-3
+    enum-known-fed-2
+    finish-requires
+    clear-requires-3
+    new-requires-3
+    refused-requires-4
+    same-length-3
+    returns-3
+    new-requires-4
+    same-length-4
+    returns-4
+    same-length-5
+    returns-5)

@@ -1,0 +1,45 @@
+use Rattle.lex.proofs.line_end.Statement.{statement}
+use Rattle.lex.proofs.line_end.Tie as tie
+use Rattle.lex.proofs.line_end.Reads as reads
+use Rattle.lex.proofs.line_end.Lts as lts
+
+abbrev Inv-loop : tie.InvT-loop
+Inv-loop source at i₀ i = ?
+
+abbrev μ-loop : tie.MeasureT-loop
+μ-loop source at i₀ i = ?
+
+loop-holds : tie.Need-loop-holds Inv-loop μ-loop
+loop-holds c = ?
+
+shared-slice-read-if1 : tie.Need-shared-slice-read-if1 Inv-loop μ-loop
+shared-slice-read-if1 c = ?
+
+returns : tie.Need-returns Inv-loop μ-loop
+returns c = ?
+
+add-i : tie.Need-add-i Inv-loop μ-loop
+add-i c = ?
+
+loop-less : tie.Need-loop-less Inv-loop μ-loop
+loop-less c = ?
+
+loop-again : tie.Need-loop-again Inv-loop μ-loop
+loop-again c = ?
+
+returns-2 : tie.Need-returns-2 Inv-loop μ-loop
+returns-2 c = ?
+
+pub line-end-spec : {M : Type 1} → statement M
+line-end-spec =
+    tie.close
+    (tie.spec
+    Inv-loop
+    μ-loop
+    loop-holds
+    shared-slice-read-if1
+    returns
+    add-i
+    loop-less
+    loop-again
+    returns-2)

@@ -1,0 +1,35 @@
+use borrow.Author.Needs.{needs}
+use Rattle.lex.proofs.string_body.Statement.{statement}
+use Rattle.lex.proofs.string_body.Tie as tie
+use Rattle.lex.proofs.string_body.Reads as reads
+use Rattle.lex.proofs.string_body.Lts as lts
+use Rattle.lex.proofs.nth_body.Reads as nth-body-reads
+
+part-nth-body-start : tie.Need-part-nth-body-start
+part-nth-body-start c = search needs
+
+part-nth-body-end : tie.Need-part-nth-body-end
+part-nth-body-end c = search needs
+
+nth-body-requires : tie.Need-nth-body-requires
+nth-body-requires c κs = search needs
+
+returns : tie.Need-returns
+returns c = ?
+
+slice-aggregate-result : tie.Need-slice-aggregate-result
+slice-aggregate-result c = search needs
+
+returns-2 : tie.Need-returns-2
+returns-2 c = ?
+
+pub string-body-spec : {M : Type 1} → statement M
+string-body-spec =
+    tie.close
+    (tie.spec
+    part-nth-body-start
+    part-nth-body-end
+    nth-body-requires
+    returns
+    slice-aggregate-result
+    returns-2)
