@@ -21,6 +21,7 @@ use Rattle.utf8.specs.declared.Bad.the-variants.{At, Nowhere}
 use Rattle.scan.specs.declared.Verdict.{Verdict}
 use Rattle.scan.specs.declared.Scanned.{Scanned}
 use Rattle.scan.specs.Scanning.{verdictAs, scannedAs}
+use Rattle.scan.specs.Entry.{ScanLine}
 
 bad-at : (o : Option ℕ) (at : ℕ) → At at ≡ badOf o → o ≡ some at
 bad-at (some x) at e = cc
@@ -55,14 +56,15 @@ module _ (line : List ℕ) (n : ℕ) where
   -- a refusal leaves a table of zeros
   pub refused : (v : numbers.Verdict) → eqb (v .number) 0 ≡ false → scanAnswer line (n / lexemeWidth) ≡ scanned v 0
       → (w : Verdict) → w ≡ verdictAs v → {t : List ℕ} (k : ℕ) → t ≡ padTo k [] → length t ≡ n
-      → (result w 0 ≡ scannedAs (scanAnswer line (n / lexemeWidth))) × (t ≡ scanTable line n)
+      → ScanLine line n (result w 0) t
   unfolding scanTable
   refused v not-0 e w d k z l =
-      (rw (e, d), pad-own k n [] z l ∙ rw (e, not-0) (sym (tabled-none lexemeRow lexemeWidth n)))
+      record { answer = rw (e, d); table = pad-own k n [] z l ∙ rw (e, not-0) (sym (tabled-none lexemeRow lexemeWidth n)) }
 
   -- what is done leaves every lexeme's row
   pub accepted : (count : ℕ) → scanAnswer line (n / lexemeWidth) ≡ scanned (verdict 0 0 0) count
       → (w : Verdict) → w ≡ verdictAs (verdict 0 0 0) → {t : List ℕ} (k : ℕ) → t ≡ tabled lexemeRow lexemeWidth k (scan line) → length t ≡ n
-      → (result w count ≡ scannedAs (scanAnswer line (n / lexemeWidth))) × (t ≡ scanTable line n)
+      → ScanLine line n (result w count) t
   unfolding scanTable
-  accepted count e w d k z l = (rw (e, d), tabled-own lexemeRow lexemeWidth k n (scan line) z l ∙ rw e)
+  accepted count e w d k z l =
+      record { answer = rw (e, d); table = tabled-own lexemeRow lexemeWidth k n (scan line) z l ∙ rw e }

@@ -9,3 +9,4 @@ pub mod Quads
 pub mod Starts
 pub mod Filling
 pub mod Answers
+pub mod Entry

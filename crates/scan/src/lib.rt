@@ -9,10 +9,10 @@ ghost use lib.ListN.{length, take, drop, getD};
 ghost use Rattle.language.specs.Lexemes.{isBlank, isDigit, isWordStart, isWord, isBody, notNewline, digitOf, readDigits, startsHex, startsZero, integer, octet, quadFrom, number, comment, string, punctuation, ascii, lexeme};
 ghost use Rattle.language.specs.Lexemes.{scan};
 ghost use Rattle.language.specs.Tables.{lexemeRow, lexemeWidth};
-ghost use Rattle.language.specs.Numbers.{scanAnswer, scanTable};
+ghost use Rattle.scan.specs.Entry.{ScanLine};
 ghost use Rattle.table.specs.Table.{padTo, tabled};
 ghost use Rattle.wide.specs.Wide.{valueOf, scaled};
-ghost use Rattle.scan.specs.Scanning.{between, runEnd, blankEnd, spelled, wordAt, Base, numberAs, octetAs, Below, joinedAs, quadAs, kindAs, markAs, lexemeAs, signOf, stepAt, bodyOf, tokNumber, tokValue, errorNumber, errorChar, classNumber, kindNumber, kindValue, rowOf, scannedAs};
+ghost use Rattle.scan.specs.Scanning.{between, runEnd, blankEnd, spelled, wordAt, Base, numberAs, octetAs, Below, joinedAs, quadAs, kindAs, markAs, lexemeAs, signOf, stepAt, bodyOf, tokNumber, tokValue, errorNumber, errorChar, classNumber, kindNumber, kindValue, rowOf};
 use utf8::Bad;
 use utf8::Decoded;
 use wide::Scaled;
@@ -829,8 +829,7 @@ fn fill(line: &[u8], table: &mut [u64]) -> u64
 
 // Scans a line, which may hold byte 10, into a lent table of lexemes.
 pub fn scan_line(line: &[u8], table: &mut [u64]) -> Scanned
-    ensures { λ r. ⌜ r ≡ scannedAs (scanAnswer (now (line .entry)) (length (now (table .entry)) / lexemeWidth)) ⌝ }
-    ensures { λ _. ⌜ now (table .exit) ≡ scanTable (now (line .entry)) (length (now (table .entry))) ⌝ }
+    ensures { λ r. ⌜ ScanLine (now (line .entry)) (length (now (table .entry))) r (now (table .exit)) ⌝ }
 {
     let room = (table.len() / Scanner::ROW_WORDS) as u64;
     table::clear(table);

@@ -1,0 +1,19 @@
+-- What the entry promises, and that it leaves no choice.
+use mathlib.Core.Path.{_≡_}
+use mathlib.Core.List.{List}
+use Prim.Native.Nat.{ℕ, _/_}
+use lib.ListN.{length}
+use Rattle.language.specs.Tables.{lexemeWidth}
+use Rattle.language.specs.Numbers.{scanAnswer, scanTable}
+use Rattle.scan.specs.declared.Scanned.{Scanned}
+use Rattle.scan.specs.Scanning.{scannedAs}
+
+-- of a line and a table of n words: the answer r, and what is left in the table
+pub record ScanLine (line : List ℕ) (n : ℕ) (r : Scanned) (left : List ℕ) : Type 0 where
+  pub answer : r ≡ scannedAs (scanAnswer line (n / lexemeWidth))
+  pub table : left ≡ scanTable line n
+
+-- two results that satisfy it are equal
+abbrev pub ScanDetermined : Type 0
+ScanDetermined =
+    (line : List ℕ) (n : ℕ) (r q : Scanned) (t u : List ℕ) → ScanLine line n r t → ScanLine line n q u → (r ≡ q) × (t ≡ u)
