@@ -1,0 +1,1 @@
+-- One turn of the loop over the lexemes of a line after the other.
