@@ -1,15 +1,15 @@
 -- Feeding the lexemes of a line to the lexer, one turn of the loop after the other.
 use mathlib.Core.Path.{_≡_, refl, sym, ap, _∙_}
 use mathlib.Core.List.{List, [], _∷_, _++_, map, append-assoc, append-nil}
-use mathlib.Core.Option.{Option, none, some}
-use Prim.Native.Nat.{ℕ, suc, _+_, _-_, _≤_, _<_}
+use mathlib.Core.Option.{none, some}
+use Prim.Native.Nat.{ℕ, _+_, _-_, _≤_, _<_}
 use native.Mathlib.Decide.{decLt}
 use native.Mathlib.Omega.{arith}
 use borrow.Author.Tests.{lt-ltb, le-ltb}
 use lib.ListN.{length, getD, take, drop, length-take, length-drop, drop-of-length-le}
 use lib.Seq.{drop-drop}
 use Rattle.language.specs.Lexemes as language
-use Rattle.language.specs.Lexemes.{Kind, trivia, str, tok, error, Placed, placed, scanFrom, lexeme}
+use Rattle.language.specs.Lexemes.{Kind, trivia, str, tok, error, placed, scanFrom, lexeme}
 use Rattle.language.specs.Tokens.{lineAt, Piece, wrong, Item, unquoted, pieceOf, itemOf, Wrong, orElse, firstWrong, between}
 use Rattle.language.specs.Numbers as numbers
 use Rattle.language.proofs.LexemeSizes.{size-fits}
@@ -27,8 +27,8 @@ use Rattle.scan.proofs.Filling.{same-error}
 use Rattle.lex.specs.declared.Lexer.{Lexer}
 use Rattle.lex.specs.declared.Fed.{Fed}
 use Rattle.lex.specs.declared.Fed.the-variants.{Goes, Stops}
-use Rattle.lex.specs.Lexing.{State, stepTo, feed, Holds, Stands, Strings, Tokens, lineItems, FedIs, Feeds}
-use Rattle.lex.proofs.States.{feed-append, wrong-append}
+use Rattle.lex.specs.Lexing.{State, stepTo, feed, Holds, Stands, Strings, Tokens, lineItems, Feeds}
+use Rattle.lex.proofs.States.{feed-append, wrong-after}
 
 never : {A : Type 0} → _≡_ {A = ℕ} 0 1 → A
 never z = absurd (omega arith)
@@ -36,17 +36,18 @@ never z = absurd (omega arith)
 -- ---- a step of the scanner
 
 -- it found the lexeme that stands here, which has a byte and ends within the line, and goes on where that ends
-record Turn (line : List ℕ) (pos : ℕ) (l : Lexeme) (to : ℕ) : Type 0 where
-  begins : l .start ≡ pos
-  ends : l .end ≡ to
-  kind : l .kind ≡ kindAs (lexeme (drop pos line) .kind)
-  past : to ≡ pos + lexeme (drop pos line) .size
-  forth : pos < to
-  within : to ≤ length line
-  rest : scanFrom 0 pos (drop pos line) ≡ placed pos (lexeme (drop pos line)) ∷ scanFrom 0 to (drop to line)
+pub record Turn (line : List ℕ) (pos : ℕ) (l : Lexeme) (to : ℕ) : Type 0 where
+  pub is : l ≡ lexemeAs pos (lexeme (drop pos line))
+  pub begins : l .start ≡ pos
+  pub ends : l .end ≡ to
+  pub kind : l .kind ≡ kindAs (lexeme (drop pos line) .kind)
+  pub past : to ≡ pos + lexeme (drop pos line) .size
+  pub forth : pos < to
+  pub within : to ≤ length line
+  pub rest : scanFrom 0 pos (drop pos line) ≡ placed pos (lexeme (drop pos line)) ∷ scanFrom 0 to (drop to line)
 
 module _ (line : List ℕ) (pos : ℕ) where
-  turn : (l : Lexeme) (next : Scanner) → Found l next ≡ stepAt line pos → Turn line pos l (next .pos)
+  pub turn : (l : Lexeme) (next : Scanner) → Found l next ≡ stepAt line pos → Turn line pos l (next .pos)
   unfolding stepAt
   turn l next e =
       elim (decLt pos (length line)) [
@@ -60,6 +61,7 @@ module _ (line : List ℕ) (pos : ℕ) where
             let b : drop pos line ≡ getD line pos 0 ∷ drop (pos + 1) line = here line pos h in
             let fits : (0 < x .size) × (x .size ≤ length (drop pos line)) = rw b (size-fits (getD line pos 0) (drop (pos + 1) line)) in
             record {
+              is = is;
               begins = ap (λ (m : Lexeme). m .start) is;
               ends = ap (λ (m : Lexeme). m .end) is ∙ sym past;
               kind = ap (λ (m : Lexeme). m .kind) is;
@@ -70,13 +72,13 @@ module _ (line : List ℕ) (pos : ℕ) where
             }
       ]
 
-  -- it stands at the end of the line
-  at-end : Done ≡ stepAt line pos → drop pos line ≡ []
+  -- it found none: it stands at the end of the line
+  pub at-end : Done ≡ stepAt line pos → scanFrom 0 pos (drop pos line) ≡ []
   unfolding stepAt
   at-end e =
       elim (decLt pos (length line)) [
         | yes h ↦ let k : Done ≡ found (lexeme (drop pos line)) pos = e ∙ rw (lt-ltb pos (length line) h) in never (cc)
-        | no h ↦ drop-of-length-le line {i = pos} (omega arith)
+        | no h ↦ rw (drop-of-length-le line {i = pos} (omega arith)) (scan-unfolds pos .0)
       ]
 
 -- ---- a step of the lexer
@@ -119,6 +121,7 @@ wrong-kind str bs e h = never (cc)
 wrong-kind (tok t) bs e h = never (cc)
 wrong-kind (error o) bs e h = (o, refl, cc)
 
+-- the verdict at an error
 verdict-is : (o : language.LexErrorKind) (k : LexErrorKind) (v : Verdict) (start from to : ℕ) {n : ℕ} {i : Item} → k ≡ errorAs o → Stands n start from to i
     → v ≡ record { number = 3; kind = errorNumber k; line = n; column = from + 1; character = errorChar k } → v ≡ verdictAs (numbers.lexical (record { kind = o; at = i }))
 verdict-is o k v start from to e h w = w ∙ rw (e, same-error o .0, same-error o .1, ← h .line, ← h .column)
@@ -178,7 +181,7 @@ module _ (x : Lexer) (t : List ℕ) (start : ℕ) (line : List ℕ) where
           record {
             done = f .done ++ item ∷ [];
             whole = append-assoc (f .done) (item ∷ []) after ∙ whole-here;
-            right = wrong-append (f .done) (item ∷ []) (f .right) ∙ g .right;
+            right = wrong-after (f .done) (item ∷ []) (f .right) ∙ g .right;
             holds = λ s h. rw feed-append (g .holds (feed s (f .done)) (f .holds s h));
             lines = g .lines ∙ f .lines;
             few = omega (arith, g .few, f .few, b .forth);
@@ -198,18 +201,17 @@ module _ (x : Lexer) (t : List ℕ) (start : ℕ) (line : List ℕ) where
             size = f .size;
             few = tt;
             fed =
-                λ s h.
-                (record { kind = o .0; at = item },
-                ap firstWrong (sym whole-here) ∙ wrong-append (f .done) (item ∷ after) (f .right) ∙ rw (o .1),
-                verdict-is (o .0) k v start (l .start) (l .end) (o .2) stands w);
+                λ s h. (
+                  record { kind = o .0; at = item },
+                  ap firstWrong (sym whole-here) ∙ wrong-after (f .done) (item ∷ after) (f .right) ∙ rw (o .1),
+                  verdict-is (o .0) k v start (l .start) (l .end) (o .2) stands w,
+                );
           }
 
     -- at the end of the line all lexemes are fed
     pub finished : Done ≡ stepAt line pos → Feeds x t (Goes y) u (x .lno) (start + length line) (lineItems (x .lno) start line)
     finished e =
-        let k = at-end line pos e in
-        let w : f .done ++ map (itemOf (x .lno) (lineAt start line)) (scanFrom 0 pos []) ≡ lineItems (x .lno) start line = rw k at (f .whole) in
-        let all : f .done ≡ lineItems (x .lno) start line = sym (append-nil (f .done)) ∙ rw (scan-unfolds pos .0) at w in
+        let all : f .done ≡ lineItems (x .lno) start line = sym (append-nil (f .done)) ∙ rw (at-end line pos e) at (f .whole) in
         record {
           size = f .size;
           few = (f .lines, omega (arith, f .few, f .within));

@@ -2,10 +2,10 @@
 use mathlib.Core.Path.{_≡_, refl, sym, ap, _∙_}
 use mathlib.Core.List.{List, [], _∷_, _++_, append-nil}
 use mathlib.Core.Option.{Option, none, some}
-use Prim.Native.Nat.{ℕ, suc, _+_, _*_, _-_, _≤_}
+use Prim.Native.Nat.{ℕ, _+_, _*_}
 use native.Mathlib.Decide.{decLe}
 use native.Mathlib.Omega.{arith}
-use lib.ListN.{length, take, drop, length-append, length-take, length-drop}
+use lib.ListN.{length, length-append}
 use lib.Seq.{length-sets}
 use Rattle.table.specs.Table.{tabled, putRow}
 use Rattle.table.proofs.Laws.{put-fits, put-full, put-next, tabled-own}
@@ -13,13 +13,12 @@ use Rattle.wide.specs.declared.Wide.{Wide}
 use Rattle.language.specs.Lexemes as language
 use Rattle.language.specs.Lexemes.{lParen, rParen, dot, doubleColon, colon, semiColon, equals, comma, slash, importKeyword, letKeyword, identifier, booleanLiteral, ipv4Literal, hexLiteral, decLiteral}
 use Rattle.language.specs.Tables.{tokenRow, tokenWidth}
-use Rattle.language.specs.Tokens.{eof, Token, Piece, gap, body, token, wrong, Item, contentOf, Pending, joined, flushed, pendingToken, itemToken, Wrong, orElse, firstWrong, between}
+use Rattle.language.specs.Tokens.{Token, Piece, gap, body, token, wrong, Item, contentOf, Pending, joined, flushed, pendingToken, itemToken, Wrong, orElse, firstWrong}
 use Rattle.scan.specs.declared.Tok.{Tok}
 use Rattle.scan.specs.Scanning.{tokAs, tokNumber, tokValue}
 use Rattle.lex.specs.declared.PendingStr.{PendingStr}
 use Rattle.lex.specs.declared.Lexer.{Lexer}
-use Rattle.lex.specs.declared.Fed.{Fed}
-use Rattle.lex.specs.Lexing.{State, stated, flushedState, stepTo, feed, PendingIs, Holds, Stands, Strings, Flushes, Tokens, Feeds, Finishes}
+use Rattle.lex.specs.Lexing.{State, stated, flushedState, stepTo, feed, PendingIs, Holds, Stands, Strings, Flushes, Tokens, Finishes}
 
 -- ---- lists of lexemes
 
@@ -28,19 +27,27 @@ unfolding feed
 feed-append s [] js = refl
 feed-append s (i ∷ is) js = feed-append (stepTo (i .piece) i s) is js
 
--- the first error of lexemes that come after some with none
-pub wrong-append : (is js : List Item) → firstWrong is ≡ none → firstWrong (is ++ js) ≡ firstWrong js
+abbrev pub either : Option Wrong → Option Wrong → Option Wrong
+either none o = o
+either (some w) o = some w
+
+pub wrong-append : (is js : List Item) → firstWrong (is ++ js) ≡ either (firstWrong is) (firstWrong js)
 unfolding firstWrong
-wrong-append [] js e = refl
-wrong-append (i ∷ is) js e = go (i .piece) e (wrong-append is js)
+wrong-append [] js = refl
+wrong-append (i ∷ is) js = go (i .piece) (wrong-append is js)
   where
-    go : (p : Piece) → orElse p i (firstWrong is) (λ k j. some (record { kind = k; at = j })) ≡ none
-        → (firstWrong is ≡ none → firstWrong (is ++ js) ≡ firstWrong js)
-        → orElse p i (firstWrong (is ++ js)) (λ k j. some (record { kind = k; at = j })) ≡ firstWrong js
-    go gap k more = more k
-    go (body b) k more = more k
-    go (token c) k more = more k
-    go (wrong x) k more = let z : _≡_ {A = ℕ} 0 1 = cc in absurd (omega arith)
+    here : Piece → Option Wrong → Option Wrong
+    here p o = orElse p i o (λ e j. some (record { kind = e; at = j }))
+
+    go : (p : Piece) → firstWrong (is ++ js) ≡ either (firstWrong is) (firstWrong js) → here p (firstWrong (is ++ js)) ≡ either (here p (firstWrong is)) (firstWrong js)
+    go gap h = h
+    go (body b) h = h
+    go (token c) h = h
+    go (wrong e) h = refl
+
+-- the first error of lexemes that come after some with none
+pub wrong-after : (is js : List Item) → firstWrong is ≡ none → firstWrong (is ++ js) ≡ firstWrong js
+wrong-after is js e = wrong-append is js ∙ rw e
 
 -- ---- a row
 
