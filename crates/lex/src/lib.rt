@@ -134,7 +134,7 @@ impl Lexer {
 
     // A token from `from` up to `to` of the line that starts at `start`.
     fn token(self, start: usize, from: usize, to: usize, tok: Tok, table: &mut [u64]) -> Lexer
-        requires { ⌜ (start + to ≤ 65536) × (from ≤ to) × (self .count ≤ 65536) ⌝ }
+        requires { ⌜ (start + to ≤ 65536) × (from ≤ to) × (self .count + self .pending .bodies ≤ 65536) ⌝ }
         ensures { λ r. ⌜ Tokens self (now (table .entry)) start from to tok r (now (table .exit)) ⌝ }
     {
         let lexer = self.flush(table);
@@ -158,7 +158,7 @@ impl Lexer {
 
     // Lexes the line numbered `lno`, which starts at `start` of the source, lexeme by lexeme.
     fn lexemes(self, line: &[u8], start: usize, table: &mut [u64]) -> Fed
-        requires { ⌜ Few self start × (start + length (now line) ≤ 65536) ⌝ }
+        requires { ⌜ (self .count + self .pending .bodies ≤ start) × (start + length (now line) ≤ 65536) ⌝ }
         ensures { λ r. ⌜ Feeds self (now (table .entry)) r (now (table .exit)) (self .lno) (start + length (now (line .entry))) (lineItems (self .lno) start (now (line .entry))) ⌝ }
     {
         let mut lexer = self;

@@ -53,7 +53,7 @@ same-tok (ipv4Literal n) = record { number = refl; low = refl; high = refl }
 same-tok (hexLiteral n) = record { number = refl; low = refl; high = refl }
 same-tok (decLiteral n) = record { number = refl; low = refl; high = refl }
 
-same-error : (e : language.LexErrorKind) → (errorNumber (errorAs e) ≡ errorKind e) × (errorChar (errorAs e) ≡ tables.errorChar e)
+pub same-error : (e : language.LexErrorKind) → (errorNumber (errorAs e) ≡ errorKind e) × (errorChar (errorAs e) ≡ tables.errorChar e)
 same-error (unexpectedChar c) = (refl, refl)
 same-error unterminatedString = (refl, refl)
 same-error intOutOfRange = (refl, refl)

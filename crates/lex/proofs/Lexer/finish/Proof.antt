@@ -1,3 +1,4 @@
+use Rattle.lex.proofs.States.{finish-after}
 use borrow.Author.Needs.{needs}
 use Rattle.lex.proofs.Lexer.finish.Statement.{statement}
 use Rattle.lex.proofs.Lexer.finish.Tie as tie
@@ -29,7 +30,7 @@ same-length : tie.Need-same-length
 same-length c = search needs
 
 returns : tie.Need-returns
-returns c = ?
+returns c = finish-after _ _ _ _ (c .before .before .before .before .before .before .before .before .before .before .flush .ensures) _ _ (c .none .ensures) _ (c .before .before .before .before .put-row .ensures)
 
 pub finish-spec : {M : Type 1} → statement M
 finish-spec =

@@ -1,3 +1,4 @@
+use Rattle.lex.proofs.States.{flush-none, flush-some}
 use borrow.Author.Needs.{needs}
 use Rattle.lex.proofs.Lexer.flush.Statement.{statement}
 use Rattle.lex.proofs.Lexer.flush.Tie as tie
@@ -7,7 +8,7 @@ use Rattle.lex.proofs.PendingStr.none.Reads as none-reads
 use Rattle.table.proofs.put_row.Reads as put-row-reads
 
 returns : tie.Need-returns
-returns c = ?
+returns c = flush-none _ _ (c .if1 .taken)
 
 slice-aggregate-put-row : tie.Need-slice-aggregate-put-row
 slice-aggregate-put-row c = search needs
@@ -25,7 +26,7 @@ same-length : tie.Need-same-length
 same-length c = search needs
 
 returns-2 : tie.Need-returns-2
-returns-2 c = ?
+returns-2 c = flush-some _ _ _ _ (c .before .before .before .before .before .before .before .if1 .left) (c .before .before .before .before .put-row .ensures) (c .none .ensures)
 
 pub flush-spec : {M : Type 1} → statement M
 flush-spec =

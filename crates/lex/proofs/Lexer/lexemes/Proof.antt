@@ -1,3 +1,9 @@
+use Prim.Native.Nat.{_-_}
+use mathlib.Core.Path.{_≡_, refl, sym, _∙_}
+use lib.ListN.{length}
+use Rattle.lex.proofs.Feeding.{Feeding, begun, shrinks, room, more, stopped, finished}
+use borrow.Author.Needs.{needs}
+use native.Mathlib.Omega.{arith}
 use Rattle.lex.proofs.Lexer.lexemes.Statement.{statement}
 use Rattle.lex.proofs.Lexer.lexemes.Tie as tie
 use Rattle.lex.proofs.Lexer.lexemes.Reads as reads
@@ -9,76 +15,76 @@ use Rattle.scan.proofs.Scanner.new.Reads as new-reads
 use Rattle.scan.proofs.Scanner.next.Reads as next-reads
 
 abbrev Inv-loop : tie.InvT-loop
-Inv-loop line start table₀ lexer₀ scanner₀ table lexer scanner = ?
+Inv-loop line start table₀ lexer₀ scanner₀ table lexer scanner = Feeding lexer₀ table₀ start line lexer table (scanner .pos)
 
 abbrev μ-loop : tie.MeasureT-loop
-μ-loop line start table₀ lexer₀ scanner₀ table lexer scanner = ?
+μ-loop line start table₀ lexer₀ scanner₀ table lexer scanner = length line - scanner .pos
 
 new-requires : tie.Need-new-requires Inv-loop μ-loop
-new-requires c κs = ?
+new-requires c κs = search needs
 
 loop-holds : tie.Need-loop-holds Inv-loop μ-loop
-loop-holds c = ?
+loop-holds c = begun _ _ _ _ (c .before .before .before .pre .0) _ (c .new .ensures)
 
 next-requires : tie.Need-next-requires Inv-loop μ-loop
-next-requires c κs = ?
+next-requires c κs = search needs
 
 enum-known-step : tie.Need-enum-known-step Inv-loop μ-loop
-enum-known-step c = ?
+enum-known-step c = search needs
 
 enum-told : tie.Need-enum-told Inv-loop μ-loop
-enum-told c = ?
+enum-told c = search needs
 
 same-length : tie.Need-same-length Inv-loop μ-loop
-same-length c = ?
+same-length c = c .before .before .before .loop .inv .size
 
 returns : tie.Need-returns Inv-loop μ-loop
-returns c = ?
+returns c = finished _ _ _ _ _ _ _ (c .before .before .before .loop .inv) (sym (c .enum-told .given .1) ∙ c .before .before .next .ensures)
 
 enum-told-2 : tie.Need-enum-told-2 Inv-loop μ-loop
-enum-told-2 c = ?
+enum-told-2 c = search needs
 
 loop-less : tie.Need-loop-less Inv-loop μ-loop
-loop-less c = ?
+loop-less c = shrinks _ _ _ _ _ _ _ (c .before .before .before .before .before .before .loop .inv) _ _ (sym (c .before .before .before .step .given .1) ∙ c .before .before .before .before .before .next .ensures)
 
 loop-again : tie.Need-loop-again Inv-loop μ-loop
-loop-again c = ?
+loop-again c = more _ _ _ _ _ _ _ (c .before .before .before .before .before .before .loop .inv) _ _ (sym (c .before .before .before .step .given .1) ∙ c .before .before .before .before .before .next .ensures) (c .enum-told2 .given .1) (refl, refl)
 
 enum-told-3 : tie.Need-enum-told-3 Inv-loop μ-loop
-enum-told-3 c = ?
+enum-told-3 c = search needs
 
 string-requires : tie.Need-string-requires Inv-loop μ-loop
-string-requires c κs = ?
+string-requires c κs = let r = room _ _ _ _ _ _ _ (c .before .before .before .before .before .before .loop .inv) _ _ (sym (c .before .before .before .step .given .1) ∙ c .before .before .before .before .before .next .ensures) (c .before .before .before .before .before .before .before .before .before .before .pre .1) in (r .0, r .1, omega arith)
 
 loop-less-2 : tie.Need-loop-less-2 Inv-loop μ-loop
-loop-less-2 c = ?
+loop-less-2 c = shrinks _ _ _ _ _ _ _ (c .before .before .before .before .before .before .before .loop .inv) _ _ (sym (c .before .before .before .before .step .given .1) ∙ c .before .before .before .before .before .before .next .ensures)
 
 loop-again-2 : tie.Need-loop-again-2 Inv-loop μ-loop
-loop-again-2 c = ?
+loop-again-2 c = more _ _ _ _ _ _ _ (c .before .before .before .before .before .before .before .loop .inv) _ _ (sym (c .before .before .before .before .step .given .1) ∙ c .before .before .before .before .before .before .next .ensures) (c .before .enum-told3 .given .1) (c .string .ensures, refl)
 
 enum-known-kind : tie.Need-enum-known-kind Inv-loop μ-loop
-enum-known-kind c = ?
+enum-known-kind c = search needs
 
 token-requires : tie.Need-token-requires Inv-loop μ-loop
-token-requires c κs = ?
+token-requires c κs = room _ _ _ _ _ _ _ (c .before .before .before .before .before .before .before .before .loop .inv) _ _ (sym (c .before .before .before .before .before .step .given .1) ∙ c .before .before .before .before .before .before .before .next .ensures) (c .before .before .before .before .before .before .before .before .before .before .before .before .pre .1)
 
 loop-less-3 : tie.Need-loop-less-3 Inv-loop μ-loop
-loop-less-3 c = ?
+loop-less-3 c = shrinks _ _ _ _ _ _ _ (c .before .before .before .before .before .before .before .before .before .before .before .loop .inv) _ _ (sym (c .before .before .before .before .before .before .before .before .step .given .1) ∙ c .before .before .before .before .before .before .before .before .before .before .next .ensures)
 
 loop-again-3 : tie.Need-loop-again-3 Inv-loop μ-loop
-loop-again-3 c = ?
+loop-again-3 c = more _ _ _ _ _ _ _ (c .before .before .before .before .before .before .before .before .before .before .before .loop .inv) _ _ (sym (c .before .before .before .before .before .before .before .before .step .given .1) ∙ c .before .before .before .before .before .before .before .before .before .before .next .ensures) (c .before .before .before .before .before .kind .given .1) (c .before .before .token .ensures)
 
 enum-known-kind-2 : tie.Need-enum-known-kind-2 Inv-loop μ-loop
-enum-known-kind-2 c = ?
+enum-known-kind-2 c = search needs
 
 lexical-requires : tie.Need-lexical-requires Inv-loop μ-loop
-lexical-requires c κs = ?
+lexical-requires c κs = let r = room _ _ _ _ _ _ _ (c .before .before .before .before .before .before .before .loop .inv) _ _ (sym (c .before .before .before .before .step .given .1) ∙ c .before .before .before .before .before .before .next .ensures) (c .before .before .before .before .before .before .before .before .before .before .before .pre .1) in omega arith
 
 same-length-2 : tie.Need-same-length-2 Inv-loop μ-loop
-same-length-2 c = ?
+same-length-2 c = c .before .before .before .before .before .before .before .before .loop .inv .size
 
 returns-2 : tie.Need-returns-2 Inv-loop μ-loop
-returns-2 c = ?
+returns-2 c = stopped _ _ _ _ _ _ _ (c .before .before .before .before .before .before .before .before .loop .inv) _ _ (sym (c .before .before .before .before .before .step .given .1) ∙ c .before .before .before .before .before .before .before .next .ensures) _ _ (c .before .before .kind2 .given .1) (c .lexical .ensures)
 
 pub lexemes-spec : {M : Type 1} → statement M
 lexemes-spec =

@@ -1,3 +1,4 @@
+use Rattle.lex.proofs.Feeding.{part-fits, numbered}
 use borrow.Author.Needs.{needs}
 use Rattle.lex.proofs.Lexer.line.Statement.{statement}
 use Rattle.lex.proofs.Lexer.line.Tie as tie
@@ -18,13 +19,13 @@ part-lexemes-end : tie.Need-part-lexemes-end
 part-lexemes-end c = search needs
 
 lexemes-requires : tie.Need-lexemes-requires
-lexemes-requires c κs = ?
+lexemes-requires c κs = (search needs, part-fits _ _ _ (c .before .before .before .before .before .before .pre .1) (c .before .before .before .before .before .before .pre .2) (c .before .before .before .before .before .before .pre .3))
 
 same-length : tie.Need-same-length
 same-length c = search needs
 
 returns : tie.Need-returns
-returns c = ?
+returns c = numbered _ _ _ (c .before .before .before .before .before .before .before .before .before .pre .1) (c .before .before .before .before .before .before .before .before .before .pre .2) _ _ _ _ _ _ (c .before .before .lexemes .ensures)
 
 pub line-spec : {M : Type 1} → statement M
 line-spec =
