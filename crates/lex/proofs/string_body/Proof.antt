@@ -1,3 +1,7 @@
+use mathlib.Core.Path.{_≡_, refl, sym, ap, _∙_}
+use mathlib.Core.Logic.{⊎-elim}
+use Rattle.lex.proofs.Bodies.{some-part, no-part}
+use native.Mathlib.Omega.{arith}
 use borrow.Author.Needs.{needs}
 use Rattle.lex.proofs.string_body.Statement.{statement}
 use Rattle.lex.proofs.string_body.Tie as tie
@@ -15,13 +19,13 @@ nth-body-requires : tie.Need-nth-body-requires
 nth-body-requires c κs = search needs
 
 returns : tie.Need-returns
-returns c = ?
+returns c = c .nth-body .ensures ∙ some-part _ _ _ _ (c .before .before .before .if1 .taken) (c .before .before .if2 .taken)
 
 slice-aggregate-result : tie.Need-slice-aggregate-result
 slice-aggregate-result c = search needs
 
 returns-2 : tie.Need-returns-2
-returns-2 c = ?
+returns-2 c = no-part _ _ _ _ (⊎-elim (λ w. omega arith) (λ w. omega arith) (c .before .if1 .came))
 
 pub string-body-spec : {M : Type 1} → statement M
 string-body-spec =
