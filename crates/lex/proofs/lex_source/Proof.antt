@@ -83,7 +83,7 @@ refused-requires-4 : tie.Need-refused-requires-4
 refused-requires-4 c κs = search needs
 
 same-length-3 : tie.Need-same-length-3
-same-length-3 c = ?
+same-length-3 c = omega (arith, c .before .before .before .table5 .given, c .before .before .before .before .before .before .before .before .before .table4 .given, c .before .before .before .before .before .before .before .before .before .before .before .before .before .before .before .before .table2 .given, c .before .before .before .before .before .before .before .before .before .before .before .before .before .before .before .before .before .before .before .before .before .before .before .before .table .given)
 
 returns-3 : tie.Need-returns-3
 returns-3 c = refused _ _ (verdict 4 0 0) refl (full _ _ (c .before .before .before .before .before .before .before .before .before .before .before .before .before .before .before .before .before .before .before .before .before .before .if1 .left) (sym (c .before .before .before .before .before .before .before .before .before .before .before .before .before .before .before .before .before .before .before .enum-told .given .1) ∙ c .before .before .before .before .before .before .before .before .before .before .before .before .before .before .before .before .before .before .before .before .before .first-bad .ensures) (no-wrong _ _ _ _ (c .before .before .before .before .before .before .before .before .before .before .before .before .before .before .before .before .before .before .before .before .before .before .before .before .before .clear .ensures) _ (c .before .before .before .before .before .before .before .before .before .before .before .before .before .fed2 .given .1) (c .before .before .before .before .before .before .before .before .before .before .before .before .before .before .before .before .before .feed-lines .ensures)) _ ((finished _ _ _ _ (c .before .before .before .before .before .before .before .before .before .before .before .before .before .before .before .before .before .before .before .before .before .before .before .before .before .clear .ensures) _ (c .before .before .before .before .before .before .before .before .before .before .before .before .before .fed2 .given .1) (c .before .before .before .before .before .before .before .before .before .before .before .before .before .before .before .before .before .feed-lines .ensures) (c .before .before .before .before .before .before .before .before .before .before .finish .ensures)) .counted) (c .before .before .before .before .before .before .if2 .taken)) _ (c .before .new3 .ensures) (c .refused4 .ensures) _ (c .before .before .before .before .clear3 .ensures) (same-length-3 c)
@@ -98,7 +98,7 @@ returns-4 : tie.Need-returns-4
 returns-4 c = let o = stopped _ _ _ _ (c .before .before .before .before .before .before .before .before .before .before .before .before .before .before .before .before .before .before .clear .ensures) _ (c .before .before .before .before .before .before .fed .given .1) (c .before .before .before .before .before .before .before .before .before .before .feed-lines .ensures) in refused _ _ (lexical (o .0)) refl (wrong-one _ _ (c .before .before .before .before .before .before .before .before .before .before .before .before .before .before .before .if1 .left) (sym (c .before .before .before .before .before .before .before .before .before .before .before .before .enum-told .given .1) ∙ c .before .before .before .before .before .before .before .before .before .before .before .before .before .before .first-bad .ensures) _ (o .1)) _ (o .2) (c .refused3 .ensures) _ (c .before .before .before .clear2 .ensures) (same-length-4 c)
 
 same-length-5 : tie.Need-same-length-5
-same-length-5 c = ?
+same-length-5 c = omega (arith, c .before .before .before .before .table4 .given, c .before .before .before .before .before .before .before .before .before .before .before .table2 .given, c .before .before .before .before .before .before .before .before .before .before .before .before .before .before .before .before .before .before .before .table .given)
 
 returns-5 : tie.Need-returns-5
 returns-5 c = accepted _ _ _ (fits _ _ (c .before .before .before .before .before .before .before .before .before .before .before .before .before .before .before .before .before .if1 .left) (sym (c .before .before .before .before .before .before .before .before .before .before .before .before .before .before .enum-told .given .1) ∙ c .before .before .before .before .before .before .before .before .before .before .before .before .before .before .before .before .first-bad .ensures) (no-wrong _ _ _ _ (c .before .before .before .before .before .before .before .before .before .before .before .before .before .before .before .before .before .before .before .before .clear .ensures) _ (c .before .before .before .before .before .before .before .before .fed2 .given .1) (c .before .before .before .before .before .before .before .before .before .before .before .before .feed-lines .ensures)) _ ((finished _ _ _ _ (c .before .before .before .before .before .before .before .before .before .before .before .before .before .before .before .before .before .before .before .before .clear .ensures) _ (c .before .before .before .before .before .before .before .before .fed2 .given .1) (c .before .before .before .before .before .before .before .before .before .before .before .before .feed-lines .ensures) (c .before .before .before .before .before .finish .ensures)) .counted) (c .before .if2 .left)) _ (c .new4 .ensures) _ ((finished _ _ _ _ (c .before .before .before .before .before .before .before .before .before .before .before .before .before .before .before .before .before .before .before .before .clear .ensures) _ (c .before .before .before .before .before .before .before .before .fed2 .given .1) (c .before .before .before .before .before .before .before .before .before .before .before .before .feed-lines .ensures) (c .before .before .before .before .before .finish .ensures)) .rows) (same-length-5 c)
