@@ -1,7 +1,6 @@
 -- The bodies of the literals of a text, and the loop that looks for one.
 use Prim.Native.Nat.{ℕ, zero, suc, _+_, _-_, _≤_, _<_}
 use mathlib.Core.Path.{_≡_, refl, sym, ap, _∙_}
-use mathlib.Core.Bool.{Bool, true, false}
 use mathlib.Core.List.{List, [], _∷_, _++_}
 use mathlib.Core.Logic.{inl, inr}
 use mathlib.Core.Option.{Option, none, some}
@@ -14,10 +13,9 @@ use denote.Enum.Declared.{tagOf}
 use lib.Dec.{eqb, ltb}
 use lib.ListN.{length, getD, take, drop, length-drop, drop-of-length-le}
 use lib.Seq.{drop-cons, drop-drop, take-take, length-take-le}
-use Rattle.language.specs.Choice.{if′}
 use Rattle.language.specs.Utf8.{Char, char, noChar, charAt}
 use Rattle.language.specs.Lexemes as language
-use Rattle.language.specs.Lexemes.{Tok, Kind, trivia, str, tok, error, Placed, placed, scanFrom, scan, lexeme, lexemeOf, LexErrorKind, Number, value, wrong, numbered, integer, readDigits, startsHex, startsZero, Quad, quad, notQuad, quadFrom, quadLexeme, number, string, punctuation, ascii, lexemeAt, isBlank, isDigit, isWord, isWordStart, isBody, run, hexLiteral, decLiteral}
+use Rattle.language.specs.Lexemes.{Tok, Kind, trivia, str, tok, error, placed, scanFrom, lexeme, Number, value, wrong, numbered, integer, readDigits, startsHex, startsZero, Quad, quad, notQuad, quadFrom, quadLexeme, number, string, punctuation, ascii, lexemeAt, isBlank, isDigit, isWord, isWordStart, isBody, run, hexLiteral, decLiteral}
 use Rattle.language.specs.Tokens.{unquoted, between, bodyOf, bodiesOf, bodiesIn}
 use Rattle.language.proofs.LexemeSizes.{by-cases, size-fits}
 use Rattle.language.proofs.LexemeSpans.{scan-unfolds}
@@ -31,139 +29,118 @@ use Rattle.scan.proofs.LexemeKind as kind
 use Rattle.scan.proofs.Parts.{some-body}
 use Rattle.lex.specs.Lexing.{nth, bodyAt}
 
--- ---- a literal has two quotes
+never : {A : Type 0} → _≡_ {A = ℕ} 0 1 → A
+never z = absurd (omega arith)
+
+-- ---- a literal has both quotes
+
+abbrev quotes : Kind → ℕ
+quotes trivia = 0
+quotes str = 2
+quotes (tok t) = 0
+quotes (error e) = 0
 
 abbrev Quoted : language.Lexeme → Type 0
-Quoted l = l .kind ≡ str → 2 ≤ l .size
+Quoted l = quotes (l .kind) ≤ l .size
 
--- a kind that is no literal
-abbrev Other : Kind → Type 0
-Other k = k ≡ str → ⊥
+-- an integer is none
+number-plain : (f : ℕ → Tok) (n : Number) → quotes (numbered f n) ≡ 0
+number-plain f (value n) = refl
+number-plain f (wrong x) = refl
 
-other-tok : (t : Tok) → Other (tok t)
-other-tok t e = let z : _≡_ {A = ℕ} 0 1 = cc in omega arith
-
-other-error : (x : LexErrorKind) → Other (error x)
-other-error x e = let z : _≡_ {A = ℕ} 0 1 = cc in omega arith
-
-other-trivia : Other trivia
-other-trivia e = let z : _≡_ {A = ℕ} 0 1 = cc in omega arith
-
-other-number : (f : ℕ → Tok) (n : Number) → Other (numbered f n)
-other-number f (value n) = other-tok (f n)
-other-number f (wrong x) = other-error x
-
-other-integer : (w : List ℕ) → Other (integer w)
+integer-plain : (w : List ℕ) → quotes (integer w) ≡ 0
 unfolding integer
-other-integer w =
-    by-cases Other (startsHex w) (λ _. other-number hexLiteral (readDigits 16 0 (drop 2 w)))
-    (λ _. by-cases Other (startsZero w) (λ _. other-error _) (λ _. other-number decLiteral (readDigits 10 0 w)))
+integer-plain w =
+    let P : Kind → Type 0 = λ k. quotes k ≡ 0 in
+    by-cases P (startsHex w) (λ _. number-plain hexLiteral (readDigits 16 0 (drop 2 w)))
+    (λ _. by-cases P (startsZero w) (λ _. refl) (λ _. number-plain decLiteral (readDigits 10 0 w)))
 
--- so a lexeme of that kind is none
-not-one : (k : Kind) (n : ℕ) → Other k → Quoted (lexemeOf k n)
-not-one k n o e = absurd (o e)
+-- nor is a quad
+quad-quoted : (n : ℕ) (a : Option ℕ) (more : ℕ) → Quoted (quadLexeme n a more)
+quad-quoted n (some a) zero = omega arith
+quad-quoted n (some a) (suc more) = omega arith
+quad-quoted n none more = omega arith
 
-quoted-quad : (n : ℕ) (a : Option ℕ) (more : ℕ) → Quoted (quadLexeme n a more)
-quoted-quad n (some a) zero = not-one _ n (other-tok _)
-quoted-quad n (some a) (suc more) = not-one _ (n + suc more) (other-error _)
-quoted-quad n none more = not-one _ (n + more) (other-error _)
-
-quoted-number : (s : List ℕ) → Quoted (number s)
+number-quoted : (s : List ℕ) → Quoted (number s)
 unfolding number
-quoted-number s = go (quadFrom 3 (some 0) s) refl
+number-quoted s = go (quadFrom 3 (some 0) s) refl
   where
     go : (q : Quad) → quadFrom 3 (some 0) s ≡ q → Quoted (number s)
-    go (quad n a) e = rw (e, number) (quoted-quad n a (run isWord (drop n s)))
-    go notQuad e = rw (e, number) (not-one _ (run isWord s) (other-integer (take (run isWord s) s)))
+    go (quad n a) e = rw (e, number) (quad-quoted n a (run isWord (drop n s)))
+    go notQuad e = rw (e, number) (omega (arith, integer-plain (take (run isWord s) s)))
 
-quoted-string : (s : List ℕ) → Quoted (string s)
+string-quoted : (s : List ℕ) → Quoted (string s)
 unfolding string
-quoted-string s =
-    let n = run isBody s in
-    by-cases Quoted (eqb (getD s n 0) 34) (λ _ e. omega arith) (λ _. not-one _ (n + 1) (other-error _))
+string-quoted s = by-cases Quoted (eqb (getD s (run isBody s) 0) 34) (λ _. omega arith) (λ _. omega arith)
 
-quoted-ascii : (o : Option Tok) (b : ℕ) (s : List ℕ) → punctuation b ≡ o → Quoted (ascii b s)
+ascii-quoted : (o : Option Tok) (b : ℕ) (s : List ℕ) → punctuation b ≡ o → Quoted (ascii b s)
 unfolding ascii
-quoted-ascii (some t) b s e = rw (e, ascii) (not-one _ 1 (other-tok t))
-quoted-ascii none b s e =
-    let trivial : (n : ℕ) → Quoted (lexemeOf trivia n) = λ n. not-one trivia n other-trivia in
-    let one : (t : Tok) (n : ℕ) → Quoted (lexemeOf (tok t) n) = λ t n. not-one (tok t) n (other-tok t) in
+ascii-quoted (some t) b s e = rw (e, ascii) (omega arith)
+ascii-quoted none b s e =
     rw (e, ascii)
-    (by-cases Quoted (eqb b 35) (λ _. trivial _)
-    (λ _. by-cases Quoted (eqb b 47) (λ _. by-cases Quoted (eqb (getD s 0 0) 47) (λ _. trivial _) (λ _. one _ _))
-    (λ _. by-cases Quoted (eqb b 58) (λ _. by-cases Quoted (eqb (getD s 0 0) 58) (λ _. one _ _) (λ _. one _ _))
-    (λ _. by-cases Quoted (eqb b 34) (λ _. quoted-string s)
-    (λ _. by-cases Quoted (isWordStart b) (λ _. one _ _)
-    (λ _. by-cases Quoted (isDigit b) (λ _. quoted-number (b ∷ s))
-    (λ _. not-one _ 1 (other-error _))))))))
+    (by-cases Quoted (eqb b 35) (λ _. omega arith)
+    (λ _. by-cases Quoted (eqb b 47) (λ _. by-cases Quoted (eqb (getD s 0 0) 47) (λ _. omega arith) (λ _. omega arith))
+    (λ _. by-cases Quoted (eqb b 58) (λ _. by-cases Quoted (eqb (getD s 0 0) 58) (λ _. omega arith) (λ _. omega arith))
+    (λ _. by-cases Quoted (eqb b 34) (λ _. string-quoted s)
+    (λ _. by-cases Quoted (isWordStart b) (λ _. omega arith)
+    (λ _. by-cases Quoted (isDigit b) (λ _. number-quoted (b ∷ s)) (λ _. omega arith)))))))
 
-quoted-at : (c : Char) (b : ℕ) (s : List ℕ) → Quoted (lexemeAt c b s)
-quoted-at noChar b s = not-one _ 1 (other-error _)
-quoted-at (char c size) b s =
-    by-cases Quoted (isBlank c) (λ _. not-one trivia _ other-trivia)
-    (λ _. by-cases Quoted (ltb c 128) (λ _. quoted-ascii (punctuation b) b s refl) (λ _. not-one _ size (other-error _)))
+at-quoted : (c : Char) (b : ℕ) (s : List ℕ) → Quoted (lexemeAt c b s)
+at-quoted noChar b s = omega arith
+at-quoted (char c size) b s =
+    by-cases Quoted (isBlank c) (λ _. omega arith)
+    (λ _. by-cases Quoted (ltb c 128) (λ _. ascii-quoted (punctuation b) b s refl) (λ _. omega arith))
 
-quoted : (b : ℕ) (s : List ℕ) → Quoted (lexeme (b ∷ s))
+quoted : (s : List ℕ) → Quoted (lexeme s)
 unfolding lexeme
-quoted b s = quoted-at (charAt (b ∷ s)) b s
+quoted [] = omega arith
+quoted (b ∷ s) = at-quoted (charAt (b ∷ s)) b s
 
 -- ---- a step of the scanner
 
--- the lexeme x stands at `pos` of the text, and the scanner goes on after it
-record Step (s : List ℕ) (pos : ℕ) (x : language.Lexeme) (next : ℕ) : Type 0 where
-  in-text : pos < length s
-  next-is : next ≡ pos + x .size
-  some-byte : 0 < x .size
-  fits : next ≤ length s
-  two : Quoted x
-  first : scanFrom 0 pos (drop pos s) ≡ placed pos x ∷ scanFrom 0 next (drop next s)
+-- it found the lexeme that stands here, which has a byte and ends within the line, and goes on where that ends
+record Turn (line : List ℕ) (pos : ℕ) (l : Lexeme) (to : ℕ) : Type 0 where
+  begins : l .start ≡ pos
+  ends : l .end ≡ to
+  kind : l .kind ≡ kindAs (lexeme (drop pos line) .kind)
+  past : to ≡ pos + lexeme (drop pos line) .size
+  forth : pos < to
+  within : to ≤ length line
+  rest : scanFrom 0 pos (drop pos line) ≡ placed pos (lexeme (drop pos line)) ∷ scanFrom 0 to (drop to line)
 
-module _ (s : List ℕ) (pos : ℕ) where
-  abbrev here : language.Lexeme
-  here = lexeme (drop pos s)
-
-  ended : Done ≡ stepAt s pos → scanFrom 0 pos (drop pos s) ≡ []
+module _ (line : List ℕ) (pos : ℕ) where
+  turn : (l : Lexeme) (next : Scanner) → Found l next ≡ stepAt line pos → Turn line pos l (next .pos)
   unfolding stepAt
-  ended e =
-      elim (decLt pos (length s)) [
-        | yes h ↦ let k : Done ≡ found here pos = e ∙ rw (lt-ltb pos (length s) h) in let z : _≡_ {A = ℕ} 0 1 = cc in absurd (omega arith)
-        | no h ↦ rw (drop-of-length-le s {i = pos} (omega arith)) (scan-unfolds pos .0)
+  turn l next e =
+      elim (decLt pos (length line)) [
+        | no h ↦ let k : Found l next ≡ Done = e ∙ rw (le-ltb pos (length line) (omega arith)) in never (cc)
+        | yes h ↦
+            let x = lexeme (drop pos line) in
+            let k : Found l next ≡ found x pos = e ∙ rw (lt-ltb pos (length line) h) in
+            let is : l ≡ lexemeAs pos x = cc in
+            let to : next ≡ record { pos = pos + x .size } = cc in
+            let past : next .pos ≡ pos + x .size = ap (λ (s : Scanner). s .pos) to in
+            let b : drop pos line ≡ getD line pos 0 ∷ drop (suc pos) line = drop-cons line pos 0 h in
+            let fits : (0 < x .size) × (x .size ≤ length (drop pos line)) = rw b (size-fits (getD line pos 0) (drop (suc pos) line)) in
+            record {
+              begins = ap (λ (m : Lexeme). m .start) is;
+              ends = ap (λ (m : Lexeme). m .end) is ∙ sym past;
+              kind = ap (λ (m : Lexeme). m .kind) is;
+              past = past;
+              forth = omega (arith, fits .0);
+              within = omega (arith, fits .1, length-drop pos line);
+              rest = rw (past, ← drop-drop (x .size) pos line) (rw b (scan-unfolds pos .1 (getD line pos 0) (drop (suc pos) line)));
+            }
       ]
 
-  module _ (l : Lexeme) (next : Scanner) (e : Found l next ≡ stepAt s pos) where
-    inside : pos < length s
-    unfolding stepAt
-    inside =
-        elim (decLt pos (length s)) [
-          | yes h ↦ h
-          | no h ↦ let k : Found l next ≡ Done = e ∙ rw (le-ltb pos (length s) (omega arith)) in let z : _≡_ {A = ℕ} 0 1 = cc in absurd (omega arith)
-        ]
-
-    is-step : Found l next ≡ found here pos
-    unfolding stepAt
-    is-step = e ∙ rw (lt-ltb pos (length s) inside)
-
-    is-lexeme : l ≡ lexemeAs pos here
-    is-lexeme = let h = is-step in cc
-
-    stepped : Step s pos here (next .pos)
-    stepped =
-        let i = inside in
-        let h : drop pos s ≡ getD s pos 0 ∷ drop (suc pos) s = drop-cons s pos 0 i in
-        let a = is-step in
-        let b : next ≡ record { pos = pos + here .size } = cc in
-        let n : next .pos ≡ pos + here .size = ap (λ (r : Scanner). r .pos) b in
-        let k : (0 < here .size) × (here .size ≤ length (drop pos s)) = rw h (size-fits (getD s pos 0) (drop (suc pos) s)) in
-        let u : scanFrom 0 pos (drop pos s) ≡ placed pos here ∷ scanFrom 0 (pos + here .size) (drop (here .size) (drop pos s)) = rw h (scan-unfolds pos .1 (getD s pos 0) (drop (suc pos) s)) in
-        let v : drop (here .size) (drop pos s) ≡ drop (pos + here .size) s = drop-drop (here .size) pos s in
-        record {
-          in-text = i;
-          next-is = n;
-          some-byte = k .0;
-          fits = omega (arith, n, k .1, length-drop pos s);
-          two = rw h (quoted (getD s pos 0) (drop (suc pos) s));
-          first = rw n (u ∙ rw v);
-        }
+  -- it stands at the end of the line
+  at-end : Done ≡ stepAt line pos → drop pos line ≡ []
+  unfolding stepAt
+  at-end e =
+      elim (decLt pos (length line)) [
+        | yes h ↦ let k : Done ≡ found (lexeme (drop pos line)) pos = e ∙ rw (lt-ltb pos (length line) h) in never (cc)
+        | no h ↦ drop-of-length-le line {i = pos} (omega arith)
+      ]
 
 -- ---- the loop
 
@@ -171,79 +148,81 @@ module _ (s : List ℕ) (pos : ℕ) where
 unquoted-is : (s : List ℕ) (at e : ℕ) → e ≤ length s → at + 2 ≤ e → unquoted (between s at e) ≡ scanning.bodyOf s at e
 unquoted-is s at e h k =
     let m = e - (at + 1) in
-    let d : drop at s ≡ getD s at 0 ∷ drop (suc at) s = drop-cons s at 0 (omega arith) in
+    let r = drop (suc at) s in
+    let d : drop at s ≡ getD s at 0 ∷ r = drop-cons s at 0 (omega arith) in
     let n : e - at ≡ suc m = omega arith in
-    let b : between s at e ≡ getD s at 0 ∷ take m (drop (suc at) s) = rw (n, d) in
-    let l : length (take m (drop (suc at) s)) ≡ m = length-take-le m (drop (suc at) s) (omega (arith, length-drop (suc at) s)) in
+    let b : between s at e ≡ getD s at 0 ∷ take m r = rw (n, d) in
+    let l : length (take m r) ≡ m = length-take-le m r (omega (arith, length-drop (suc at) s)) in
     let p : suc m - 2 ≡ e - 1 - (at + 1) = omega arith in
-    rw (b, l, p) (take-take (e - 1 - (at + 1)) m (drop (suc at) s) (omega arith) ∙ rw (← add-one at) (some-body s at e h (omega arith)))
+    rw (b, l, p) (take-take (e - 1 - (at + 1)) m r (omega arith) ∙ rw (← add-one at) (some-body s at e h (omega arith)))
+
+-- the code's kind of a literal, and of what is none
+is-literal : (k : Kind) → kind-is.Str ≡ kindAs k → k ≡ str
+is-literal str e = refl
+is-literal trivia e = never (cc)
+is-literal (tok t) e = never (cc)
+is-literal (error x) e = never (cc)
+
+no-literal : (k : Kind) (bs : List ℕ) → OneOf (0 ∷ 2 ∷ 3 ∷ []) (tagOf kind.the-type (kindAs k)) → bodyOf k bs ≡ []
+no-literal trivia bs o = refl
+no-literal (tok t) bs o = refl
+no-literal (error x) bs o = refl
+no-literal str bs (inl o) = absurd (omega (arith, o))
+no-literal str bs (inr (inl o)) = absurd (omega (arith, o))
+no-literal str bs (inr (inr o)) = absurd (omega (arith, o))
 
 -- the body numbered i is the one numbered `left` of the lexemes from `pos` on
 pub record Looking (text : List ℕ) (i left pos : ℕ) : Type 0 where
-  pub same : nth left (bodiesOf text (scanFrom 0 pos (drop pos text))) ≡ nth i (bodiesIn text)
+  same : nth left (bodiesOf text (scanFrom 0 pos (drop pos text))) ≡ nth i (bodiesIn text)
 
 pub start : (text : List ℕ) (i pos : ℕ) → pos ≡ 0 → Looking text i i pos
 start text i pos z = record { same = rw z }
 
 module _ (text : List ℕ) (i left pos : ℕ) (k : Looking text i left pos) where
   pub none-left : Done ≡ stepAt text pos → [] ≡ nth i (bodiesIn text)
-  none-left e = rw (ended text pos e) at (k .same)
+  none-left e = rw (at-end text pos e, scan-unfolds pos .0) at (k .same)
 
   module _ (l : Lexeme) (next : Scanner) (e : Found l next ≡ stepAt text pos) where
     pub shrinks : length text - next .pos < length text - pos
-    shrinks = let p = stepped text pos l next e in omega (arith, p .in-text, p .next-is, p .some-byte, p .fits)
+    shrinks = let p = turn text pos l next e in omega (arith, p .forth, p .within)
 
-    abbrev x : language.Lexeme
-    x = here text pos
+    abbrev x : Kind
+    x = lexeme (drop pos text) .kind
 
-    abbrev rest : List (List ℕ)
-    rest = bodiesOf text (scanFrom 0 (next .pos) (drop (next .pos) text))
+    abbrev bytes : List ℕ
+    bytes = between text pos (pos + lexeme (drop pos text) .size)
 
-    from-here : nth left (bodyOf (x .kind) (between text pos (pos + x .size)) ++ rest) ≡ nth i (bodiesIn text)
-    from-here = rw (stepped text pos l next e .first) at (k .same)
+    abbrev after : List (List ℕ)
+    after = bodiesOf text (scanFrom 0 (next .pos) (drop (next .pos) text))
 
-    same-kind : l .kind ≡ kindAs (x .kind)
-    same-kind = ap (λ (m : Lexeme). m .kind) (is-lexeme text pos l next e)
-
-    literal : l .kind ≡ kind-is.Str → x .kind ≡ str
-    literal h = is-str (x .kind) (sym h ∙ same-kind)
-      where
-        is-str : (q : Kind) → kind-is.Str ≡ kindAs q → q ≡ str
-        is-str str d = refl
-        is-str trivia d = let z : _≡_ {A = ℕ} 0 1 = cc in absurd (omega arith)
-        is-str (tok t) d = let z : _≡_ {A = ℕ} 0 1 = cc in absurd (omega arith)
-        is-str (error o) d = let z : _≡_ {A = ℕ} 0 1 = cc in absurd (omega arith)
-
-    -- a literal, and it is the one
-    pub is-it : {r : List ℕ} → l .kind ≡ kind-is.Str → left ≡ 0 → r ≡ scanning.bodyOf text (l .start) (l .end) → r ≡ nth i (bodiesIn text)
-    is-it {r} h z d =
-        let p = stepped text pos l next e in
-        let q = literal h in
-        let m = is-lexeme text pos l next e in
-        let u : nth 0 (unquoted (between text pos (pos + x .size)) ∷ rest) ≡ nth i (bodiesIn text) = rw (z, q) at from-here in
-        let w : r ≡ scanning.bodyOf text pos (pos + x .size) = d ∙ rw m in
-        w ∙ sym (unquoted-is text pos (pos + x .size) (omega (arith, p .fits, p .next-is)) (omega (arith, p .two q))) ∙ u
-
-    -- a literal, and it is not
-    pub not-it : l .kind ≡ kind-is.Str → (left ≡ 0 → ⊥) → Looking text i (left - 1) (next .pos)
-    not-it h z =
-        let q = literal h in
-        let n : left ≡ suc (left - 1) = omega arith in
-        let u : nth left (unquoted (between text pos (pos + x .size)) ∷ rest) ≡ nth i (bodiesIn text) = rw q at from-here in
-        record { same = rw n at u }
+    from-here : nth left (bodyOf x bytes ++ after) ≡ nth i (bodiesIn text)
+    from-here = rw (turn text pos l next e .rest) at (k .same)
 
     -- no literal
     pub passed : OneOf (0 ∷ 2 ∷ 3 ∷ []) (tagOf kind.the-type (l .kind)) → Looking text i left (next .pos)
-    passed h = record { same = go (x .kind) (rw same-kind at h) from-here }
-      where
-        go : (q : Kind) → OneOf (0 ∷ 2 ∷ 3 ∷ []) (tagOf kind.the-type (kindAs q)) → nth left (bodyOf q (between text pos (pos + x .size)) ++ rest) ≡ nth i (bodiesIn text)
-            → nth left rest ≡ nth i (bodiesIn text)
-        go trivia o d = d
-        go str (inl o) d = absurd (omega (arith, o))
-        go str (inr (inl o)) d = absurd (omega (arith, o))
-        go str (inr (inr o)) d = absurd (omega (arith, o))
-        go (tok t) o d = d
-        go (error t) o d = d
+    passed h =
+        let n = no-literal x bytes (rw (turn text pos l next e .kind) at h) in
+        record { same = rw n at from-here }
+
+    module _ (h : l .kind ≡ kind-is.Str) where
+      literal : x ≡ str
+      literal = is-literal x (sym h ∙ turn text pos l next e .kind)
+
+      its-body : nth left (unquoted bytes ∷ after) ≡ nth i (bodiesIn text)
+      its-body = rw literal at from-here
+
+      -- a literal, and it is the one
+      pub is-it : {r : List ℕ} → left ≡ 0 → r ≡ scanning.bodyOf text (l .start) (l .end) → r ≡ nth i (bodiesIn text)
+      is-it {r} z d =
+          let p = turn text pos l next e in
+          let end = pos + lexeme (drop pos text) .size in
+          let two : 2 ≤ lexeme (drop pos text) .size = rw literal at (quoted (drop pos text)) in
+          let w : r ≡ scanning.bodyOf text pos end = d ∙ rw (p .begins, p .ends, p .past) in
+          w ∙ sym (unquoted-is text pos end (omega (arith, p .within, p .past)) (omega arith)) ∙ rw z at its-body
+
+      -- a literal, and it is not
+      pub not-it : (left ≡ 0 → ⊥) → Looking text i (left - 1) (next .pos)
+      not-it z = let n : left ≡ suc (left - 1) = omega arith in record { same = rw n at its-body }
 
 -- ---- a string token of a source
 

@@ -130,7 +130,7 @@ wrong-append (x ∷ xs) ys = go (x .piece) (wrong-append xs ys)
 -- ---- the loop
 
 -- the lexer x has been fed all lines before `at`, and the table was t at first; what it holds counts where t was all zero
-pub record Feeding (s t : List ℕ) (u : List ℕ) (x : Lexer) (at : ℕ) : Type 0 where
+pub record LinesFed (s t : List ℕ) (u : List ℕ) (x : Lexer) (at : ℕ) : Type 0 where
   pub done : List Item
   pub whole : done ++ itemsFrom (x .lno + 1) (linesFrom at (drop at s)) ≡ items s
   pub fed : t ≡ padTo (length t) [] → FedIs (Goes x) u (feed begun done) (firstWrong done)
@@ -141,7 +141,7 @@ pub record Feeding (s t : List ℕ) (u : List ℕ) (x : Lexer) (at : ℕ) : Type
   pub fewer : x .count + x .pending .bodies ≤ length s
   pub within : at ≤ length s + 1
 
-pub start : (s t : List ℕ) (x : Lexer) → (x .lno ≡ 0) × (x .count ≡ 0) × (x .pending .bodies ≡ 0) → Feeding s t t x 0
+pub start : (s t : List ℕ) (x : Lexer) → (x .lno ≡ 0) × (x .count ≡ 0) × (x .pending .bodies ≡ 0) → LinesFed s t t x 0
 unfolding items feed firstWrong
 start s t x e =
     record {
@@ -156,7 +156,7 @@ start s t x e =
       within = omega arith;
     }
 
-module _ (s t u : List ℕ) (x : Lexer) (at : ℕ) (f : Feeding s t u x at) where
+module _ (s t u : List ℕ) (x : Lexer) (at : ℕ) (f : LinesFed s t u x at) where
   pub few : length s ≤ 65536 → at < length s → Few x at
   few h l = record { lines = omega (arith, f .few-lines); tokens = f .few-tokens; short = omega arith }
 
@@ -185,7 +185,7 @@ module _ (s t u : List ℕ) (x : Lexer) (at : ℕ) (f : Feeding s t u x at) wher
               (h .0, rw joined at m, h .2);
         }
 
-    goes : (y : Lexer) (w : List ℕ) → Feeds x u (Goes y) w (x .lno + 1) e line → Feeding s t w y (e + 1)
+    goes : (y : Lexer) (w : List ℕ) → Feeds x u (Goes y) w (x .lno + 1) e line → LinesFed s t w y (e + 1)
     goes y w r =
         let i = end-within s at l e q in
         let n = r .few .0 in
@@ -211,7 +211,7 @@ module _ (s t u : List ℕ) (x : Lexer) (at : ℕ) (f : Feeding s t u x at) wher
     pub stopped : {r : Fed} (v : Verdict) {w : List ℕ} → r ≡ Stops v → Feeds x u r w (x .lno + 1) e line → FeedsAll t r w s
     stopped v {w} d g = rw d (stops v w (rw d at g))
 
-    pub more : {r : Fed} (y : Lexer) {w : List ℕ} → r ≡ Goes y → Feeds x u r w (x .lno + 1) e line → Feeding s t w y (e + 1)
+    pub more : {r : Fed} (y : Lexer) {w : List ℕ} → r ≡ Goes y → Feeds x u r w (x .lno + 1) e line → LinesFed s t w y (e + 1)
     more y {w} d g = goes y w (rw d at g)
 
   pub finished : length s ≤ at → FeedsAll t (Goes x) u s

@@ -1,7 +1,7 @@
 use Prim.Native.Nat.{_-_, _+_}
 use mathlib.Core.Path.{_≡_, refl, sym, ap, _∙_}
 use lib.ListN.{length}
-use Rattle.lex.proofs.Lines.{Feeding, start, few, stopped, more, finished, end-within}
+use Rattle.lex.proofs.Lines.{LinesFed, start, few, stopped, more, finished, end-within}
 use borrow.Author.Needs.{needs}
 use native.Mathlib.Omega.{arith}
 use Rattle.lex.proofs.feed_lines.Statement.{statement}
@@ -13,7 +13,7 @@ use Rattle.lex.proofs.Lexer.new.Reads as new-reads
 use Rattle.lex.proofs.line_end.Reads as line-end-reads
 
 abbrev Inv-loop : tie.InvT-loop
-Inv-loop source table₀ lexer₀ at₀ table lexer at = Feeding source table₀ table lexer at
+Inv-loop source table₀ lexer₀ at₀ table lexer at = LinesFed source table₀ table lexer at
 
 abbrev μ-loop : tie.MeasureT-loop
 μ-loop source table₀ lexer₀ at₀ table lexer at = length source + 1 - at
