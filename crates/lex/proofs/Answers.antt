@@ -1,10 +1,9 @@
 -- What lexing a source answers and leaves, for each way that it goes.
-use mathlib.Core.Path.{_≡_, refl, sym, ap, _∙_}
-use mathlib.Core.Bool.{Bool, true, false}
+use mathlib.Core.Path.{_≡_, refl, sym, _∙_}
+use mathlib.Core.Bool.{false}
 use mathlib.Core.List.{List, [], _∷_, _++_, append-assoc}
 use mathlib.Core.Option.{Option, none, some}
 use Prim.Native.Nat.{ℕ, suc, _+_, _≤_, _<_, _/_}
-use native.Mathlib.Numerals.{add-one}
 use native.Mathlib.Omega.{arith}
 use borrow.Author.Tests.{lt-ltb, le-ltb}
 use lib.Dec.{eqb}
@@ -13,7 +12,7 @@ use Rattle.table.specs.Table.{padTo, tabled}
 use Rattle.table.proofs.Laws.{pad-own, tabled-none, tabled-own}
 use Rattle.language.specs.Utf8.{firstBad}
 use Rattle.language.specs.Tables.{tokenRow, tokenWidth}
-use Rattle.language.specs.Tokens.{Token, lines, Piece, gap, body, token, wrong, Item, items, stepped, tokensFrom, eofToken, tokens, Wrong, firstWrong, Place, placeOf, flushed, itemToken}
+use Rattle.language.specs.Tokens.{lines, Piece, gap, body, token, wrong, Item, items, stepped, tokensFrom, eofToken, tokens, Wrong, firstWrong, Place, placeOf, flushed}
 use Rattle.language.specs.Numbers as numbers
 use Rattle.language.specs.Numbers.{verdict, lexed, lexical, placed, lexAnswer, lexTable}
 use Rattle.utf8.specs.Decoding.{badOf}
@@ -26,7 +25,7 @@ use Rattle.lex.specs.declared.Fed.the-variants.{Goes, Stops}
 use Rattle.lex.specs.declared.Spot.{Spot}
 use Rattle.lex.specs.declared.Lexed.{Lexed}
 use Rattle.lex.proofs.Lines.{few-lines}
-use Rattle.lex.specs.Lexing.{State, begun, stated, flushedState, stepTo, feed, Holds, Few, FedIs, GoesFew, FeedsAll, Finishes, spotAs, lexedAs}
+use Rattle.lex.specs.Lexing.{State, begun, stated, flushedState, stepTo, feed, Holds, Few, FedIs, FeedsAll, Finishes, spotAs, lexedAs}
 
 bad-at : (o : Option ℕ) (at : ℕ) → At at ≡ badOf o → o ≡ some at
 bad-at (some x) at e = cc

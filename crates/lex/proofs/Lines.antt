@@ -13,14 +13,14 @@ use Rattle.language.specs.Lexemes.{run, notNewline}
 use Rattle.language.specs.Tables.{tokenRow, tokenWidth}
 use Rattle.language.specs.Tokens.{Line, lineAt, onto, linesFrom, lines, Piece, gap, body, token, wrong, Item, itemsFrom, items, orElse, Wrong, firstWrong, between}
 use Rattle.language.proofs.LexemeSizes.{by-cases}
-use Rattle.table.specs.Table.{padTo, tabled}
+use Rattle.table.specs.Table.{padTo}
 use Rattle.table.proofs.Laws.{tabled-none}
 use Rattle.scan.specs.declared.Verdict.{Verdict}
 use Rattle.scan.proofs.Numerals.{run-le}
 use Rattle.lex.specs.declared.Lexer.{Lexer}
 use Rattle.lex.specs.declared.Fed.{Fed}
 use Rattle.lex.specs.declared.Fed.the-variants.{Goes, Stops}
-use Rattle.lex.specs.Lexing.{State, begun, stepTo, feed, Holds, lineItems, Few, FedIs, GoesFew, Feeds, lineEnd, FeedsAll}
+use Rattle.lex.specs.Lexing.{State, begun, stepTo, feed, lineItems, Few, FedIs, Feeds, lineEnd, FeedsAll}
 
 -- ---- a line, and the lines after it
 

@@ -1,14 +1,13 @@
 -- The place of a byte, by a loop that goes from byte to byte.
 use Prim.Native.Nat.{ℕ, suc, _+_, _-_, _≤_, _<_}
-use mathlib.Core.Path.{_≡_, refl, sym, ap, _∙_}
-use mathlib.Core.Bool.{Bool, true, false}
-use mathlib.Core.List.{List, [], _∷_}
+use mathlib.Core.Path.{_≡_, sym, ap, _∙_}
+use mathlib.Core.List.{List, _∷_}
 use native.Mathlib.Numerals.{add-one}
 use native.Mathlib.Omega.{arith}
 use borrow.Author.Tests.{eq-eqb, ne-eqb}
 use lib.ListN.{length, getD, drop}
 use lib.Seq.{drop-cons}
-use Rattle.language.specs.Tokens.{Place, placeFrom, placeOf}
+use Rattle.language.specs.Tokens.{placeFrom, placeOf}
 use Rattle.lex.specs.declared.Spot.{Spot}
 use Rattle.lex.specs.Lexing.{spotAs}
 

@@ -1,16 +1,10 @@
 use Prim.Native.Nat.{_-_, _+_}
-use mathlib.Core.Path.{_≡_, refl, sym, ap, _∙_}
 use lib.ListN.{length}
 use Rattle.lex.proofs.Lines.{LinesFed, start, few, stopped, more, finished, end-within}
 use borrow.Author.Needs.{needs}
 use native.Mathlib.Omega.{arith}
 use Rattle.lex.proofs.feed_lines.Statement.{statement}
 use Rattle.lex.proofs.feed_lines.Tie as tie
-use Rattle.lex.proofs.feed_lines.Reads as reads
-use Rattle.lex.proofs.feed_lines.Lts as lts
-use Rattle.lex.proofs.Lexer.line.Reads as line-reads
-use Rattle.lex.proofs.Lexer.new.Reads as new-reads
-use Rattle.lex.proofs.line_end.Reads as line-end-reads
 
 abbrev Inv-loop : tie.InvT-loop
 Inv-loop source table₀ lexer₀ at₀ table lexer at = LinesFed source table₀ table lexer at

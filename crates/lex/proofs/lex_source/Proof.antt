@@ -1,4 +1,4 @@
-use mathlib.Core.Path.{_≡_, refl, sym, ap, _∙_}
+use mathlib.Core.Path.{refl, sym, _∙_}
 use Rattle.utf8.proofs.Places.{bad-within}
 use Rattle.language.specs.Numbers.{verdict, placed, lexical}
 use Rattle.lex.proofs.Answers.{too-long, bad-byte, wrong-one, full, fits, placed-as, stopped, few, no-wrong, finished, refused, accepted}
@@ -6,15 +6,6 @@ use native.Mathlib.Omega.{arith}
 use borrow.Author.Needs.{needs}
 use Rattle.lex.proofs.lex_source.Statement.{statement}
 use Rattle.lex.proofs.lex_source.Tie as tie
-use Rattle.lex.proofs.lex_source.Reads as reads
-use Rattle.lex.proofs.lex_source.Lts as lts
-use Rattle.lex.proofs.Lexer.finish.Reads as finish-reads
-use Rattle.lex.proofs.feed_lines.Reads as feed-lines-reads
-use Rattle.lex.proofs.refused.Reads as refused-reads
-use Rattle.lex.proofs.spot_of.Reads as spot-of-reads
-use Rattle.scan.proofs.Verdict.new.Reads as new-reads
-use Rattle.table.proofs.clear.Reads as clear-reads
-use Rattle.utf8.proofs.first_bad.Reads as first-bad-reads
 
 clear-requires : tie.Need-clear-requires
 clear-requires c κs = search needs

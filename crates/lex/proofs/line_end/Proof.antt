@@ -7,8 +7,6 @@ use Rattle.scan.proofs.Runs.{Reached, begin, run-more, run-stop, run-end}
 use borrow.Author.Needs.{needs}
 use Rattle.lex.proofs.line_end.Statement.{statement}
 use Rattle.lex.proofs.line_end.Tie as tie
-use Rattle.lex.proofs.line_end.Reads as reads
-use Rattle.lex.proofs.line_end.Lts as lts
 
 abbrev Inv-loop : tie.InvT-loop
 Inv-loop source at i₀ i = Reached (runEnd notNewline) source at i

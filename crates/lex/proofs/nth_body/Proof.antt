@@ -1,15 +1,10 @@
 use Prim.Native.Nat.{_-_}
-use mathlib.Core.Path.{_≡_, refl, sym, ap, _∙_}
+use mathlib.Core.Path.{sym, _∙_}
 use lib.ListN.{length}
 use Rattle.lex.proofs.Bodies.{Looking, start, none-left, shrinks, is-it, not-it, passed}
 use borrow.Author.Needs.{needs}
 use Rattle.lex.proofs.nth_body.Statement.{statement}
 use Rattle.lex.proofs.nth_body.Tie as tie
-use Rattle.lex.proofs.nth_body.Reads as reads
-use Rattle.lex.proofs.nth_body.Lts as lts
-use Rattle.scan.proofs.Scanner.new.Reads as new-reads
-use Rattle.scan.proofs.Scanner.next.Reads as next-reads
-use Rattle.scan.proofs.body.Reads as body-reads
 
 abbrev Inv-loop : tie.InvT-loop
 Inv-loop text i left₀ scanner₀ left scanner = Looking text i left (scanner .pos)

@@ -1,11 +1,10 @@
+use borrow.Author.Needs.{needs}
 use Prim.Native.Nat.{_-_}
 use mathlib.Core.Logic.{⊎-elim}
 use Rattle.lex.proofs.Places.{Placing, start, next-line, next-column, arrived}
 use native.Mathlib.Omega.{arith}
 use Rattle.lex.proofs.spot_of.Statement.{statement}
 use Rattle.lex.proofs.spot_of.Tie as tie
-use Rattle.lex.proofs.spot_of.Reads as reads
-use Rattle.lex.proofs.spot_of.Lts as lts
 
 abbrev Inv-loop : tie.InvT-loop
 Inv-loop source at line₀ column₀ i₀ line column i = Placing source at line column i
@@ -17,19 +16,19 @@ loop-holds : tie.Need-loop-holds Inv-loop μ-loop
 loop-holds c = start _ _
 
 shared-slice-read-if1 : tie.Need-shared-slice-read-if1 Inv-loop μ-loop
-shared-slice-read-if1 c = omega (arith, c .before .loop-test .taken, c .before .before .before .pre .0)
+shared-slice-read-if1 c = search needs
 
 add-line : tie.Need-add-line Inv-loop μ-loop
-add-line c = omega (arith, c .before .before .before .loop .inv .few-lines, c .before .before .loop-test .taken, c .before .before .before .before .pre .0, c .before .before .before .before .pre .1)
+add-line c = search needs
 
 add-column : tie.Need-add-column Inv-loop μ-loop
-add-column c = omega (arith, c .before .before .before .loop .inv .few-columns, c .before .before .loop-test .taken, c .before .before .before .before .pre .0, c .before .before .before .before .pre .1)
+add-column c = search needs
 
 add-i : tie.Need-add-i Inv-loop μ-loop
-add-i c = omega (arith, c .before .before .loop-test .taken, c .before .before .before .before .pre .0, c .before .before .before .before .pre .1)
+add-i c = search needs
 
 loop-less : tie.Need-loop-less Inv-loop μ-loop
-loop-less c = omega (arith, c .before .before .loop-test .taken)
+loop-less c = search needs
 
 loop-again : tie.Need-loop-again Inv-loop μ-loop
 loop-again c = ⊎-elim (λ w. rw (w .1, w .2) (next-line _ _ _ _ _ (c .before .before .before .loop .inv) (c .before .before .loop-test .taken) (c .before .before .before .before .pre .0) (w .0 .taken)))

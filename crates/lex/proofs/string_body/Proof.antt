@@ -1,13 +1,10 @@
-use mathlib.Core.Path.{_≡_, refl, sym, ap, _∙_}
+use mathlib.Core.Path.{_∙_}
 use mathlib.Core.Logic.{⊎-elim}
 use Rattle.lex.proofs.Bodies.{some-part, no-part}
 use native.Mathlib.Omega.{arith}
 use borrow.Author.Needs.{needs}
 use Rattle.lex.proofs.string_body.Statement.{statement}
 use Rattle.lex.proofs.string_body.Tie as tie
-use Rattle.lex.proofs.string_body.Reads as reads
-use Rattle.lex.proofs.string_body.Lts as lts
-use Rattle.lex.proofs.nth_body.Reads as nth-body-reads
 
 part-nth-body-start : tie.Need-part-nth-body-start
 part-nth-body-start c = search needs
