@@ -14,7 +14,7 @@ use Rattle.language.specs.Utf8.{firstBad}
 use Rattle.language.specs.Tables.{tokenRow, tokenWidth}
 use Rattle.language.specs.Tokens.{lines, Piece, gap, body, token, wrong, Item, items, stepped, tokensFrom, eofToken, tokens, Wrong, firstWrong, Place, placeOf, flushed}
 use Rattle.language.specs.Numbers as numbers
-use Rattle.language.specs.Numbers.{verdict, lexed, lexical, placed, lexAnswer, lexTable}
+use Rattle.language.specs.Numbers.{verdict, lexed, lexedWithin, lexical, placed, lexAnswer, lexTable}
 use Rattle.utf8.specs.Decoding.{badOf}
 use Rattle.utf8.specs.declared.Bad.the-variants.{At, Nowhere}
 use Rattle.scan.specs.declared.Verdict.{Verdict}
@@ -52,14 +52,17 @@ module _ (s : List ℕ) (room : ℕ) where
       unfolding lexAnswer
       wrong-one w f = rw (le-ltb _ _ h, bad-nowhere (firstBad s) e, lexAnswer, f, lexAnswer)
 
-      module _ (f : firstWrong (items s) ≡ none) (k : ℕ) (c : k ≡ length (tokens s)) where
-        pub full : room < k → lexAnswer s room ≡ lexed (verdict 4 0 0) 0
+      module _ (f : firstWrong (items s) ≡ none) where
+        none-wrong : lexAnswer s room ≡ lexedWithin room (length (tokens s))
         unfolding lexAnswer
-        full m = rw (le-ltb _ _ h, bad-nowhere (firstBad s) e, lexAnswer, f, lexAnswer, ← c, lt-ltb _ _ m)
+        none-wrong = rw (le-ltb _ _ h, bad-nowhere (firstBad s) e, lexAnswer, f, lexAnswer)
 
-        pub fits : k ≤ room → lexAnswer s room ≡ lexed (verdict 0 0 0) k
-        unfolding lexAnswer
-        fits m = rw (le-ltb _ _ h, bad-nowhere (firstBad s) e, lexAnswer, f, lexAnswer, ← c, le-ltb _ _ m)
+        module _ (k : ℕ) (c : k ≡ length (tokens s)) where
+          pub full : room < k → lexAnswer s room ≡ lexed (verdict 4 0 0) 0
+          full m = none-wrong ∙ rw (← c, lt-ltb _ _ m)
+
+          pub fits : k ≤ room → lexAnswer s room ≡ lexed (verdict 0 0 0) k
+          fits m = none-wrong ∙ rw (← c, le-ltb _ _ m)
 
 -- ---- what feeding came to
 

@@ -133,13 +133,13 @@ module _ (line : List ℕ) (pos : ℕ) where
             }
       ]
 
-  -- it stands at the end of the line
-  at-end : Done ≡ stepAt line pos → drop pos line ≡ []
+  -- at the end of the line no lexeme is left
+  at-end : Done ≡ stepAt line pos → scanFrom 0 pos (drop pos line) ≡ []
   unfolding stepAt
   at-end e =
       elim (decLt pos (length line)) [
         | yes h ↦ let k : Done ≡ found (lexeme (drop pos line)) pos = e ∙ rw (lt-ltb pos (length line) h) in never (cc)
-        | no h ↦ drop-of-length-le line {i = pos} (omega arith)
+        | no h ↦ rw (drop-of-length-le line {i = pos} (omega arith)) (scan-unfolds pos .0)
       ]
 
 -- ---- the loop
@@ -180,7 +180,7 @@ start text i pos z = record { same = rw z }
 
 module _ (text : List ℕ) (i left pos : ℕ) (k : Looking text i left pos) where
   pub none-left : Done ≡ stepAt text pos → [] ≡ nth i (bodiesIn text)
-  none-left e = rw (at-end text pos e, scan-unfolds pos .0) at (k .same)
+  none-left e = rw (at-end text pos e) at (k .same)
 
   module _ (l : Lexeme) (next : Scanner) (e : Found l next ≡ stepAt text pos) where
     pub shrinks : length text - next .pos < length text - pos
