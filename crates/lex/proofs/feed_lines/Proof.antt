@@ -1,55 +1,55 @@
+use Prim.Native.Nat.{_-_, _+_}
+use lib.ListN.{length}
+use Rattle.lex.proofs.Lines.{LinesFed, start, few, stopped, more, finished, end-within}
+use borrow.Author.Needs.{needs}
+use native.Mathlib.Omega.{arith}
 use Rattle.lex.proofs.feed_lines.Statement.{statement}
 use Rattle.lex.proofs.feed_lines.Tie as tie
-use Rattle.lex.proofs.feed_lines.Reads as reads
-use Rattle.lex.proofs.feed_lines.Lts as lts
-use Rattle.lex.proofs.Lexer.line.Reads as line-reads
-use Rattle.lex.proofs.Lexer.new.Reads as new-reads
-use Rattle.lex.proofs.line_end.Reads as line-end-reads
 
 abbrev Inv-loop : tie.InvT-loop
-Inv-loop source table₀ lexer₀ at₀ table lexer at = ?
+Inv-loop source table₀ lexer₀ at₀ table lexer at = LinesFed source table₀ table lexer at
 
 abbrev μ-loop : tie.MeasureT-loop
-μ-loop source table₀ lexer₀ at₀ table lexer at = ?
+μ-loop source table₀ lexer₀ at₀ table lexer at = length source + 1 - at
 
 new-requires : tie.Need-new-requires Inv-loop μ-loop
-new-requires c κs = ?
+new-requires c κs = search needs
 
 loop-holds : tie.Need-loop-holds Inv-loop μ-loop
-loop-holds c = ?
+loop-holds c = start _ _ _ (c .new .ensures)
 
 line-end-requires : tie.Need-line-end-requires Inv-loop μ-loop
-line-end-requires c κs = ?
+line-end-requires c κs = search needs
 
 line-requires : tie.Need-line-requires Inv-loop μ-loop
-line-requires c κs = ?
+line-requires c κs = let e = end-within _ _ (c .before .before .loop-test .taken) _ (c .before .line-end .ensures) in (few _ _ _ _ _ (c .before .before .before .loop .inv) (c .before .before .before .before .before .before .before .pre) (c .before .before .loop-test .taken), e .0, e .1, omega (arith, e .1, c .before .before .before .before .before .before .before .pre))
 
 enum-known-fed : tie.Need-enum-known-fed Inv-loop μ-loop
-enum-known-fed c = ?
+enum-known-fed c = search needs
 
 enum-told : tie.Need-enum-told Inv-loop μ-loop
-enum-told c = ?
+enum-told c = search needs
 
 same-length : tie.Need-same-length Inv-loop μ-loop
-same-length c = ?
+same-length c = search needs
 
 returns : tie.Need-returns Inv-loop μ-loop
-returns c = ?
+returns c = stopped _ _ _ _ _ (c .before .before .before .before .before .before .before .before .loop .inv) (c .before .before .before .before .before .before .before .loop-test .taken) _ (c .before .before .before .before .before .before .line-end .ensures) _ (c .enum-told .given .1) (c .before .before .before .before .line .ensures)
 
 add-at : tie.Need-add-at Inv-loop μ-loop
-add-at c = ?
+add-at c = let e = end-within _ _ (c .before .before .before .before .before .before .before .before .loop-test .taken) _ (c .before .before .before .before .before .before .before .line-end .ensures) in omega (arith, e .1, c .before .before .before .before .before .before .before .before .before .before .before .before .before .pre)
 
 loop-less : tie.Need-loop-less Inv-loop μ-loop
-loop-less c = ?
+loop-less c = let e = end-within _ _ (c .before .before .before .before .before .before .before .before .loop-test .taken) _ (c .before .before .before .before .before .before .before .line-end .ensures) in omega (arith, e .0, e .1)
 
 loop-again : tie.Need-loop-again Inv-loop μ-loop
-loop-again c = ?
+loop-again c = more _ _ _ _ _ (c .before .before .before .before .before .before .before .before .before .loop .inv) (c .before .before .before .before .before .before .before .before .loop-test .taken) _ (c .before .before .before .before .before .before .before .line-end .ensures) _ (c .before .fed .given .1) (c .before .before .before .before .before .line .ensures)
 
 same-length-2 : tie.Need-same-length-2 Inv-loop μ-loop
-same-length-2 c = ?
+same-length-2 c = search needs
 
 returns-2 : tie.Need-returns-2 Inv-loop μ-loop
-returns-2 c = ?
+returns-2 c = finished _ _ _ _ _ (c .before .loop .inv) (c .loop-test .left)
 
 pub feed-lines-spec : {M : Type 1} → statement M
 feed-lines-spec =

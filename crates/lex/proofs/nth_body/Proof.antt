@@ -1,61 +1,61 @@
+use Prim.Native.Nat.{_-_}
+use mathlib.Core.Path.{sym, _∙_}
+use lib.ListN.{length}
+use Rattle.lex.proofs.Bodies.{Looking, start, none-left, shrinks, is-it, not-it, passed}
+use borrow.Author.Needs.{needs}
 use Rattle.lex.proofs.nth_body.Statement.{statement}
 use Rattle.lex.proofs.nth_body.Tie as tie
-use Rattle.lex.proofs.nth_body.Reads as reads
-use Rattle.lex.proofs.nth_body.Lts as lts
-use Rattle.scan.proofs.Scanner.new.Reads as new-reads
-use Rattle.scan.proofs.Scanner.next.Reads as next-reads
-use Rattle.scan.proofs.body.Reads as body-reads
 
 abbrev Inv-loop : tie.InvT-loop
-Inv-loop text i left₀ scanner₀ left scanner = ?
+Inv-loop text i left₀ scanner₀ left scanner = Looking text i left (scanner .pos)
 
 abbrev μ-loop : tie.MeasureT-loop
-μ-loop text i left₀ scanner₀ left scanner = ?
+μ-loop text i left₀ scanner₀ left scanner = length text - scanner .pos
 
 new-requires : tie.Need-new-requires Inv-loop μ-loop
-new-requires c κs = ?
+new-requires c κs = search needs
 
 loop-holds : tie.Need-loop-holds Inv-loop μ-loop
-loop-holds c = ?
+loop-holds c = start _ _ _ (c .new .ensures)
 
 next-requires : tie.Need-next-requires Inv-loop μ-loop
-next-requires c κs = ?
+next-requires c κs = search needs
 
 enum-known-step : tie.Need-enum-known-step Inv-loop μ-loop
-enum-known-step c = ?
+enum-known-step c = search needs
 
 enum-told : tie.Need-enum-told Inv-loop μ-loop
-enum-told c = ?
+enum-told c = search needs
 
 slice-aggregate-result : tie.Need-slice-aggregate-result Inv-loop μ-loop
-slice-aggregate-result c = ?
+slice-aggregate-result c = search needs
 
 returns : tie.Need-returns Inv-loop μ-loop
-returns c = ?
+returns c = none-left _ _ _ _ (c .before .before .before .before .loop .inv) (sym (c .before .enum-told .given .1) ∙ c .before .before .before .next .ensures)
 
 enum-told-2 : tie.Need-enum-told-2 Inv-loop μ-loop
-enum-told-2 c = ?
+enum-told-2 c = search needs
 
 body-requires : tie.Need-body-requires Inv-loop μ-loop
-body-requires c κs = ?
+body-requires c κs = search needs
 
 returns-2 : tie.Need-returns-2 Inv-loop μ-loop
-returns-2 c = ?
+returns-2 c = is-it _ _ _ _ (c .before .before .before .before .before .before .before .before .loop .inv) _ _ (sym (c .before .before .before .before .before .step .given .1) ∙ c .before .before .before .before .before .before .before .next .ensures) (c .before .before .enum-told2 .given .1) (c .before .if1 .taken) (c .body .ensures)
 
 sub-left : tie.Need-sub-left Inv-loop μ-loop
-sub-left c = ?
+sub-left c = search needs
 
 loop-less : tie.Need-loop-less Inv-loop μ-loop
-loop-less c = ?
+loop-less c = shrinks _ _ _ _ (c .before .before .before .before .before .before .before .loop .inv) _ _ (sym (c .before .before .before .before .step .given .1) ∙ c .before .before .before .before .before .before .next .ensures)
 
 loop-again : tie.Need-loop-again Inv-loop μ-loop
-loop-again c = ?
+loop-again c = not-it _ _ _ _ (c .before .before .before .before .before .before .before .loop .inv) _ _ (sym (c .before .before .before .before .step .given .1) ∙ c .before .before .before .before .before .before .next .ensures) (c .before .enum-told2 .given .1) (c .if1 .left)
 
 loop-less-2 : tie.Need-loop-less-2 Inv-loop μ-loop
-loop-less-2 c = ?
+loop-less-2 c = shrinks _ _ _ _ (c .before .before .before .before .before .loop .inv) _ _ (sym (c .before .before .step .given .1) ∙ c .before .before .before .before .next .ensures)
 
 loop-again-2 : tie.Need-loop-again-2 Inv-loop μ-loop
-loop-again-2 c = ?
+loop-again-2 c = passed _ _ _ _ (c .before .before .before .before .before .loop .inv) _ _ (sym (c .before .before .step .given .1) ∙ c .before .before .before .before .next .ensures) (c .match2 .keys2)
 
 pub nth-body-spec : {M : Type 1} → statement M
 nth-body-spec =

@@ -1,37 +1,41 @@
+use borrow.Author.Needs.{needs}
+use Prim.Native.Nat.{_-_}
+use mathlib.Core.Logic.{⊎-elim}
+use Rattle.lex.proofs.Places.{Placing, start, next-line, next-column, arrived}
+use native.Mathlib.Omega.{arith}
 use Rattle.lex.proofs.spot_of.Statement.{statement}
 use Rattle.lex.proofs.spot_of.Tie as tie
-use Rattle.lex.proofs.spot_of.Reads as reads
-use Rattle.lex.proofs.spot_of.Lts as lts
 
 abbrev Inv-loop : tie.InvT-loop
-Inv-loop source at line₀ column₀ i₀ line column i = ?
+Inv-loop source at line₀ column₀ i₀ line column i = Placing source at line column i
 
 abbrev μ-loop : tie.MeasureT-loop
-μ-loop source at line₀ column₀ i₀ line column i = ?
+μ-loop source at line₀ column₀ i₀ line column i = at - i
 
 loop-holds : tie.Need-loop-holds Inv-loop μ-loop
-loop-holds c = ?
+loop-holds c = start _ _
 
 shared-slice-read-if1 : tie.Need-shared-slice-read-if1 Inv-loop μ-loop
-shared-slice-read-if1 c = ?
+shared-slice-read-if1 c = search needs
 
 add-line : tie.Need-add-line Inv-loop μ-loop
-add-line c = ?
+add-line c = search needs
 
 add-column : tie.Need-add-column Inv-loop μ-loop
-add-column c = ?
+add-column c = search needs
 
 add-i : tie.Need-add-i Inv-loop μ-loop
-add-i c = ?
+add-i c = search needs
 
 loop-less : tie.Need-loop-less Inv-loop μ-loop
-loop-less c = ?
+loop-less c = search needs
 
 loop-again : tie.Need-loop-again Inv-loop μ-loop
-loop-again c = ?
+loop-again c = ⊎-elim (λ w. rw (w .1, w .2) (next-line _ _ _ _ _ (c .before .before .before .loop .inv) (c .before .before .loop-test .taken) (c .before .before .before .before .pre .0) (w .0 .taken)))
+    (λ w. rw (w .1, w .2) (next-column _ _ _ _ _ (c .before .before .before .loop .inv) (c .before .before .loop-test .taken) (c .before .before .before .before .pre .0) (w .0 .left))) (c .if1 .came)
 
 returns : tie.Need-returns Inv-loop μ-loop
-returns c = ?
+returns c = arrived _ _ _ _ _ (c .before .loop .inv) (c .loop-test .left)
 
 pub spot-of-spec : {M : Type 1} → statement M
 spot-of-spec =

@@ -1,0 +1,240 @@
+-- The bodies of the literals of a text, and the loop that looks for one.
+use Prim.Native.Nat.{ℕ, zero, suc, _+_, _-_, _≤_, _<_}
+use mathlib.Core.Path.{_≡_, refl, sym, ap, _∙_}
+use mathlib.Core.List.{List, [], _∷_, _++_}
+use mathlib.Core.Logic.{inl, inr}
+use mathlib.Core.Option.{Option, none, some}
+use native.Mathlib.Decide.{decLt, decLe}
+use native.Mathlib.Numerals.{add-one}
+use native.Mathlib.Omega.{arith}
+use borrow.Author.Tests.{lt-ltb, le-ltb, le-leb, lt-leb}
+use types.Run.{OneOf}
+use denote.Enum.Declared.{tagOf}
+use lib.Dec.{eqb, ltb}
+use lib.ListN.{length, getD, take, drop, length-drop, drop-of-length-le}
+use lib.Seq.{drop-cons, drop-drop, take-take, length-take-le}
+use Rattle.language.specs.Utf8.{Char, char, noChar, charAt}
+use Rattle.language.specs.Lexemes as language
+use Rattle.language.specs.Lexemes.{Tok, Kind, trivia, str, tok, error, placed, scanFrom, lexeme, Number, value, wrong, numbered, integer, readDigits, startsHex, startsZero, Quad, quad, notQuad, quadFrom, quadLexeme, number, string, punctuation, ascii, lexemeAt, isBlank, isDigit, isWord, isWordStart, isBody, run, hexLiteral, decLiteral}
+use Rattle.language.specs.Tokens.{unquoted, between, bodyOf, bodiesOf, bodiesIn}
+use Rattle.language.proofs.LexemeSizes.{by-cases, size-fits}
+use Rattle.language.proofs.LexemeSpans.{scan-unfolds}
+use Rattle.scan.specs.declared.Lexeme.{Lexeme}
+use Rattle.scan.specs.declared.LexemeKind.the-variants as kind-is
+use Rattle.scan.specs.declared.Scanner.{Scanner}
+use Rattle.scan.specs.declared.Step.the-variants.{Found, Done}
+use Rattle.scan.specs.Scanning as scanning
+use Rattle.scan.specs.Scanning.{kindAs, lexemeAs, found, stepAt}
+use Rattle.scan.proofs.LexemeKind as kind
+use Rattle.scan.proofs.Parts.{some-body}
+use Rattle.lex.specs.Lexing.{nth, bodyAt}
+
+never : {A : Type 0} → _≡_ {A = ℕ} 0 1 → A
+never z = absurd (omega arith)
+
+-- ---- a literal has both quotes
+
+abbrev quotes : Kind → ℕ
+quotes trivia = 0
+quotes str = 2
+quotes (tok t) = 0
+quotes (error e) = 0
+
+abbrev Quoted : language.Lexeme → Type 0
+Quoted l = quotes (l .kind) ≤ l .size
+
+-- an integer is none
+number-plain : (f : ℕ → Tok) (n : Number) → quotes (numbered f n) ≡ 0
+number-plain f (value n) = refl
+number-plain f (wrong x) = refl
+
+integer-plain : (w : List ℕ) → quotes (integer w) ≡ 0
+unfolding integer
+integer-plain w =
+    let P : Kind → Type 0 = λ k. quotes k ≡ 0 in
+    by-cases P (startsHex w) (λ _. number-plain hexLiteral (readDigits 16 0 (drop 2 w)))
+    (λ _. by-cases P (startsZero w) (λ _. refl) (λ _. number-plain decLiteral (readDigits 10 0 w)))
+
+-- nor is a quad
+quad-quoted : (n : ℕ) (a : Option ℕ) (more : ℕ) → Quoted (quadLexeme n a more)
+quad-quoted n (some a) zero = omega arith
+quad-quoted n (some a) (suc more) = omega arith
+quad-quoted n none more = omega arith
+
+number-quoted : (s : List ℕ) → Quoted (number s)
+unfolding number
+number-quoted s = go (quadFrom 3 (some 0) s) refl
+  where
+    go : (q : Quad) → quadFrom 3 (some 0) s ≡ q → Quoted (number s)
+    go (quad n a) e = rw (e, number) (quad-quoted n a (run isWord (drop n s)))
+    go notQuad e = rw (e, number) (omega (arith, integer-plain (take (run isWord s) s)))
+
+string-quoted : (s : List ℕ) → Quoted (string s)
+unfolding string
+string-quoted s = by-cases Quoted (eqb (getD s (run isBody s) 0) 34) (λ _. omega arith) (λ _. omega arith)
+
+ascii-quoted : (o : Option Tok) (b : ℕ) (s : List ℕ) → punctuation b ≡ o → Quoted (ascii b s)
+unfolding ascii
+ascii-quoted (some t) b s e = rw (e, ascii) (omega arith)
+ascii-quoted none b s e =
+    rw (e, ascii)
+    (by-cases Quoted (eqb b 35) (λ _. omega arith)
+    (λ _. by-cases Quoted (eqb b 47) (λ _. by-cases Quoted (eqb (getD s 0 0) 47) (λ _. omega arith) (λ _. omega arith))
+    (λ _. by-cases Quoted (eqb b 58) (λ _. by-cases Quoted (eqb (getD s 0 0) 58) (λ _. omega arith) (λ _. omega arith))
+    (λ _. by-cases Quoted (eqb b 34) (λ _. string-quoted s)
+    (λ _. by-cases Quoted (isWordStart b) (λ _. omega arith)
+    (λ _. by-cases Quoted (isDigit b) (λ _. number-quoted (b ∷ s)) (λ _. omega arith)))))))
+
+at-quoted : (c : Char) (b : ℕ) (s : List ℕ) → Quoted (lexemeAt c b s)
+at-quoted noChar b s = omega arith
+at-quoted (char c size) b s =
+    by-cases Quoted (isBlank c) (λ _. omega arith)
+    (λ _. by-cases Quoted (ltb c 128) (λ _. ascii-quoted (punctuation b) b s refl) (λ _. omega arith))
+
+quoted : (s : List ℕ) → Quoted (lexeme s)
+unfolding lexeme
+quoted [] = omega arith
+quoted (b ∷ s) = at-quoted (charAt (b ∷ s)) b s
+
+-- ---- a step of the scanner
+
+-- it found the lexeme that stands here, which has a byte and ends within the line, and goes on where that ends
+record Turn (line : List ℕ) (pos : ℕ) (l : Lexeme) (to : ℕ) : Type 0 where
+  begins : l .start ≡ pos
+  ends : l .end ≡ to
+  kind : l .kind ≡ kindAs (lexeme (drop pos line) .kind)
+  past : to ≡ pos + lexeme (drop pos line) .size
+  forth : pos < to
+  within : to ≤ length line
+  rest : scanFrom 0 pos (drop pos line) ≡ placed pos (lexeme (drop pos line)) ∷ scanFrom 0 to (drop to line)
+
+module _ (line : List ℕ) (pos : ℕ) where
+  turn : (l : Lexeme) (next : Scanner) → Found l next ≡ stepAt line pos → Turn line pos l (next .pos)
+  unfolding stepAt
+  turn l next e =
+      elim (decLt pos (length line)) [
+        | no h ↦ let k : Found l next ≡ Done = e ∙ rw (le-ltb pos (length line) (omega arith)) in never (cc)
+        | yes h ↦
+            let x = lexeme (drop pos line) in
+            let k : Found l next ≡ found x pos = e ∙ rw (lt-ltb pos (length line) h) in
+            let is : l ≡ lexemeAs pos x = cc in
+            let to : next ≡ record { pos = pos + x .size } = cc in
+            let past : next .pos ≡ pos + x .size = ap (λ (s : Scanner). s .pos) to in
+            let b : drop pos line ≡ getD line pos 0 ∷ drop (suc pos) line = drop-cons line pos 0 h in
+            let fits : (0 < x .size) × (x .size ≤ length (drop pos line)) = rw b (size-fits (getD line pos 0) (drop (suc pos) line)) in
+            record {
+              begins = ap (λ (m : Lexeme). m .start) is;
+              ends = ap (λ (m : Lexeme). m .end) is ∙ sym past;
+              kind = ap (λ (m : Lexeme). m .kind) is;
+              past = past;
+              forth = omega (arith, fits .0);
+              within = omega (arith, fits .1, length-drop pos line);
+              rest = rw (past, ← drop-drop (x .size) pos line) (rw b (scan-unfolds pos .1 (getD line pos 0) (drop (suc pos) line)));
+            }
+      ]
+
+  -- at the end of the line no lexeme is left
+  at-end : Done ≡ stepAt line pos → scanFrom 0 pos (drop pos line) ≡ []
+  unfolding stepAt
+  at-end e =
+      elim (decLt pos (length line)) [
+        | yes h ↦ let k : Done ≡ found (lexeme (drop pos line)) pos = e ∙ rw (lt-ltb pos (length line) h) in never (cc)
+        | no h ↦ rw (drop-of-length-le line {i = pos} (omega arith)) (scan-unfolds pos .0)
+      ]
+
+-- ---- the loop
+
+-- what stands between the quotes of a literal
+unquoted-is : (s : List ℕ) (at e : ℕ) → e ≤ length s → at + 2 ≤ e → unquoted (between s at e) ≡ scanning.bodyOf s at e
+unquoted-is s at e h k =
+    let m = e - (at + 1) in
+    let r = drop (suc at) s in
+    let d : drop at s ≡ getD s at 0 ∷ r = drop-cons s at 0 (omega arith) in
+    let n : e - at ≡ suc m = omega arith in
+    let b : between s at e ≡ getD s at 0 ∷ take m r = rw (n, d) in
+    let l : length (take m r) ≡ m = length-take-le m r (omega (arith, length-drop (suc at) s)) in
+    let p : suc m - 2 ≡ e - 1 - (at + 1) = omega arith in
+    rw (b, l, p) (take-take (e - 1 - (at + 1)) m r (omega arith) ∙ rw (← add-one at) (some-body s at e h (omega arith)))
+
+-- the code's kind of a literal, and of what is none
+is-literal : (k : Kind) → kind-is.Str ≡ kindAs k → k ≡ str
+is-literal str e = refl
+is-literal trivia e = never (cc)
+is-literal (tok t) e = never (cc)
+is-literal (error x) e = never (cc)
+
+no-literal : (k : Kind) (bs : List ℕ) → OneOf (0 ∷ 2 ∷ 3 ∷ []) (tagOf kind.the-type (kindAs k)) → bodyOf k bs ≡ []
+no-literal trivia bs o = refl
+no-literal (tok t) bs o = refl
+no-literal (error x) bs o = refl
+no-literal str bs (inl o) = absurd (omega (arith, o))
+no-literal str bs (inr (inl o)) = absurd (omega (arith, o))
+no-literal str bs (inr (inr o)) = absurd (omega (arith, o))
+
+-- the body numbered i is the one numbered `left` of the lexemes from `pos` on
+pub record Looking (text : List ℕ) (i left pos : ℕ) : Type 0 where
+  same : nth left (bodiesOf text (scanFrom 0 pos (drop pos text))) ≡ nth i (bodiesIn text)
+
+pub start : (text : List ℕ) (i pos : ℕ) → pos ≡ 0 → Looking text i i pos
+start text i pos z = record { same = rw z }
+
+module _ (text : List ℕ) (i left pos : ℕ) (k : Looking text i left pos) where
+  pub none-left : Done ≡ stepAt text pos → [] ≡ nth i (bodiesIn text)
+  none-left e = rw (at-end text pos e) at (k .same)
+
+  module _ (l : Lexeme) (next : Scanner) (e : Found l next ≡ stepAt text pos) where
+    pub shrinks : length text - next .pos < length text - pos
+    shrinks = let p = turn text pos l next e in omega (arith, p .forth, p .within)
+
+    abbrev x : Kind
+    x = lexeme (drop pos text) .kind
+
+    abbrev bytes : List ℕ
+    bytes = between text pos (pos + lexeme (drop pos text) .size)
+
+    abbrev after : List (List ℕ)
+    after = bodiesOf text (scanFrom 0 (next .pos) (drop (next .pos) text))
+
+    from-here : nth left (bodyOf x bytes ++ after) ≡ nth i (bodiesIn text)
+    from-here = rw (turn text pos l next e .rest) at (k .same)
+
+    -- no literal
+    pub passed : OneOf (0 ∷ 2 ∷ 3 ∷ []) (tagOf kind.the-type (l .kind)) → Looking text i left (next .pos)
+    passed h =
+        let n = no-literal x bytes (rw (turn text pos l next e .kind) at h) in
+        record { same = rw n at from-here }
+
+    module _ (h : l .kind ≡ kind-is.Str) where
+      literal : x ≡ str
+      literal = is-literal x (sym h ∙ turn text pos l next e .kind)
+
+      its-body : nth left (unquoted bytes ∷ after) ≡ nth i (bodiesIn text)
+      its-body = rw literal at from-here
+
+      -- a literal, and it is the one
+      pub is-it : {r : List ℕ} → left ≡ 0 → r ≡ scanning.bodyOf text (l .start) (l .end) → r ≡ nth i (bodiesIn text)
+      is-it {r} z d =
+          let p = turn text pos l next e in
+          let end = pos + lexeme (drop pos text) .size in
+          let two : 2 ≤ lexeme (drop pos text) .size = rw literal at (quoted (drop pos text)) in
+          let w : r ≡ scanning.bodyOf text pos end = d ∙ rw (p .begins, p .ends, p .past) in
+          w ∙ sym (unquoted-is text pos end (omega (arith, p .within, p .past)) (omega arith)) ∙ rw z at its-body
+
+      -- a literal, and it is not
+      pub not-it : (left ≡ 0 → ⊥) → Looking text i (left - 1) (next .pos)
+      not-it z = let n : left ≡ suc (left - 1) = omega arith in record { same = rw n at its-body }
+
+-- ---- a string token of a source
+
+module _ (s : List ℕ) (at e i : ℕ) where
+  pub some-part : e ≤ length s → at ≤ e → nth i (bodiesIn (between s at e)) ≡ bodyAt s at e i
+  unfolding bodyAt
+  some-part h k = rw (le-leb e (length s) h, le-leb at e k)
+
+  pub no-part : 0 < (e - length s) + (at - e) → [] ≡ bodyAt s at e i
+  unfolding bodyAt
+  no-part h =
+      elim (decLe e (length s)) [
+        | no below ↦ rw (lt-leb e (length s) (omega arith))
+        | yes within ↦ rw (le-leb e (length s) within, lt-leb at e (omega arith))
+      ]
