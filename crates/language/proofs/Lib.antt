@@ -9,3 +9,5 @@ pub mod LexemeSizes
 pub mod LexemeSpans
 pub mod LexemeDigits
 pub mod TokenExamples
+pub mod TokenPlaces
+pub mod TokenClaims
