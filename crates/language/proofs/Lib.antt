@@ -8,6 +8,7 @@ pub mod LexemeExamples
 pub mod LexemeSizes
 pub mod LexemeSpans
 pub mod LexemeDigits
+pub mod CutLexemes
 pub mod TokenExamples
 pub mod TokenPlaces
 pub mod TokenClaims
