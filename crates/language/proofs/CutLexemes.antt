@@ -14,10 +14,11 @@ use lib.ListN.{length, getD, take, drop, length-append, length-drop, List·getD-
 use lib.Seq.{take-append-le, drop-append-le, getD-append-add}
 use Rattle.language.specs.Choice.{if′, within}
 use Rattle.language.specs.Utf8.{encode, Char, char, noChar, Lead, lead, leadOf, follow, begun, charAt}
-use Rattle.language.specs.Lexemes.{Tok, word, Kind, trivia, tok, Lexeme, lexemeOf, run, isBlank, blankRun, isDigit, isWord, isWordStart, isBody, notNewline, octet, joined, Quad, quad, notQuad, further, quadFrom, quadLexeme, integer, number, string, comment, punctuation, ascii, lexemeAt, lexeme}
+use Rattle.language.specs.Lexemes.{Tok, word, Kind, trivia, tok, error, unexpectedChar, Lexeme, lexemeOf, run, isBlank, blankRun, isDigit, isWord, isWordStart, isBody, notNewline, octet, joined, Quad, quad, notQuad, further, quadFrom, quadLexeme, integer, number, string, comment, punctuation, ascii, lexemeAt, lexeme, placed, scanFrom}
 use Rattle.language.proofs.Tests.{inside}
 use Rattle.language.proofs.Utf8Rows.{character-at}
-use Rattle.language.proofs.LexemeSizes.{by-cases}
+use Rattle.language.proofs.LexemeSizes.{by-cases, size-fits}
+use Rattle.language.proofs.LexemeSpans.{scan-unfolds}
 
 -- the same test on both sides
 both-sides : {A : Type 0} (P : A → A → Type 0) (t : Bool) {a b c d : A} → (t ≡ true → P a c) → (t ≡ false → P b d) → P (if′ t a b) (if′ t c d)
@@ -389,3 +390,18 @@ before-newline (b ∷ s) r h = go (lexeme-cut b s (10 ∷ r))
     go : {i j : Lexeme} → Cut sizeOf (suc (length s)) (10 ∷ r) i j → j ≡ i
     go (same i k) = refl
     go (past j k g) = absurd (false≢true (sym g))
+
+-- byte 10 is a lexeme by itself
+pub newline : (r : List ℕ) → lexeme (10 ∷ r) ≡ lexemeOf (error (unexpectedChar 10)) 1
+unfolding lexeme charAt leadOf follow isBlank ascii punctuation isWordStart isDigit
+newline r = refl
+
+-- the lexemes of a list with a line end are those of the line, byte 10, and those after it
+pub scan-line : (fuel at to : ℕ) (x r : List ℕ) → length x < fuel → at + length x ≡ to
+    → scanFrom 0 at (x ++ 10 ∷ r) ≡ scanFrom 0 at x ++ placed to (lexemeOf (error (unexpectedChar 10)) 1) ∷ scanFrom 0 (to + 1) r
+scan-line zero at to x r l e = absurd (omega arith)
+scan-line (suc fuel) at to [] r l e = let z : at ≡ to = omega arith in rw (z, scan-unfolds to .1 10 r, scan-unfolds to .0, newline r)
+scan-line (suc fuel) at to (b ∷ x) r l e =
+    let n = lexeme (b ∷ x) .size in
+    let h = size-fits b x in
+    rw (scan-unfolds at .1 b (x ++ 10 ∷ r), scan-unfolds at .1 b x, before-newline (b ∷ x) r (omega arith), drop-append-le n (b ∷ x) (10 ∷ r) (h .1), scan-line fuel (at + n) to (drop n (b ∷ x)) r (rw length-drop (omega arith)) (rw length-drop (omega arith)))

@@ -11,4 +11,5 @@ pub mod LexemeDigits
 pub mod CutLexemes
 pub mod TokenExamples
 pub mod TokenPlaces
+pub mod TokenBodies
 pub mod TokenClaims
