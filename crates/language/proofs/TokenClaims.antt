@@ -7,8 +7,10 @@ use mathlib.Core.Logic.{_⊎_, inl, inr}
 use native.Mathlib.Omega.{arith}
 use lib.ListN.{length, take, drop, length-append, length-drop}
 use lib.Seq.{take-at, drop-at, drop-drop}
-use Rattle.language.specs.Lexemes.{Tok, lParen, rParen, dot, doubleColon, colon, semiColon, equals, comma, slash, importKeyword, letKeyword, identifier, booleanLiteral, ipv4Literal, hexLiteral, decLiteral, Kind, trivia, str, tok, error}
-use Rattle.language.specs.Tokens.{Content, eof, plain, name, string, Token, contentOf, unquoted, Item, items, Pending, joined, pendingToken, flushed, itemToken, tokensFrom, tokens, eofToken, Place, placeOf, between, PlacesRight, Ordered, ordered-none, ordered-one, TokensInOrder, NamesHeld}
+use Rattle.language.specs.Lexemes.{Tok, lParen, rParen, dot, doubleColon, colon, semiColon, equals, comma, slash, importKeyword, letKeyword, identifier, booleanLiteral, ipv4Literal, hexLiteral, decLiteral, unexpectedChar, Kind, trivia, str, tok, error, lexemeOf, lexeme}
+use Rattle.language.specs.Tokens.{Content, eof, plain, name, string, Token, contentOf, unquoted, Item, items, Pending, joined, pendingToken, flushed, itemToken, tokensFrom, tokens, eofToken, Place, placeOf, between, PlacesRight, Ordered, ordered-none, ordered-one, TokensInOrder, NamesHeld, bodyOf, bodiesIn, BodiesHeld}
+use Rattle.language.proofs.CutLexemes.{newline}
+use Rattle.language.proofs.TokenBodies.{Held, held-none, held-more, bodies-of}
 use Rattle.language.proofs.TokenPlaces.{place, itemAt, Walk, walk-end, walk-newline, walk-item, source-walk}
 
 -- a lexeme's token is a name with its bytes, or plain
@@ -33,6 +35,7 @@ module _ (source : List ℕ) where
     some-byte : t .start < t .end
     in-room : t .end ≤ length source
     named : (bs : List ℕ) → t .content ≡ name bs → between source (t .start) (t .end) ≡ bs
+    bodied : (b : List ℕ) (bs : List (List ℕ)) → t .content ≡ string b bs → bodiesIn (between source (t .start) (t .end)) ≡ b ∷ bs
 
   -- tokens from `at` on, in order
   data Told : ℕ → List Token → Type 0 where
@@ -44,6 +47,10 @@ module _ (source : List ℕ) where
     good : Good (pendingToken p)
     behind : from ≤ p .start
     before : p .end ≤ at
+    text : List ℕ
+    reads : Reads (p .start) (text ++ s)
+    upto : p .start + length text ≡ at
+    held : Held text s (p .first ∷ p .others)
 
   data Waits (from at : ℕ) (s : List ℕ) : Option Pending → Type 0 where
     idle : from ≤ at → Waits from at s none
@@ -55,39 +62,63 @@ module _ (source : List ℕ) where
   flush {from} (idle l) more = more from l
   flush (busy {p} w) more = told-one (pendingToken p) (w .behind) (w .good) (more (p .end) (w .before))
 
-  -- a lexeme of bytes x, `at` in the source, before s
+  -- bytes x, `at` in the source, before s
   module _ (at : ℕ) (x s : List ℕ) (h : 0 < length x) (q : Reads at (x ++ s)) where
-    -- what follows it
+    -- what follows them
     reads-on : Reads (at + length x) s
     reads-on =
         let l = simp (length-drop, length-append) at (ap length (q .rest)) in
         record { rest = rw (← drop-drop, q .rest) (drop-at x s (length x) refl); in-room = omega arith }
 
-    -- its span
+    -- their span
     span : between source at (at + length x) ≡ x
     span = rw (q .rest) (take-at x s (at + length x - at) (omega arith))
 
-    -- it has no body
-    silent : {from : ℕ} {p : Option Pending} → Waits from at (x ++ s) p → Waits from (at + length x) s p
-    silent (idle l) = idle (omega arith)
-    silent (busy w) = busy (record { good = w .good; behind = w .behind; before = omega (arith, w .before) })
+    -- they are the literals p, to the end of the last
+    ended : (from n c : ℕ) (first : List ℕ) (others : List (List ℕ)) → placeOf source at ≡ place n c → from ≤ at → Held x s (first ∷ others)
+        → Waiting from (at + length x) s (record { first = first; others = others; line = n; column = c; start = at; end = at + length x })
+    ended from n c first others r l w =
+        record {
+          good =
+            record {
+              right = r;
+              some-byte = omega arith;
+              in-room = reads-on .in-room;
+              named = λ bs e. cc;
+              bodied = λ b bs e. rw span (cc (bodies-of w));
+            };
+          behind = l;
+          before = omega arith;
+          text = x;
+          reads = q;
+          upto = refl;
+          held = w;
+        }
 
-    -- it is the last of the literals p
-    ended : {from : ℕ} (p : Pending) → placeOf source (p .start) ≡ place (p .line) (p .column) → from ≤ p .start → p .start ≤ at
-        → p .end ≡ at + length x → Waiting from (at + length x) s p
-    ended p r l k e =
-        let good : Good (pendingToken p) =
-          record { right = r; some-byte = omega arith; in-room = omega (arith, reads-on .in-room); named = λ bs f. cc }
-        in
-        record { good = good; behind = l; before = omega arith }
+  -- a lexeme of them
+  module _ (at : ℕ) (k : Kind) (x s : List ℕ) (h : 0 < length x) (rule : lexeme (x ++ s) ≡ lexemeOf k (length x)) (q : Reads at (x ++ s)) where
+    -- it has no body
+    silent : {from : ℕ} {p : Option Pending} → bodyOf k x ≡ [] → Waits from at (x ++ s) p → Waits from (at + length x) s p
+    silent e (idle l) = idle (omega arith)
+    silent e (busy {p} w) =
+        busy (record {
+          good = w .good;
+          behind = w .behind;
+          before = omega (arith, w .before);
+          text = w .text ++ x;
+          reads = rw append-assoc (w .reads);
+          upto = rw length-append (omega (arith, w .upto));
+          held = rw (e, append-nil (p .others)) at (held-more k x h rule (w .held));
+        })
 
     -- it is a literal
-    literal : {from : ℕ} {p : Option Pending} (n c : ℕ) → placeOf source at ≡ place n c → Waits from at (x ++ s) p
+    literal : {from : ℕ} {p : Option Pending} (n c : ℕ) → bodyOf k x ≡ unquoted x ∷ [] → placeOf source at ≡ place n c → Waits from at (x ++ s) p
         → Waits from (at + length x) s (some (joined p (itemAt n c at str x) (unquoted x)))
-    literal {from} n c r (idle l) = busy (ended (joined none (itemAt n c at str x) (unquoted x)) r l (omega arith) refl)
-    literal {from} n c r (busy {p} w) =
-        let k : p .start ≤ at = omega (arith, w .before, w .good .some-byte) in
-        busy (ended (joined (some p) (itemAt n c at str x) (unquoted x)) (w .good .right) (w .behind) k refl)
+    literal {from} n c e r (idle l) = busy (ended at x s h q from n c (unquoted x) [] r l (rw e at (held-more k x h rule held-none)))
+    literal {from} n c e r (busy {p} w) =
+        let text = w .text ++ x in
+        let to : p .start + length text ≡ at + length x = rw length-append (omega (arith, w .upto)) in
+        rw to at (busy (ended (p .start) text s (rw length-append (omega arith)) (rw append-assoc (w .reads)) from (p .line) (p .column) (p .first) (p .others ++ unquoted x ∷ []) (w .good .right) (w .behind) (rw e at (held-more k x h rule (w .held)))))
 
     -- it is a token
     good-item : (n c : ℕ) (t : Tok) → placeOf source at ≡ place n c → Good (itemToken (itemAt n c at (tok t) x) (contentOf t x))
@@ -95,8 +126,9 @@ module _ (source : List ℕ) where
         record {
           right = r;
           some-byte = omega arith;
-          in-room = reads-on .in-room;
-          named = λ bs e. elim (content-cases t x) [ inl f ↦ rw span (cc) | inr f ↦ cc ];
+          in-room = reads-on at x s h q .in-room;
+          named = λ bs e. elim (content-cases t x) [ inl f ↦ rw (span at x s h q) (cc) | inr f ↦ cc ];
+          bodied = λ b bs e. elim (content-cases t x) [ inl f ↦ cc | inr f ↦ cc ];
         }
 
   -- the tokens of a walk
@@ -105,13 +137,14 @@ module _ (source : List ℕ) where
   unfolding tokensFrom
   told walk-end from p q w = rw (← append-nil (flushed p)) (flush w (λ f h. told-none (omega (arith, q .in-room))))
   told {at} (walk-newline {s} v) from p q w =
-      let x : List ℕ = 10 ∷ [] in told v from p (reads-on at x s (omega arith) q) (silent at x s (omega arith) q w)
-  told {at} (walk-item {s} n c trivia x r h v) from p q w = told v from p (reads-on at x s h q) (silent at x s h q w)
-  told {at} (walk-item {s} n c (error e) x r h v) from p q w = told v from p (reads-on at x s h q) (silent at x s h q w)
-  told {at} (walk-item {s} n c str x r h v) from p q w =
-      told v from (some (joined p (itemAt n c at str x) (unquoted x))) (reads-on at x s h q) (literal at x s h q n c r w)
-  told {at} (walk-item {s} n c (tok t) x r h v) from p q w =
-      flush w (λ f l. told-one _ l (good-item at x s h q n c t r) (told v (at + length x) none (reads-on at x s h q) (idle (omega arith))))
+      let x : List ℕ = 10 ∷ [] in
+      told v from p (reads-on at x s (omega arith) q) (silent at (error (unexpectedChar 10)) x s (omega arith) (newline s) q refl w)
+  told {at} (walk-item {s} n c trivia x r h g v) from p q w = told v from p (reads-on at x s h q) (silent at trivia x s h g q refl w)
+  told {at} (walk-item {s} n c (error e) x r h g v) from p q w = told v from p (reads-on at x s h q) (silent at (error e) x s h g q refl w)
+  told {at} (walk-item {s} n c str x r h g v) from p q w =
+      told v from (some (joined p (itemAt n c at str x) (unquoted x))) (reads-on at x s h q) (literal at str x s h g q n c refl r w)
+  told {at} (walk-item {s} n c (tok t) x r h g v) from p q w =
+      flush w (λ f l. told-one _ l (good-item at (tok t) x s h g q n c t r) (told v (at + length x) none (reads-on at x s h q) (idle (omega arith))))
 
   -- all tokens
   all-told : Told 0 (tokensFrom none (items source))
@@ -136,11 +169,17 @@ pub tokens-in-order : TokensInOrder
 unfolding tokens
 tokens-in-order s = in-order s (all-told s)
 
--- what holds of every good token holds of the end, where it asks for another content
-pub names-held : NamesHeld
+-- a token is good, or it is the end
+good-or-end : (s : List ℕ) (t : Token) → List·Memᴰ t (tokens s) → Good s t ⊎ (t .content ≡ eof)
 unfolding tokens
-names-held s t bs m e =
+good-or-end s t m =
     elim (List·Memᴰ·append-cases (tokensFrom none (items s)) m) [
-      | inl n ↦ each-good s (all-told s) n .named bs e
-      | inr n ↦ let f = List·Memᴰ·eq-of-singleton n in cc (ap (λ (u : Token). u .content) f)
+      | inl n ↦ inl (each-good s (all-told s) n)
+      | inr n ↦ inr (ap (λ (u : Token). u .content) (List·Memᴰ·eq-of-singleton n))
     ]
+
+pub names-held : NamesHeld
+names-held s t bs m e = elim (good-or-end s t m) [ inl g ↦ g .named bs e | inr f ↦ cc ]
+
+pub bodies-held : BodiesHeld
+bodies-held s t b bs m e = elim (good-or-end s t m) [ inl g ↦ g .bodied b bs e | inr f ↦ cc ]

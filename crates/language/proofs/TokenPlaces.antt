@@ -14,6 +14,7 @@ use Rattle.language.specs.Lexemes.{Kind, Lexeme, lexemeOf, lexeme, Place
 use Rattle.language.specs.Tokens.{Line, lineAt, linesFrom, pieceOf, Item, itemOf, itemsFrom, items, Place, placeFrom, placeOf}
 use Rattle.language.proofs.LexemeSizes.{size-fits}
 use Rattle.language.proofs.LexemeSpans.{scan-unfolds}
+use Rattle.language.proofs.CutLexemes.{before-newline}
 
 -- ---- lines
 
@@ -78,7 +79,7 @@ pub data Walk (source : List ℕ) : ℕ → List ℕ → List Item → Type 0 wh
   walk-end : {at : ℕ} → Walk source at [] []
   walk-newline : {at : ℕ} {s : List ℕ} {is : List Item} → Walk source (at + 1) s is → Walk source at (10 ∷ s) is
   walk-item : {at : ℕ} {s : List ℕ} {is : List Item} (n c : ℕ) (k : Kind) (x : List ℕ) → placeOf source at ≡ place n c → 0 < length x
-      → Walk source (at + length x) s is → Walk source at (x ++ s) (itemAt n c at k x ∷ is)
+      → lexeme (x ++ s) ≡ lexemeOf k (length x) → Walk source (at + length x) s is → Walk source at (x ++ s) (itemAt n c at k x ∷ is)
 
 -- a lexeme of a line, by its bytes
 item-here : (n start at m : ℕ) (k : Kind) (line x : List ℕ) → take (at + m - at) (drop at line) ≡ x → m ≡ length x
@@ -88,7 +89,7 @@ item-here n start at m k line x e f = let z : start + (at + m) ≡ start + at + 
 module _ (source : List ℕ) where
   -- the line numbered n, before z
   module _ (n start : ℕ) (line z : List ℕ) (is : List Item) (h : OneLine line) (right : (k : ℕ) → placeOf source (start + k) ≡ placeFrom n 1 (line ++ z) k)
-      (after : Walk source (start + length line) z is) where
+      (ends : (y : List ℕ) → 0 < length y → lexeme (y ++ z) ≡ lexeme y) (after : Walk source (start + length line) z is) where
     -- its byte `at` stands in the column `at + 1`
     column-right : (at : ℕ) → at ≤ length line → placeOf source (start + at) ≡ place n (suc at)
     unfolding placeFrom
@@ -108,8 +109,9 @@ module _ (source : List ℕ) where
         let i : at + m - at ≡ m = omega arith in
         let j : start + (at + m) ≡ start + at + length x = omega arith in
         let parts : b ∷ y ++ z ≡ x ++ (drop m (b ∷ y) ++ z) = rw (← append-assoc, take-append-drop m (b ∷ y)) in
+        let rule : lexeme (x ++ (drop m (b ∷ y) ++ z)) ≡ lexemeOf k (length x) = rw (← parts, lx) (ends (b ∷ y) (omega arith)) in
         rw (scan-unfolds at .1 b y, item-here n start at m k line x (rw (i, e)) (sym lx), parts)
-        (walk-item n (suc at) k x (column-right at (omega arith)) (omega arith)
+        (walk-item n (suc at) k x (column-right at (omega arith)) (omega arith) rule
         (rw j at (line-from fuel (at + m) (drop m (b ∷ y)) (rw length-drop (omega arith)) (rw (← drop-drop, e)) (rw length-drop (omega arith)))))
 
     line-walk : Walk source start (line ++ z) (map (itemOf n (lineAt start line)) (scanFrom 0 0 line) ++ is)
@@ -121,14 +123,14 @@ module _ (source : List ℕ) where
   unfolding linesFrom itemsFrom placeFrom
   lines-walk n at right no-line = walk-end
   lines-walk n at right (last-line {b} {x} h) =
-      rw lines-last (rw (append-nil (b ∷ x)) at (line-walk n at (b ∷ x) [] [] h (λ k. rw append-nil (right k)) walk-end))
+      rw lines-last (rw (append-nil (b ∷ x)) at (line-walk n at (b ∷ x) [] [] h (λ k. rw append-nil (right k)) (λ y _. rw append-nil) walk-end))
   lines-walk n at right (a-line {r} x h w) =
       let m = at + length x in
       let next : (k : ℕ) → placeOf source (suc m + k) ≡ placeFrom (suc n) 1 r k =
         λ k. let e : suc m + k ≡ at + (length x + suc k) = omega arith in
         rw e (right (length x + suc k) ∙ rw (place-on n 1 (length x) (suc k) (length x + suc k) (1 + length x) (10 ∷ r) h (omega arith) refl refl, drop-at))
       in
-      rw (lines-first at m r h refl) (line-walk n at x (10 ∷ r) _ h right (walk-newline (rw add-one (lines-walk (suc n) (suc m) next w))))
+      rw (lines-first at m r h refl) (line-walk n at x (10 ∷ r) _ h right (λ y l. before-newline y r l) (walk-newline (rw add-one (lines-walk (suc n) (suc m) next w))))
 
   pub source-walk : Walk source 0 source (items source)
   unfolding items
