@@ -8,4 +8,8 @@ pub mod LexemeExamples
 pub mod LexemeSizes
 pub mod LexemeSpans
 pub mod LexemeDigits
+pub mod CutLexemes
 pub mod TokenExamples
+pub mod TokenPlaces
+pub mod TokenBodies
+pub mod TokenClaims
