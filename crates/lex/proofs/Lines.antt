@@ -129,7 +129,7 @@ wrong-append (x ∷ xs) ys = go (x .piece) (wrong-append xs ys)
 
 -- ---- the loop
 
--- the lexer x has been fed all lines before `at`, and the table was t at first; what it holds counts where t was all zero
+-- the lexer x was fed all lines before `at`, and the table was t at first. What it holds is said where t was all zero.
 pub record LinesFed (s t : List ℕ) (u : List ℕ) (x : Lexer) (at : ℕ) : Type 0 where
   pub done : List Item
   pub whole : done ++ itemsFrom (x .lno + 1) (linesFrom at (drop at s)) ≡ items s

@@ -2,7 +2,6 @@ use borrow.Author.Needs.{needs}
 use Prim.Native.Nat.{_-_}
 use mathlib.Core.Logic.{⊎-elim}
 use Rattle.lex.proofs.Places.{Placing, start, next-line, next-column, arrived}
-use native.Mathlib.Omega.{arith}
 use Rattle.lex.proofs.spot_of.Statement.{statement}
 use Rattle.lex.proofs.spot_of.Tie as tie
 
