@@ -30,8 +30,8 @@ bodies-to : {t z : List ℕ} {bs : List (List ℕ)} → Held t z bs → (u v : L
 bodies-to held-none u v e = refl
 bodies-to (held-more {t} {z} {bs} k x h q w) u v e =
     let same : lexeme (x ++ u) ≡ lexemeOf k (length x) =
-      let whole : lexeme ((x ++ u) ++ v) ≡ lexemeOf k (length x) = rw (append-assoc, ← e) q in
-      cut (x ++ u) v (rw length-append (omega arith)) (rw (whole, length-append) (omega arith)) ∙ whole
+    let whole : lexeme ((x ++ u) ++ v) ≡ lexemeOf k (length x) = rw (append-assoc, ← e) q in
+    cut (x ++ u) v (rw length-append (omega arith)) (rw (whole, length-append) (omega arith)) ∙ whole
     in
     rw (append-assoc t x u, append-assoc bs (bodyOf k x), length-append t x, ← one-lexeme t x u k h same) (bodies-to w (x ++ u) v (rw (e, append-assoc)))
 

@@ -18,9 +18,21 @@ content-cases : (t : Tok) (x : List ℕ) → (contentOf t x ≡ name x) ⊎ (con
 content-cases t x =
     elim t [
       | identifier ↦ inl refl
-      | lParen ↦ inr refl | rParen ↦ inr refl | dot ↦ inr refl | doubleColon ↦ inr refl | colon ↦ inr refl | semiColon ↦ inr refl
-      | equals ↦ inr refl | comma ↦ inr refl | slash ↦ inr refl | importKeyword ↦ inr refl | letKeyword ↦ inr refl
-      | booleanLiteral b ↦ inr refl | ipv4Literal n ↦ inr refl | hexLiteral n ↦ inr refl | decLiteral n ↦ inr refl
+      | lParen ↦ inr refl
+      | rParen ↦ inr refl
+      | dot ↦ inr refl
+      | doubleColon ↦ inr refl
+      | colon ↦ inr refl
+      | semiColon ↦ inr refl
+      | equals ↦ inr refl
+      | comma ↦ inr refl
+      | slash ↦ inr refl
+      | importKeyword ↦ inr refl
+      | letKeyword ↦ inr refl
+      | booleanLiteral b ↦ inr refl
+      | ipv4Literal n ↦ inr refl
+      | hexLiteral n ↦ inr refl
+      | decLiteral n ↦ inr refl
     ]
 
 module _ (source : List ℕ) where
@@ -80,13 +92,13 @@ module _ (source : List ℕ) where
     ended from n c first others r l w =
         record {
           good =
-            record {
-              right = r;
-              some-byte = omega arith;
-              in-room = reads-on .in-room;
-              named = λ bs e. cc;
-              bodied = λ b bs e. rw span (cc (bodies-of w));
-            };
+              record {
+                right = r;
+                some-byte = omega arith;
+                in-room = reads-on .in-room;
+                named = λ bs e. cc;
+                bodied = λ b bs e. rw span (cc (bodies-of w));
+              };
           behind = l;
           before = omega arith;
           text = x;

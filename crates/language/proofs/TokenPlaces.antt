@@ -127,8 +127,8 @@ module _ (source : List ℕ) where
   lines-walk n at right (a-line {r} x h w) =
       let m = at + length x in
       let next : (k : ℕ) → placeOf source (suc m + k) ≡ placeFrom (suc n) 1 r k =
-        λ k. let e : suc m + k ≡ at + (length x + suc k) = omega arith in
-        rw e (right (length x + suc k) ∙ rw (place-on n 1 (length x) (suc k) (length x + suc k) (1 + length x) (10 ∷ r) h (omega arith) refl refl, drop-at))
+      λ k. let e : suc m + k ≡ at + (length x + suc k) = omega arith in
+      rw e (right (length x + suc k) ∙ rw (place-on n 1 (length x) (suc k) (length x + suc k) (1 + length x) (10 ∷ r) h (omega arith) refl refl, drop-at))
       in
       rw (lines-first at m r h refl) (line-walk n at x (10 ∷ r) _ h right (λ y l. before-newline y r l) (walk-newline (rw add-one (lines-walk (suc n) (suc m) next w))))
 

@@ -19,6 +19,7 @@ use Rattle.utf8.specs.Decoding.{badOf}
 use Rattle.utf8.specs.declared.Bad.the-variants.{At, Nowhere}
 use Rattle.scan.specs.declared.Verdict.{Verdict}
 use Rattle.scan.specs.Scanning.{verdictAs}
+use Rattle.scan.proofs.Answers.{bad-at, bad-nowhere}
 use Rattle.lex.specs.declared.Lexer.{Lexer}
 use Rattle.lex.specs.declared.Fed.{Fed}
 use Rattle.lex.specs.declared.Fed.the-variants.{Goes, Stops}
@@ -26,14 +27,6 @@ use Rattle.lex.specs.declared.Spot.{Spot}
 use Rattle.lex.specs.declared.Lexed.{Lexed}
 use Rattle.lex.proofs.Lines.{few-lines}
 use Rattle.lex.specs.Lexing.{State, begun, stated, flushedState, stepTo, feed, Holds, Few, FedIs, FeedsAll, Finishes, spotAs, lexedAs}
-
-bad-at : (o : Option ℕ) (at : ℕ) → At at ≡ badOf o → o ≡ some at
-bad-at (some x) at e = cc
-bad-at none at e = let z : _≡_ {A = ℕ} 0 1 = cc in absurd (omega arith)
-
-bad-nowhere : (o : Option ℕ) → Nowhere ≡ badOf o → o ≡ none
-bad-nowhere (some x) e = let z : _≡_ {A = ℕ} 0 1 = cc in absurd (omega arith)
-bad-nowhere none e = refl
 
 -- ---- the answer
 

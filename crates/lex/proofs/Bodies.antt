@@ -1,33 +1,33 @@
 -- The bodies of the literals of a text, and the loop that looks for one.
 use Prim.Native.Nat.{ℕ, zero, suc, _+_, _-_, _≤_, _<_}
-use mathlib.Core.Path.{_≡_, refl, sym, ap, _∙_}
+use mathlib.Core.Path.{_≡_, refl, sym, _∙_}
 use mathlib.Core.List.{List, [], _∷_, _++_}
 use mathlib.Core.Logic.{inl, inr}
 use mathlib.Core.Option.{Option, none, some}
-use native.Mathlib.Decide.{decLt, decLe}
+use native.Mathlib.Decide.{decLe}
 use native.Mathlib.Numerals.{add-one}
 use native.Mathlib.Omega.{arith}
-use borrow.Author.Tests.{lt-ltb, le-ltb, le-leb, lt-leb}
+use borrow.Author.Tests.{le-leb, lt-leb}
 use types.Run.{OneOf}
 use denote.Enum.Declared.{tagOf}
 use lib.Dec.{eqb, ltb}
-use lib.ListN.{length, getD, take, drop, length-drop, drop-of-length-le}
-use lib.Seq.{drop-cons, drop-drop, take-take, length-take-le}
+use lib.ListN.{length, getD, take, drop, length-drop}
+use lib.Seq.{drop-cons, take-take, length-take-le}
 use Rattle.language.specs.Utf8.{Char, char, noChar, charAt}
 use Rattle.language.specs.Lexemes as language
-use Rattle.language.specs.Lexemes.{Tok, Kind, trivia, str, tok, error, placed, scanFrom, lexeme, Number, value, wrong, numbered, integer, readDigits, startsHex, startsZero, Quad, quad, notQuad, quadFrom, quadLexeme, number, string, punctuation, ascii, lexemeAt, isBlank, isDigit, isWord, isWordStart, isBody, run, hexLiteral, decLiteral}
+use Rattle.language.specs.Lexemes.{Tok, Kind, trivia, str, tok, error, scanFrom, lexeme, Number, value, wrong, numbered, integer, readDigits, startsHex, startsZero, Quad, quad, notQuad, quadFrom, quadLexeme, number, string, punctuation, ascii, lexemeAt, isBlank, isDigit, isWord, isWordStart, isBody, run, hexLiteral, decLiteral}
 use Rattle.language.specs.Tokens.{unquoted, between, bodyOf, bodiesOf, bodiesIn}
-use Rattle.language.proofs.LexemeSizes.{by-cases, size-fits}
-use Rattle.language.proofs.LexemeSpans.{scan-unfolds}
+use Rattle.language.proofs.LexemeSizes.{by-cases}
 use Rattle.scan.specs.declared.Lexeme.{Lexeme}
 use Rattle.scan.specs.declared.LexemeKind.the-variants as kind-is
 use Rattle.scan.specs.declared.Scanner.{Scanner}
 use Rattle.scan.specs.declared.Step.the-variants.{Found, Done}
 use Rattle.scan.specs.Scanning as scanning
-use Rattle.scan.specs.Scanning.{kindAs, lexemeAs, found, stepAt}
+use Rattle.scan.specs.Scanning.{kindAs, stepAt}
 use Rattle.scan.proofs.LexemeKind as kind
 use Rattle.scan.proofs.Parts.{some-body}
 use Rattle.lex.specs.Lexing.{nth, bodyAt}
+use Rattle.lex.proofs.Feeding.{turn, at-end}
 
 never : {A : Type 0} → _≡_ {A = ℕ} 0 1 → A
 never z = absurd (omega arith)
@@ -95,52 +95,6 @@ quoted : (s : List ℕ) → Quoted (lexeme s)
 unfolding lexeme
 quoted [] = omega arith
 quoted (b ∷ s) = at-quoted (charAt (b ∷ s)) b s
-
--- ---- a step of the scanner
-
--- it found the lexeme that stands here, which has a byte and ends within the line, and goes on where that ends
-record Turn (line : List ℕ) (pos : ℕ) (l : Lexeme) (to : ℕ) : Type 0 where
-  begins : l .start ≡ pos
-  ends : l .end ≡ to
-  kind : l .kind ≡ kindAs (lexeme (drop pos line) .kind)
-  past : to ≡ pos + lexeme (drop pos line) .size
-  forth : pos < to
-  within : to ≤ length line
-  rest : scanFrom 0 pos (drop pos line) ≡ placed pos (lexeme (drop pos line)) ∷ scanFrom 0 to (drop to line)
-
-module _ (line : List ℕ) (pos : ℕ) where
-  turn : (l : Lexeme) (next : Scanner) → Found l next ≡ stepAt line pos → Turn line pos l (next .pos)
-  unfolding stepAt
-  turn l next e =
-      elim (decLt pos (length line)) [
-        | no h ↦ let k : Found l next ≡ Done = e ∙ rw (le-ltb pos (length line) (omega arith)) in never (cc)
-        | yes h ↦
-            let x = lexeme (drop pos line) in
-            let k : Found l next ≡ found x pos = e ∙ rw (lt-ltb pos (length line) h) in
-            let is : l ≡ lexemeAs pos x = cc in
-            let to : next ≡ record { pos = pos + x .size } = cc in
-            let past : next .pos ≡ pos + x .size = ap (λ (s : Scanner). s .pos) to in
-            let b : drop pos line ≡ getD line pos 0 ∷ drop (suc pos) line = drop-cons line pos 0 h in
-            let fits : (0 < x .size) × (x .size ≤ length (drop pos line)) = rw b (size-fits (getD line pos 0) (drop (suc pos) line)) in
-            record {
-              begins = ap (λ (m : Lexeme). m .start) is;
-              ends = ap (λ (m : Lexeme). m .end) is ∙ sym past;
-              kind = ap (λ (m : Lexeme). m .kind) is;
-              past = past;
-              forth = omega (arith, fits .0);
-              within = omega (arith, fits .1, length-drop pos line);
-              rest = rw (past, ← drop-drop (x .size) pos line) (rw b (scan-unfolds pos .1 (getD line pos 0) (drop (suc pos) line)));
-            }
-      ]
-
-  -- at the end of the line no lexeme is left
-  at-end : Done ≡ stepAt line pos → scanFrom 0 pos (drop pos line) ≡ []
-  unfolding stepAt
-  at-end e =
-      elim (decLt pos (length line)) [
-        | yes h ↦ let k : Done ≡ found (lexeme (drop pos line)) pos = e ∙ rw (lt-ltb pos (length line) h) in never (cc)
-        | no h ↦ rw (drop-of-length-le line {i = pos} (omega arith)) (scan-unfolds pos .0)
-      ]
 
 -- ---- the loop
 

@@ -20,7 +20,8 @@ use Rattle.scan.proofs.Numerals.{run-le}
 use Rattle.lex.specs.declared.Lexer.{Lexer}
 use Rattle.lex.specs.declared.Fed.{Fed}
 use Rattle.lex.specs.declared.Fed.the-variants.{Goes, Stops}
-use Rattle.lex.specs.Lexing.{State, begun, stepTo, feed, lineItems, Few, FedIs, Feeds, lineEnd, FeedsAll}
+use Rattle.lex.proofs.States.{feed-append, wrong-append}
+use Rattle.lex.specs.Lexing.{begun, feed, lineItems, Few, FedIs, Feeds, lineEnd, FeedsAll}
 
 -- ---- a line, and the lines after it
 
@@ -100,32 +101,6 @@ module _ (s : List ℕ) (at : ℕ) (l : at < length s) (e : ℕ) (q : e ≡ line
 
   next-count : length (linesFrom at (drop at s)) ≡ suc (length (linesFrom (e + 1) (drop (e + 1) s)))
   next-count = ap length next-line
-
--- ---- lists of lexemes, one after the other
-
-pub feed-append : (s : State) (xs ys : List Item) → feed s (xs ++ ys) ≡ feed (feed s xs) ys
-unfolding feed
-feed-append s [] ys = refl
-feed-append s (x ∷ xs) ys = feed-append (stepTo (x .piece) x s) xs ys
-
-abbrev pub either : Option Wrong → Option Wrong → Option Wrong
-either none o = o
-either (some w) o = some w
-
-pub wrong-append : (xs ys : List Item) → firstWrong (xs ++ ys) ≡ either (firstWrong xs) (firstWrong ys)
-unfolding firstWrong
-wrong-append [] ys = refl
-wrong-append (x ∷ xs) ys = go (x .piece) (wrong-append xs ys)
-  where
-    here : Piece → Option Wrong → Option Wrong
-    here p o = orElse p x o (λ e j. some (record { kind = e; at = j }))
-
-    go : (p : Piece) → firstWrong (xs ++ ys) ≡ either (firstWrong xs) (firstWrong ys)
-        → here p (firstWrong (xs ++ ys)) ≡ either (here p (firstWrong xs)) (firstWrong ys)
-    go gap h = h
-    go (body b) h = h
-    go (token c) h = h
-    go (wrong e) h = refl
 
 -- ---- the loop
 

@@ -23,11 +23,11 @@ use Rattle.scan.specs.declared.Scanned.{Scanned}
 use Rattle.scan.specs.Scanning.{verdictAs, scannedAs}
 use Rattle.scan.specs.Entry.{ScanLine}
 
-bad-at : (o : Option ℕ) (at : ℕ) → At at ≡ badOf o → o ≡ some at
+pub bad-at : (o : Option ℕ) (at : ℕ) → At at ≡ badOf o → o ≡ some at
 bad-at (some x) at e = cc
 bad-at none at e = let z : _≡_ {A = ℕ} 0 1 = cc in absurd (omega arith)
 
-bad-nowhere : (o : Option ℕ) → Nowhere ≡ badOf o → o ≡ none
+pub bad-nowhere : (o : Option ℕ) → Nowhere ≡ badOf o → o ≡ none
 bad-nowhere (some x) e = let z : _≡_ {A = ℕ} 0 1 = cc in absurd (omega arith)
 bad-nowhere none e = refl
 
