@@ -415,13 +415,14 @@ pub newline : (r : List ℕ) → lexeme (10 ∷ r) ≡ lexemeOf (error (unexpect
 unfolding lexeme charAt leadOf follow isBlank ascii punctuation isWordStart isDigit
 newline r = refl
 
--- the lexemes of a list with a line end: those before it, byte 10, and those after it
-pub scan-line : (at to : ℕ) (x r : List ℕ) → at + length x ≡ to
-    → scanFrom 0 at (x ++ 10 ∷ r) ≡ scanFrom 0 at x ++ placed to (lexemeOf (error (unexpectedChar 10)) 1) ∷ scanFrom 0 (to + 1) r
+-- the lexemes of x ++ 10 ∷ r, with x at `at` and byte 10 at `to`: those of x, byte 10, and those of r
+abbrev pub LineScanned : ℕ → ℕ → List ℕ → List ℕ → Type 0
+LineScanned at to x r = scanFrom 0 at (x ++ 10 ∷ r) ≡ scanFrom 0 at x ++ placed to (lexeme (10 ∷ r)) ∷ scanFrom 0 (to + 1) r
+
+pub scan-line : (at to : ℕ) (x r : List ℕ) → at + length x ≡ to → LineScanned at to x r
 scan-line at to x r = go (suc (length x)) at x (omega arith)
   where
-    go : (fuel at : ℕ) (x : List ℕ) → length x < fuel → at + length x ≡ to
-        → scanFrom 0 at (x ++ 10 ∷ r) ≡ scanFrom 0 at x ++ placed to (lexemeOf (error (unexpectedChar 10)) 1) ∷ scanFrom 0 (to + 1) r
+    go : (fuel at : ℕ) (x : List ℕ) → length x < fuel → at + length x ≡ to → LineScanned at to x r
     go zero at x l e = absurd (omega arith)
     go (suc fuel) at [] l e = let z : at ≡ to = omega arith in rw (z, scan-unfolds to .1 10 r, scan-unfolds to .0, newline r)
     go (suc fuel) at (b ∷ x) l e =
