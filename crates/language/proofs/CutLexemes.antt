@@ -7,7 +7,6 @@ use mathlib.Core.List.{List, [], _∷_, _++_}
 use mathlib.Core.Option.{Option, none, some}
 use native.Mathlib.Omega.{arith}
 use native.Mathlib.Decide.{decLt}
-use native.Mathlib.Nat.{add-zero}
 use borrow.Author.Tests.{ltb-true, eqb-true, le-leb, ne-eqb}
 use lib.Dec.{ltb, eqb}
 use lib.ListN.{length, getD, take, drop, length-append, length-drop, List·getD-eq-default, List·getD-append}
@@ -15,15 +14,10 @@ use lib.Seq.{take-append-le, drop-append-le, getD-append-add}
 use Rattle.language.specs.Choice.{if′, within}
 use Rattle.language.specs.Utf8.{encode, Char, char, noChar, Lead, lead, leadOf, follow, begun, charAt}
 use Rattle.language.specs.Lexemes.{Tok, word, Kind, trivia, tok, error, unexpectedChar, Lexeme, lexemeOf, run, isBlank, blankRun, isDigit, isWord, isWordStart, isBody, notNewline, octet, joined, Quad, quad, notQuad, further, quadFrom, quadLexeme, integer, number, string, comment, punctuation, ascii, lexemeAt, lexeme, placed, scanFrom}
-use Rattle.language.proofs.Tests.{inside}
+use Rattle.language.proofs.Tests.{both-sides, inside}
 use Rattle.language.proofs.Utf8Rows.{character-at}
 use Rattle.language.proofs.LexemeSizes.{by-cases, size-fits}
 use Rattle.language.proofs.LexemeSpans.{scan-unfolds}
-
--- the same test on both sides
-both-sides : {A : Type 0} (P : A → A → Type 0) (t : Bool) {a b c d : A} → (t ≡ true → P a c) → (t ≡ false → P b d) → P (if′ t a b) (if′ t c d)
-both-sides P true f g = f refl
-both-sides P false f g = g refl
 
 -- z has a first byte, and it is not 10
 abbrev Goes : List ℕ → Type 0
@@ -55,9 +49,11 @@ run-more (leaves n l g) = leaves (suc n) (omega arith) g
 not-ten : (p : ℕ → Bool) (b : ℕ) → p 10 ≡ false → p b ≡ true → eqb b 10 ≡ false
 not-ten p b h e = ne-eqb b 10 (λ f. false≢true (sym h ∙ ap p (sym f) ∙ e))
 
+-- a run of bytes with p, where 10 is without
 run-cut : (p : ℕ → Bool) (s z : List ℕ) → p 10 ≡ false → RunCut (length s) z (run p s) (run p (s ++ z))
 run-cut p [] [] h = stays 0 (omega arith)
-run-cut p [] (b ∷ z) h = by-cases (RunCut 0 (b ∷ z) 0) (p b) (λ e. leaves (suc (run p z)) (omega arith) (not-ten p b h e)) (λ _. stays 0 (omega arith))
+run-cut p [] (b ∷ z) h =
+    by-cases (RunCut 0 (b ∷ z) 0) (p b) (λ e. leaves (suc (run p z)) (omega arith) (not-ten p b h e)) (λ _. stays 0 (omega arith))
 run-cut p (b ∷ s) z h = both-sides (RunCut (suc (length s)) z) (p b) (λ _. run-more (run-cut p s z h)) (λ _. stays 0 (omega arith))
 
 -- ---- one byte
@@ -68,6 +64,7 @@ data Peek (n m : ℕ) (z : List ℕ) : Bool → Bool → Type 0 where
   missed : Peek n m z false false
   beyond : m ≤ n → Goes z → Peek n m z false true
 
+-- what is looked for is not 10, nor the 0 that stands for no byte
 peek : (s z : List ℕ) (n c : ℕ) → n ≤ length s → ltb 10 c ≡ true → Peek n (length s) z (eqb (getD s n 0) c) (eqb (getD (s ++ z) n 0) c)
 peek s z n c l h =
     elim (decLt n (length s)) [
@@ -93,6 +90,13 @@ peek s z n c l h =
         go true e = beyond k (ne-eqb b 10 (λ g. omega (arith, more, eqb-true b c e)))
         go false e = missed
 
+-- what a test of a byte chooses
+peeked : {A : Type 0} (P : A → A → Type 0) {n m : ℕ} {z : List ℕ} {t u : Bool} {a b c d : A} → Peek n m z t u
+    → (n < m → P a c) → P b d → (m ≤ n → Goes z → P b c) → P (if′ t a b) (if′ u c d)
+peeked P (found l) f g h = f l
+peeked P missed f g h = g
+peeked P (beyond l k) f g h = h l k
+
 -- ---- characters
 
 -- a character is read, or none, or one that ends in z
@@ -102,13 +106,15 @@ data CharCut (m : ℕ) (z : List ℕ) : Char → Char → Type 0 where
   split : (n size : ℕ) → m < size → Goes z → CharCut m z noChar (char n size)
 
 -- a character that ends past m bytes
-far : {m : ℕ} {y : List ℕ} (size left low high bits : ℕ) (s : List ℕ) → m < size → Goes y → CharCut m y noChar (follow size left low high bits s)
+far : {m : ℕ} {y : List ℕ} (size left low high bits : ℕ) (s : List ℕ) → m < size → Goes y
+    → CharCut m y noChar (follow size left low high bits s)
 unfolding follow
 far size zero low high bits s l g = split bits size l g
 far size (suc left) low high bits [] l g = unread
 far {m} {y} size (suc left) low high bits (b ∷ s) l g =
     by-cases (CharCut m y noChar) (within low high b) (λ _. far size left 0x80 0xBF _ s l g) (λ _. unread)
 
+-- the bytes that follow a first one, which are not 10
 follow-cut : (m size left low high bits : ℕ) (s z : List ℕ) → 10 < low → size + length s ≡ left + m
     → CharCut m z (follow size left low high bits s) (follow size left low high bits (s ++ z))
 unfolding follow
@@ -120,6 +126,7 @@ follow-cut m size (suc left) low high bits [] (b ∷ z) h e =
 follow-cut m size (suc left) low high bits (b ∷ s) z h e =
     both-sides (CharCut m z) (within low high b) (λ _. follow-cut m size left 0x80 0xBF _ s z (omega arith) (omega arith)) (λ _. unread)
 
+-- the first character, by the rows of `leadOf`
 char-cut : (b : ℕ) (s z : List ℕ) → CharCut (suc (length s)) z (charAt (b ∷ s)) (charAt (b ∷ s ++ z))
 unfolding charAt leadOf
 char-cut b s z =
@@ -154,6 +161,7 @@ blank-far b n size s z e h l g =
     let k = goes-on z g in
     rw (e, blankRun, h) (omega (arith, steps (suc (length s)) (size - 1) (s ++ z) (omega arith) (rw length-append (omega arith))))
 
+-- a count is its own size
 abbrev itself : ℕ → ℕ
 itself n = n
 
@@ -162,7 +170,7 @@ one-more : {m a b : ℕ} {z : List ℕ} → Cut itself m z a b → Cut itself (s
 one-more (same a l) = same (suc a) (omega arith)
 one-more (past b l g) = past (suc b) (omega arith) g
 
--- byte 10 is not blank
+-- the blank characters that z starts with: byte 10 is none
 blank-first : (z : List ℕ) → Cut itself 0 z 0 (blankRun 0 z)
 unfolding blankRun charAt leadOf follow isBlank
 blank-first [] = same 0 (omega arith)
@@ -173,6 +181,7 @@ blank-first (b ∷ z) = go (eqb b 10) (blankRun 0 (b ∷ z)) refl refl
     go false (suc n) e f = past (suc n) (omega arith) e
     go true (suc n) e f = let k : blankRun 0 (b ∷ z) ≡ 0 = rw (eqb-true b 10 e) in absurd (omega arith)
 
+-- a run of blank characters, after bytes to skip
 blanks-cut : (skip : ℕ) (s z : List ℕ) → skip ≤ length s → Cut itself (length s) z (blankRun skip s) (blankRun skip (s ++ z))
 unfolding blankRun
 blanks-cut zero [] z l = blank-first z
@@ -184,7 +193,8 @@ blanks-cut zero (b ∷ s) z l = go refl refl (char-cut b s z) (λ skip. blanks-c
         → ((skip : ℕ) → skip ≤ length s → Cut itself (length s) z (blankRun skip s) (blankRun skip (s ++ z)))
         → Cut itself (suc (length s)) z (blankRun 0 (b ∷ s)) (blankRun 0 (b ∷ s ++ z))
     go e f (read n size k) more =
-        rw (e, f, blankRun) (both-sides (Cut itself (suc (length s)) z) (isBlank n) (λ _. one-more (more (size - 1) (omega arith))) (λ _. same 0 (omega arith)))
+        rw (e, f, blankRun)
+        (both-sides (Cut itself (suc (length s)) z) (isBlank n) (λ _. one-more (more (size - 1) (omega arith))) (λ _. same 0 (omega arith)))
     go e f unread more = rw (e, f, blankRun) (same 0 (omega arith))
     go e f (split n size k g) more = far-blank (isBlank n) refl
       where
@@ -194,6 +204,7 @@ blanks-cut zero (b ∷ s) z l = go refl refl (char-cut b s z) (λ skip. blanks-c
 
 -- ---- quads
 
+-- the bytes of a quad
 abbrev quadSize : Quad → ℕ
 quadSize (quad n a) = n
 quadSize notQuad = 0
@@ -204,26 +215,23 @@ unfinished n (quad k a) l g = past (quad (suc n + k) a) (omega arith) g
 unfinished n notQuad l g = same notQuad (omega arith)
 
 -- n bytes, and a quad after them
-further-cut : {m : ℕ} {z : List ℕ} {q r : Quad} (n k : ℕ) → n + m ≡ k → Cut quadSize m z q r → Cut quadSize k z (further n q) (further n r)
+further-cut : {m : ℕ} {z : List ℕ} {q r : Quad} (n k : ℕ) → n + m ≡ k → Cut quadSize m z q r
+    → Cut quadSize k z (further n q) (further n r)
 further-cut n k e (same (quad i a) l) = same (quad (n + i) a) (omega arith)
 further-cut n k e (same notQuad l) = same notQuad (omega arith)
 further-cut n k e (past (quad i a) l g) = past (quad (n + i) a) (omega arith) g
 further-cut n k e (past notQuad l g) = absurd (omega arith)
 
--- what a test of a byte chooses
-peeked : {A : Type 0} (P : A → A → Type 0) {n m : ℕ} {z : List ℕ} {t u : Bool} {a b c d : A} → Peek n m z t u
-    → (n < m → P a c) → P b d → (m ≤ n → Goes z → P b c) → P (if′ t a b) (if′ u c d)
-peeked P (found l) f g h = f l
-peeked P missed f g h = g
-peeked P (beyond l k) f g h = h l k
-
+-- no quad on both sides
 none-found : {m : ℕ} {z : List ℕ} → Cut quadSize m z notQuad notQuad
 none-found = same notQuad (omega arith)
 
+-- no quad in both branches
 neither : (t : Bool) → if′ t notQuad notQuad ≡ notQuad
 neither true = refl
 neither false = refl
 
+-- digits with dots between
 quad-cut : (dots : ℕ) (a : Option ℕ) (s z : List ℕ) → Cut quadSize (length s) z (quadFrom dots a s) (quadFrom dots a (s ++ z))
 unfolding quadFrom isDigit
 quad-cut zero a s z = go refl refl (run-cut isDigit s z refl)
@@ -253,17 +261,21 @@ quad-cut (suc dots) a s z = go refl refl (run-cut isDigit s z refl) (λ o r. qua
 
 -- ---- lexemes
 
+-- the bytes of a lexeme
 abbrev sizeOf : Lexeme → ℕ
 sizeOf l = l .size
 
--- a word, where f says what it is
-word-cut : (f : List ℕ → Kind) (s z : List ℕ)
-    → Cut sizeOf (length s) z (lexemeOf (f (take (run isWord s) s)) (run isWord s)) (lexemeOf (f (take (run isWord (s ++ z)) (s ++ z))) (run isWord (s ++ z)))
+-- the word that a list begins with, where f says what it is
+abbrev wordOf : (List ℕ → Kind) → List ℕ → Lexeme
+wordOf f s = lexemeOf (f (take (run isWord s) s)) (run isWord s)
+
+-- a word
+word-cut : (f : List ℕ → Kind) (s z : List ℕ) → Cut sizeOf (length s) z (wordOf f s) (wordOf f (s ++ z))
 unfolding isWord isWordStart isDigit
 word-cut f s z = go refl refl (run-cut isWord s z refl)
   where
     go : {i j : ℕ} → run isWord s ≡ i → run isWord (s ++ z) ≡ j → RunCut (length s) z i j
-        → Cut sizeOf (length s) z (lexemeOf (f (take (run isWord s) s)) (run isWord s)) (lexemeOf (f (take (run isWord (s ++ z)) (s ++ z))) (run isWord (s ++ z)))
+        → Cut sizeOf (length s) z (wordOf f s) (wordOf f (s ++ z))
     go d e (stays n l) = rw (d, e, take-append-le n s z) (same _ l)
     go d e (leaves n l g) = rw e (past (lexemeOf _ n) l g)
 
@@ -283,6 +295,7 @@ quad-word n a s z l = rw (drop-append-le n s z l) (go (run-cut isWord (drop n s)
     go (stays i k) = let d = rw length-drop at k in same (quadLexeme n a i) (omega (arith, quad-size n a i))
     go (leaves i k g) = let d = rw length-drop at k in past (quadLexeme n a i) (omega (arith, quad-size n a i)) g
 
+-- what starts with a digit
 number-cut : (s z : List ℕ) → Cut sizeOf (length s) z (number s) (number (s ++ z))
 unfolding number
 number-cut s z = go refl refl (quad-cut 3 (some 0) s z)
@@ -295,6 +308,7 @@ number-cut s z = go refl refl (quad-cut 3 (some 0) s z)
         let more = run isWord (drop n (s ++ z)) in rw (f, number) (past (quadLexeme n a more) (omega (arith, quad-size n a more)) g)
     go e f (past notQuad l g) = absurd (omega arith)
 
+-- what a quote starts, before the rest s
 string-cut : (s z : List ℕ) → Cut sizeOf (suc (length s)) z (string s) (string (s ++ z))
 unfolding string isBody
 string-cut s z = go refl refl (run-cut isBody s z refl)
@@ -304,13 +318,14 @@ string-cut s z = go refl refl (run-cut isBody s z refl)
     go e f (stays n l) =
         rw (e, f, string)
         (peeked (Cut sizeOf (suc (length s)) z) (peek s z n 34 l refl)
-        (λ k. same (lexemeOf _ (n + 2)) (omega arith)) (same (lexemeOf _ (n + 1)) (omega arith)) (λ k g. past (lexemeOf _ (n + 2)) (omega arith) g))
+        (λ k. same (lexemeOf _ (n + 2)) (omega arith)) (same (lexemeOf _ (n + 1)) (omega arith))
+        (λ k g. past (lexemeOf _ (n + 2)) (omega arith) g))
     go e f (leaves n l g) =
         rw (f, string)
         (by-cases (Cut sizeOf (suc (length s)) z (string s)) (eqb (getD (s ++ z) n 0) 34)
         (λ _. past (lexemeOf _ (n + 2)) (omega arith) g) (λ _. past (lexemeOf _ (n + 1)) (omega arith) g))
 
--- a byte, and a run after it
+-- a comment after its first byte
 comment-cut : (s z : List ℕ) → Cut sizeOf (suc (length s)) z (comment 1 s) (comment 1 (s ++ z))
 unfolding notNewline
 comment-cut s z = go (run-cut notNewline s z refl)
@@ -330,6 +345,7 @@ comment-past k (b ∷ s) z l g = absurd (omega arith)
 alone : {z : List ℕ} (k : Kind) (s : List ℕ) → Cut sizeOf (suc (length s)) z (lexemeOf k 1) (lexemeOf k 1)
 alone k s = same (lexemeOf k 1) (omega arith)
 
+-- what an ASCII character starts
 ascii-cut : (o : Option Tok) (b : ℕ) (s z : List ℕ) → punctuation b ≡ o → Cut sizeOf (suc (length s)) z (ascii b s) (ascii b (s ++ z))
 unfolding ascii
 ascii-cut (some t) b s z e = rw (e, ascii) (alone (tok t) s)
@@ -337,9 +353,11 @@ ascii-cut none b s z e =
     let P : Lexeme → Lexeme → Type 0 = Cut sizeOf (suc (length s)) z in
     rw (e, ascii)
     (both-sides P (eqb b 35) (λ _. comment-cut s z)
-    (λ _. both-sides P (eqb b 47) (λ _. peeked P (peek s z 0 47 (omega arith) refl) (λ _. comment-cut s z) (alone _ s) (λ l g. comment-past _ s z l g))
+    (λ _. both-sides P (eqb b 47)
+    (λ _. peeked P (peek s z 0 47 (omega arith) refl) (λ _. comment-cut s z) (alone _ s) (λ l g. comment-past _ s z l g))
     (λ _. both-sides P (eqb b 58)
-    (λ _. peeked P (peek s z 0 58 (omega arith) refl) (λ l. same (lexemeOf _ 2) (omega arith)) (alone _ s) (λ l g. past (lexemeOf _ 2) (omega arith) g))
+    (λ _. peeked P (peek s z 0 58 (omega arith) refl) (λ l. same (lexemeOf _ 2) (omega arith)) (alone _ s)
+    (λ l g. past (lexemeOf _ 2) (omega arith) g))
     (λ _. both-sides P (eqb b 34) (λ _. string-cut s z)
     (λ _. both-sides P (isWordStart b) (λ _. word-cut (λ w. tok (word w)) (b ∷ s) z)
     (λ _. both-sides P (isDigit b) (λ _. number-cut (b ∷ s) z)
@@ -350,6 +368,7 @@ ascii-size : (s : List ℕ) (c size : ℕ) → charAt s ≡ char c size → c < 
 unfolding encode
 ascii-size s c size e l = let k = character-at s c size e in sym (k .1) ∙ rw (le-leb c 0x7F (omega arith))
 
+-- what a character starts
 lexeme-cut : (b : ℕ) (s z : List ℕ) → Cut sizeOf (suc (length s)) z (lexeme (b ∷ s)) (lexeme (b ∷ s ++ z))
 unfolding lexeme
 lexeme-cut b s z = go refl refl (char-cut b s z)
@@ -396,12 +415,19 @@ pub newline : (r : List ℕ) → lexeme (10 ∷ r) ≡ lexemeOf (error (unexpect
 unfolding lexeme charAt leadOf follow isBlank ascii punctuation isWordStart isDigit
 newline r = refl
 
--- the lexemes of a list with a line end are those of the line, byte 10, and those after it
-pub scan-line : (fuel at to : ℕ) (x r : List ℕ) → length x < fuel → at + length x ≡ to
-    → scanFrom 0 at (x ++ 10 ∷ r) ≡ scanFrom 0 at x ++ placed to (lexemeOf (error (unexpectedChar 10)) 1) ∷ scanFrom 0 (to + 1) r
-scan-line zero at to x r l e = absurd (omega arith)
-scan-line (suc fuel) at to [] r l e = let z : at ≡ to = omega arith in rw (z, scan-unfolds to .1 10 r, scan-unfolds to .0, newline r)
-scan-line (suc fuel) at to (b ∷ x) r l e =
-    let n = lexeme (b ∷ x) .size in
-    let h = size-fits b x in
-    rw (scan-unfolds at .1 b (x ++ 10 ∷ r), scan-unfolds at .1 b x, before-newline (b ∷ x) r (omega arith), drop-append-le n (b ∷ x) (10 ∷ r) (h .1), scan-line fuel (at + n) to (drop n (b ∷ x)) r (rw length-drop (omega arith)) (rw length-drop (omega arith)))
+-- the lexemes of x ++ 10 ∷ r, with x at `at` and byte 10 at `to`: those of x, byte 10, and those of r
+abbrev pub LineScanned : ℕ → ℕ → List ℕ → List ℕ → Type 0
+LineScanned at to x r = scanFrom 0 at (x ++ 10 ∷ r) ≡ scanFrom 0 at x ++ placed to (lexeme (10 ∷ r)) ∷ scanFrom 0 (to + 1) r
+
+pub scan-line : (at to : ℕ) (x r : List ℕ) → at + length x ≡ to → LineScanned at to x r
+scan-line at to x r = go (suc (length x)) at x (omega arith)
+  where
+    go : (fuel at : ℕ) (x : List ℕ) → length x < fuel → at + length x ≡ to → LineScanned at to x r
+    go zero at x l e = absurd (omega arith)
+    go (suc fuel) at [] l e = let z : at ≡ to = omega arith in rw (z, scan-unfolds to .1 10 r, scan-unfolds to .0, newline r)
+    go (suc fuel) at (b ∷ x) l e =
+        let n = lexeme (b ∷ x) .size in
+        let h = size-fits b x in
+        let more = go fuel (at + n) (drop n (b ∷ x)) (rw length-drop (omega arith)) (rw length-drop (omega arith)) in
+        rw (scan-unfolds at .1 b (x ++ 10 ∷ r), scan-unfolds at .1 b x, before-newline (b ∷ x) r (omega arith))
+        (rw (drop-append-le n (b ∷ x) (10 ∷ r) (h .1), more))

@@ -1,14 +1,14 @@
 -- The tokens of a source, by a walk over its lexemes with the literals that are pending.
-use Prim.Native.Nat.{ℕ, zero, suc, _+_, _-_, _≤_, _<_}
-use mathlib.Core.Path.{_≡_, refl, sym, ap, _∙_}
+use Prim.Native.Nat.{ℕ, _+_, _-_, _≤_, _<_}
+use mathlib.Core.Path.{_≡_, refl, sym, ap}
 use mathlib.Core.List.{List, [], _∷_, _++_, append-assoc, append-nil, List·Memᴰ, List·Memᴰ·not-nil, List·Memᴰ·cases-cons, List·Memᴰ·append-cases, List·Memᴰ·eq-of-singleton}
 use mathlib.Core.Option.{Option, none, some}
 use mathlib.Core.Logic.{_⊎_, inl, inr}
 use native.Mathlib.Omega.{arith}
-use lib.ListN.{length, take, drop, length-append, length-drop}
+use lib.ListN.{length, drop, length-append, length-drop}
 use lib.Seq.{take-at, drop-at, drop-drop}
 use Rattle.language.specs.Lexemes.{Tok, lParen, rParen, dot, doubleColon, colon, semiColon, equals, comma, slash, importKeyword, letKeyword, identifier, booleanLiteral, ipv4Literal, hexLiteral, decLiteral, unexpectedChar, Kind, trivia, str, tok, error, lexemeOf, lexeme}
-use Rattle.language.specs.Tokens.{Content, eof, plain, name, string, Token, contentOf, unquoted, Item, items, Pending, joined, pendingToken, flushed, itemToken, tokensFrom, tokens, eofToken, Place, placeOf, between, PlacesRight, Ordered, ordered-none, ordered-one, TokensInOrder, NamesHeld, bodyOf, bodiesIn, BodiesHeld}
+use Rattle.language.specs.Tokens.{eof, plain, name, string, Token, contentOf, unquoted, Item, items, Pending, joined, pendingToken, flushed, itemToken, tokensFrom, tokens, eofToken, Place, placeOf, between, PlacesRight, Ordered, ordered-none, ordered-one, TokensInOrder, NamesHeld, bodyOf, bodiesIn, BodiesHeld}
 use Rattle.language.proofs.CutLexemes.{newline}
 use Rattle.language.proofs.TokenBodies.{Held, held-none, held-more, bodies-of}
 use Rattle.language.proofs.TokenPlaces.{place, itemAt, Walk, walk-end, walk-newline, walk-item, source-walk}
@@ -64,6 +64,7 @@ module _ (source : List ℕ) where
     upto : p .start + length text ≡ at
     held : Held text s (p .first ∷ p .others)
 
+  -- there may be none pending
   data Waits (from at : ℕ) (s : List ℕ) : Option Pending → Type 0 where
     idle : from ≤ at → Waits from at s none
     busy : {p : Pending} → Waiting from at s p → Waits from at s (some p)
@@ -86,8 +87,9 @@ module _ (source : List ℕ) where
     span : between source at (at + length x) ≡ x
     span = rw (q .rest) (take-at x s (at + length x - at) (omega arith))
 
-    -- they are the literals p, to the end of the last
-    ended : (from n c : ℕ) (first : List ℕ) (others : List (List ℕ)) → placeOf source at ≡ place n c → from ≤ at → Held x s (first ∷ others)
+    -- they are literals to the end of the last, from the first on
+    ended : (from n c : ℕ) (first : List ℕ) (others : List (List ℕ)) → placeOf source at ≡ place n c → from ≤ at
+        → Held x s (first ∷ others)
         → Waiting from (at + length x) s (record { first = first; others = others; line = n; column = c; start = at; end = at + length x })
     ended from n c first others r l w =
         record {
@@ -107,8 +109,9 @@ module _ (source : List ℕ) where
           held = w;
         }
 
-  -- a lexeme of them
-  module _ (at : ℕ) (k : Kind) (x s : List ℕ) (h : 0 < length x) (rule : lexeme (x ++ s) ≡ lexemeOf k (length x)) (q : Reads at (x ++ s)) where
+  -- they are a lexeme of kind k
+  module _ (at : ℕ) (k : Kind) (x s : List ℕ) (h : 0 < length x) (rule : lexeme (x ++ s) ≡ lexemeOf k (length x))
+      (q : Reads at (x ++ s)) where
     -- it has no body
     silent : {from : ℕ} {p : Option Pending} → bodyOf k x ≡ [] → Waits from at (x ++ s) p → Waits from (at + length x) s p
     silent e (idle l) = idle (omega arith)
@@ -124,13 +127,17 @@ module _ (source : List ℕ) where
         })
 
     -- it is a literal
-    literal : {from : ℕ} {p : Option Pending} (n c : ℕ) → bodyOf k x ≡ unquoted x ∷ [] → placeOf source at ≡ place n c → Waits from at (x ++ s) p
+    literal : {from : ℕ} {p : Option Pending} (n c : ℕ) → bodyOf k x ≡ unquoted x ∷ [] → placeOf source at ≡ place n c
+        → Waits from at (x ++ s) p
         → Waits from (at + length x) s (some (joined p (itemAt n c at str x) (unquoted x)))
     literal {from} n c e r (idle l) = busy (ended at x s h q from n c (unquoted x) [] r l (rw e at (held-more k x h rule held-none)))
     literal {from} n c e r (busy {p} w) =
         let text = w .text ++ x in
         let to : p .start + length text ≡ at + length x = rw length-append (omega (arith, w .upto)) in
-        rw to at (busy (ended (p .start) text s (rw length-append (omega arith)) (rw append-assoc (w .reads)) from (p .line) (p .column) (p .first) (p .others ++ unquoted x ∷ []) (w .good .right) (w .behind) (rw e at (held-more k x h rule (w .held)))))
+        let q′ : Reads (p .start) (text ++ s) = rw append-assoc (w .reads) in
+        let held′ = rw e at (held-more k x h rule (w .held)) in
+        rw to at (busy (ended (p .start) text s (rw length-append (omega arith)) q′ from (p .line) (p .column) (p .first)
+        (p .others ++ unquoted x ∷ []) (w .good .right) (w .behind) held′))
 
     -- it is a token
     good-item : (n c : ℕ) (t : Tok) → placeOf source at ≡ place n c → Good (itemToken (itemAt n c at (tok t) x) (contentOf t x))

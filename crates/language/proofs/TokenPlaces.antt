@@ -1,6 +1,6 @@
 -- The lexemes of a source from its first byte to its last: each at its place, and a byte 10 after each line.
 use Prim.Native.Nat.{ℕ, zero, suc, _+_, _-_, _≤_, _<_}
-use mathlib.Core.Path.{_≡_, refl, sym, ap, _∙_}
+use mathlib.Core.Path.{_≡_, refl, sym, _∙_}
 use mathlib.Core.Bool.{Bool, true, false}
 use mathlib.Core.List.{List, [], _∷_, _++_, map, append-assoc, append-nil}
 use native.Mathlib.Omega.{arith}
@@ -8,10 +8,10 @@ use native.Mathlib.Nat.{zero-add, add-zero}
 use native.Mathlib.Numerals.{add-one}
 use borrow.Author.Tests.{eqb-true}
 use lib.Dec.{eqb}
-use lib.ListN.{length, take, drop, take-append-drop, length-append, length-drop}
+use lib.ListN.{length, take, drop, take-append-drop, length-drop}
 use lib.Seq.{length-take-le, drop-at, drop-drop}
-use Rattle.language.specs.Lexemes.{Kind, Lexeme, lexemeOf, lexeme, Placed, placed, scanFrom}
-use Rattle.language.specs.Tokens.{Line, lineAt, linesFrom, pieceOf, Item, itemOf, itemsFrom, items, Place, placeFrom, placeOf}
+use Rattle.language.specs.Lexemes.{Kind, lexemeOf, lexeme, scanFrom}
+use Rattle.language.specs.Tokens.{lineAt, linesFrom, pieceOf, Item, itemOf, itemsFrom, items, Place, placeFrom, placeOf}
 use Rattle.language.proofs.LexemeSizes.{size-fits}
 use Rattle.language.proofs.LexemeSpans.{scan-unfolds}
 use Rattle.language.proofs.CutLexemes.{before-newline}
@@ -44,12 +44,13 @@ lined (b ∷ s) = go (eqb b 10) refl (lined s)
     go true e w = rw (eqb-true b 10 e) (a-line [] no-byte w)
     go false e w = in-front e w
 
--- the definition finds them: a last line, and one before byte 10
+-- the definition finds them: a last line
 lines-last : {b : ℕ} {x : List ℕ} (at : ℕ) → OneLine (b ∷ x) → linesFrom at (b ∷ x) ≡ lineAt at (b ∷ x) ∷ []
 unfolding linesFrom
 lines-last at (byte e no-byte) = rw e
 lines-last at (byte e (byte f h)) = rw (e, lines-last (suc at) (byte f h))
 
+-- and a line before byte 10
 lines-first : {x : List ℕ} (at to : ℕ) (r : List ℕ) → OneLine x → at + length x ≡ to
     → linesFrom at (x ++ 10 ∷ r) ≡ lineAt at x ∷ linesFrom (suc to) r
 unfolding linesFrom
@@ -67,6 +68,7 @@ place-on n c (suc p) k (suc q) d z (byte g h) l e f = rw g (place-on n (suc c) p
 
 -- ---- the walk
 
+-- a line and a column
 abbrev pub place : ℕ → ℕ → Place
 place n c = record { line = n; column = c }
 
@@ -88,7 +90,8 @@ item-here n start at m k line x e f = let z : start + (at + m) ≡ start + at + 
 
 module _ (source : List ℕ) where
   -- the line numbered n, before z
-  module _ (n start : ℕ) (line z : List ℕ) (is : List Item) (h : OneLine line) (right : (k : ℕ) → placeOf source (start + k) ≡ placeFrom n 1 (line ++ z) k)
+  module _ (n start : ℕ) (line z : List ℕ) (is : List Item) (h : OneLine line)
+      (right : (k : ℕ) → placeOf source (start + k) ≡ placeFrom n 1 (line ++ z) k)
       (ends : (y : List ℕ) → 0 < length y → lexeme (y ++ z) ≡ lexeme y) (after : Walk source (start + length line) z is) where
     -- its byte `at` stands in the column `at + 1`
     column-right : (at : ℕ) → at ≤ length line → placeOf source (start + at) ≡ place n (suc at)
@@ -110,12 +113,24 @@ module _ (source : List ℕ) where
         let j : start + (at + m) ≡ start + at + length x = omega arith in
         let parts : b ∷ y ++ z ≡ x ++ (drop m (b ∷ y) ++ z) = rw (← append-assoc, take-append-drop m (b ∷ y)) in
         let rule : lexeme (x ++ (drop m (b ∷ y) ++ z)) ≡ lexemeOf k (length x) = rw (← parts, lx) (ends (b ∷ y) (omega arith)) in
+        let left : length (drop m (b ∷ y)) ≡ length (b ∷ y) - m = length-drop m (b ∷ y) in
+        let more = line-from fuel (at + m) (drop m (b ∷ y)) (omega arith) (rw (← drop-drop, e)) (omega arith) in
         rw (scan-unfolds at .1 b y, item-here n start at m k line x (rw (i, e)) (sym lx), parts)
         (walk-item n (suc at) k x (column-right at (omega arith)) (omega arith) rule
-        (rw j at (line-from fuel (at + m) (drop m (b ∷ y)) (rw length-drop (omega arith)) (rw (← drop-drop, e)) (rw length-drop (omega arith)))))
+        (rw j at more))
 
+    -- the whole line
     line-walk : Walk source start (line ++ z) (map (itemOf n (lineAt start line)) (scanFrom 0 0 line) ++ is)
     line-walk = rw add-zero at (line-from (suc (length line)) 0 line (omega arith) refl (omega arith))
+
+  -- the place after the byte 10 that ends a line
+  next-line : (n at : ℕ) (x r : List ℕ) → OneLine x → ((k : ℕ) → placeOf source (at + k) ≡ placeFrom n 1 (x ++ 10 ∷ r) k)
+      → (k : ℕ) → placeOf source (suc (at + length x) + k) ≡ placeFrom (suc n) 1 r k
+  unfolding placeFrom
+  next-line n at x r h right k =
+      let m = length x in
+      let e : suc (at + m) + k ≡ at + (m + suc k) = omega arith in
+      rw e (right (m + suc k) ∙ rw (place-on n 1 m (suc k) (m + suc k) (1 + m) (10 ∷ r) h (omega arith) refl refl, drop-at))
 
   -- from the start of the line numbered n on
   lines-walk : {s : List ℕ} (n at : ℕ) → ((k : ℕ) → placeOf source (at + k) ≡ placeFrom n 1 s k) → Lined s
@@ -123,15 +138,14 @@ module _ (source : List ℕ) where
   unfolding linesFrom itemsFrom placeFrom
   lines-walk n at right no-line = walk-end
   lines-walk n at right (last-line {b} {x} h) =
-      rw lines-last (rw (append-nil (b ∷ x)) at (line-walk n at (b ∷ x) [] [] h (λ k. rw append-nil (right k)) (λ y _. rw append-nil) walk-end))
+      let last = line-walk n at (b ∷ x) [] [] h (λ k. rw append-nil (right k)) (λ y _. rw append-nil) walk-end in
+      rw lines-last (rw (append-nil (b ∷ x)) at last)
   lines-walk n at right (a-line {r} x h w) =
       let m = at + length x in
-      let next : (k : ℕ) → placeOf source (suc m + k) ≡ placeFrom (suc n) 1 r k =
-      λ k. let e : suc m + k ≡ at + (length x + suc k) = omega arith in
-      rw e (right (length x + suc k) ∙ rw (place-on n 1 (length x) (suc k) (length x + suc k) (1 + length x) (10 ∷ r) h (omega arith) refl refl, drop-at))
-      in
-      rw (lines-first at m r h refl) (line-walk n at x (10 ∷ r) _ h right (λ y l. before-newline y r l) (walk-newline (rw add-one (lines-walk (suc n) (suc m) next w))))
+      let after = lines-walk (suc n) (suc m) (next-line n at x r h right) w in
+      rw (lines-first at m r h refl) (line-walk n at x (10 ∷ r) _ h right (λ y l. before-newline y r l) (walk-newline (rw add-one after)))
 
+  -- the whole source
   pub source-walk : Walk source 0 source (items source)
   unfolding items
   source-walk = lines-walk 1 0 (λ k. rw zero-add) (lined source)
