@@ -9,7 +9,7 @@ pub enum Mode {
     Unknown,
 }
 
-// The numbers of the line, in their order, and how many there are.
+// The numbers of the line, in their order, and how many there are: 5 where the line is not understood.
 pub struct Rooms {
     pub rows: [u64; 4],
     pub count: usize,
@@ -24,11 +24,6 @@ pub struct Header {
 
 enum Number {
     Is(u64),
-    Not,
-}
-
-enum Numbers {
-    Are(Rooms),
     Not,
 }
 
@@ -75,7 +70,7 @@ fn cut(n: u64) -> u64
     if 1000000 < n { 1000000 } else { n }
 }
 
-fn number(text: &[u8]) -> Number {
+fn number_of(text: &[u8]) -> Number {
     if text.len() == 0 {
         return Number::Not;
     }
@@ -93,7 +88,7 @@ fn number(text: &[u8]) -> Number {
 }
 
 // The numbers from `from` on, each after a blank.
-fn numbers(line: &[u8], from: usize) -> Numbers
+fn rooms_of(line: &[u8], from: usize) -> Rooms
     requires { ⌜ from ≤ length (now line) ⌝ }
 {
     let mut rows = [0u64; 4];
@@ -102,29 +97,33 @@ fn numbers(line: &[u8], from: usize) -> Numbers
     while at < line.len() {
         let start = at + 1;
         let end = find(line, start, b' ');
-        let Number::Is(n) = number(&line[start..end]) else {
-            return Numbers::Not;
+        let Number::Is(n) = number_of(&line[start..end]) else {
+            return no_rooms();
         };
         if 3 < count {
-            return Numbers::Not;
+            return no_rooms();
         }
         rows[count] = n;
         count += 1;
         at = end;
     }
-    Numbers::Are(Rooms {
+    Rooms {
         rows: rows,
         count: count,
-    })
+    }
+}
+
+fn no_rooms() -> Rooms {
+    Rooms {
+        rows: [0; 4],
+        count: 5,
+    }
 }
 
 fn unknown() -> Header {
     Header {
         mode: Mode::Unknown,
-        rooms: Rooms {
-            rows: [0; 4],
-            count: 0,
-        },
+        rooms: no_rooms(),
         next: 0,
     }
 }
@@ -135,14 +134,11 @@ pub fn read(text: &[u8]) -> Header {
     if text.len() <= stop {
         return unknown();
     }
-    let line = &text[..stop];
+    let line = &text[0..stop];
     let end = find(line, 0, b' ');
-    let Numbers::Are(rooms) = numbers(line, end) else {
-        return unknown();
-    };
     Header {
-        mode: mode_of(&line[..end]),
-        rooms: rooms,
+        mode: mode_of(&line[0..end]),
+        rooms: rooms_of(line, end),
         next: stop + 1,
     }
 }

@@ -49,7 +49,16 @@ pub fn digit(b: u8) -> u8
     }
 }
 
-// Decodes the digits from `from` on. Bytes that the source has no room for are dropped.
+// A byte more of the source, unless there is no room for it. Answers how many it has.
+fn keep(source: &mut [u8], size: usize, b: u8) -> usize {
+    if size < source.len() {
+        source[size] = b;
+        return size + 1;
+    }
+    size
+}
+
+// Decodes the digits from `from` on.
 fn decode(text: &[u8], from: usize, source: &mut [u8], size: usize, upper: u8) -> Decoded {
     let mut at = from;
     let mut n = size;
@@ -60,15 +69,13 @@ fn decode(text: &[u8], from: usize, source: &mut [u8], size: usize, upper: u8) -
             return stopped(text[at], at + 1, n, up);
         }
         if up < 16 {
-            if n < source.len() {
-                source[n] = up * 16 + d;
-                n += 1;
-            }
+            n = keep(source, n, up * 16 + d);
             up = 16;
+            at += 1;
         } else {
             up = d;
+            at += 1;
         }
-        at += 1;
     }
     Decoded {
         at: at,
@@ -99,7 +106,7 @@ fn stopped(b: u8, at: usize, size: usize, upper: u8) -> Decoded {
 // The first bytes of a text.
 pub fn first(text: &[u8], size: usize) -> &[u8] {
     if size <= text.len() {
-        return &text[..size];
+        return &text[0..size];
     }
     text
 }

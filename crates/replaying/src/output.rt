@@ -30,7 +30,7 @@ pub fn text(out: &mut [u8], at: usize, s: &[u8]) -> usize {
 // Writes what is left in the buffer.
 pub fn flush(out: &[u8], at: usize) {
     if at <= out.len() {
-        io::write_all(STDOUT_FILENO, &out[..at]);
+        io::write_all(STDOUT_FILENO, &out[0..at]);
     }
 }
 
@@ -40,11 +40,21 @@ pub fn bad_input(out: &mut [u8], at: usize) {
     flush(out, p);
 }
 
+fn last_digits(out: &mut [u8], at: usize, digits: &[u8; 39], start: usize) -> usize {
+    let mut p = at;
+    let mut i = start;
+    while i < 39 {
+        p = byte(out, p, digits[i]);
+        i += 1;
+    }
+    p
+}
+
 // A number in decimal.
 pub fn wide(out: &mut [u8], at: usize, n: Wide) -> usize {
     let mut digits = [0u8; 39];
     let start = n.decimal(&mut digits);
-    text(out, at, &digits[start..])
+    last_digits(out, at, &digits, start)
 }
 
 pub fn number(out: &mut [u8], at: usize, n: u64) -> usize {
@@ -58,13 +68,16 @@ fn hex_digit(n: u8) -> u8
     if n < 10 { b'0' + n } else { b'a' - 10 + n }
 }
 
+fn hex_byte(out: &mut [u8], at: usize, b: u8) -> usize {
+    let p = byte(out, at, hex_digit(b / 16));
+    byte(out, p, hex_digit(b % 16))
+}
+
 pub fn hex(out: &mut [u8], at: usize, s: &[u8]) -> usize {
     let mut p = at;
     let mut i = 0;
     while i < s.len() {
-        let b = s[i];
-        p = byte(out, p, hex_digit(b / 16));
-        p = byte(out, p, hex_digit(b % 16));
+        p = hex_byte(out, p, s[i]);
         i += 1;
     }
     p

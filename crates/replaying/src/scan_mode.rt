@@ -1,10 +1,10 @@
 // The mode `scan`: each source is one line, and each lexeme a line of the answer.
-ghost use Prim.Native.Nat.{_≤_, _<_};
+ghost use Prim.Native.Nat.{_+_, _≤_};
 ghost use lib.ListN.{length};
 use crate::header::Rooms;
+use crate::input;
 use crate::input::Line;
 use crate::input::Unread;
-use crate::input;
 use crate::output;
 use wide::Wide;
 
@@ -38,21 +38,25 @@ fn span(source: &[u8], start: usize, end: usize) -> &[u8] {
     if start <= end && end <= source.len() {
         return &source[start..end];
     }
-    &source[..0]
+    &source[0..0]
 }
 
+// The names of the kinds of token, 15 bytes for each number from 0 on.
 fn token_name(out: &mut [u8], at: usize, kind: u64) -> usize {
-    let names = b"Eof            LParen         RParen         Dot            DoubleColon    Colon          SemiColon      Equals         Comma          Slash          ImportKeyword  LetKeyword     Identifier     BooleanLiteral IPv4Literal    StringLiteral  HexLiteral     DecLiteral     ";
-    if 0 < kind && kind < 19 {
-        return output::word(out, at, names, (kind as usize - 1) * 15);
+    let names =
+        b"-              Eof            LParen         RParen         Dot            DoubleColon    Colon          SemiColon      Equals         Comma          Slash          ImportKeyword  LetKeyword     Identifier     BooleanLiteral IPv4Literal    StringLiteral  HexLiteral     DecLiteral     ";
+    if kind < 19 {
+        return output::word(out, at, names, kind as usize * 15);
     }
     at
 }
 
+// The names of the kinds of error, 19 bytes for each number from 0 on.
 fn error_name(out: &mut [u8], at: usize, kind: u64) -> usize {
-    let names = b"UnexpectedChar     UnterminatedString IntOutOfRange      IntLeadingZero     IntInvalidSuffix   IPv4Literal        ";
-    if 0 < kind && kind < 7 {
-        return output::word(out, at, names, (kind as usize - 1) * 19);
+    let names =
+        b"-                  UnexpectedChar     UnterminatedString IntOutOfRange      IntLeadingZero     IntInvalidSuffix   IPv4Literal        ";
+    if kind < 7 {
+        return output::word(out, at, names, kind as usize * 19);
     }
     at
 }
@@ -67,7 +71,8 @@ fn boolean(out: &mut [u8], at: usize, n: u64) -> usize {
 // The value that a token carries, after a blank.
 fn token_value(source: &[u8], row: Row, out: &mut [u8], at: usize) -> usize {
     let value = row.value;
-    match row.kind {
+    let kind = row.kind;
+    match kind {
         13 => {
             let p = output::byte(out, at, b' ');
             output::text(out, p, span(source, row.start, row.end))
@@ -107,7 +112,8 @@ fn error(row: Row, out: &mut [u8], at: usize) -> usize {
 
 // What a lexeme is, after its place.
 fn what(source: &[u8], row: Row, out: &mut [u8], at: usize) -> usize {
-    match row.class {
+    let class = row.class;
+    match class {
         1 => output::text(out, at, b"Trivia"),
         2 => string(source, row, out, at),
         3 => token(source, row, out, at),
@@ -198,5 +204,5 @@ pub fn run(rooms: Rooms, chunk: &mut [u8], unread: Unread, out: &mut [u8]) {
     let mut source_space = [0u8; 65600];
     let source: &mut [u8] = &mut source_space;
     let mut table_space = [0u64; 393216];
-    answers(chunk, unread, source, &mut table_space[..room], out);
+    answers(chunk, unread, source, &mut table_space[0..room], out);
 }
