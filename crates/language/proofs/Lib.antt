@@ -8,3 +8,4 @@ pub mod LexemeExamples
 pub mod LexemeSizes
 pub mod LexemeSpans
 pub mod LexemeDigits
+pub mod TokenExamples

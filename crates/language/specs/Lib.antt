@@ -3,5 +3,6 @@ pub mod Choice
 pub mod Utf8
 pub mod Integers
 pub mod Lexemes
+pub mod Tokens
 pub mod Tables
 pub mod Numbers

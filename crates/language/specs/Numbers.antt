@@ -10,7 +10,8 @@ use Rattle.table.specs.Table.{tabled}
 use Rattle.language.specs.Choice.{if′}
 use Rattle.language.specs.Utf8.{firstBad}
 use Rattle.language.specs.Lexemes.{Placed, scan}
-use Rattle.language.specs.Tables.{lexemeRow, lexemeWidth}
+use Rattle.language.specs.Tables.{lexemeRow, lexemeWidth, tokenRow, tokenWidth, errorKind, errorChar}
+use Rattle.language.specs.Tokens.{Wrong, items, firstWrong, tokens, Place, placeOf}
 
 -- "source 65,536 bytes"
 abbrev pub mostBytes : ℕ
@@ -51,3 +52,36 @@ scanAnswer line room =
 unfoldable pub scanTable : List ℕ → ℕ → List ℕ
 scanTable line n =
     tabled lexemeRow lexemeWidth n (if′ (eqb (scanAnswer line (n / lexemeWidth) .verdict .number) 0) (scan line) [])
+
+-- ---- lex
+
+pub record Lexed : Type 0 where
+  pub verdict : Verdict
+  pub count : ℕ
+
+abbrev pub lexed : Verdict → ℕ → Lexed
+lexed v n = record { verdict = v; count = n }
+
+-- "a lexical error, kind named", at the "start of the first such lexeme"
+abbrev pub lexical : Wrong → Verdict
+lexical w = record { number = 3; kind = errorKind (w .kind); line = w .at .line; column = w .at .column; character = errorChar (w .kind) }
+
+abbrev pub placed : ℕ → Place → Verdict
+placed n p = verdict n (p .line) (p .column)
+
+-- "tokens with `Eof` exceed the room"
+abbrev pub lexedWithin : ℕ → ℕ → Lexed
+lexedWithin room n = if′ (ltb room n) (lexed (verdict 4 0 0) 0) (lexed (verdict 0 0 0) n)
+
+-- "Lex gives 1 to 4"
+unfoldable pub lexAnswer : List ℕ → ℕ → Lexed
+lexAnswer s room =
+    if′ (ltb mostBytes (length s)) (lexed (verdict 1 0 0) 0)
+    (elim (firstBad s) [
+      | some at ↦ lexed (placed 2 (placeOf s at)) 0
+      | none ↦ elim (firstWrong (items s)) [ some w ↦ lexed (lexical w) 0 | none ↦ lexedWithin room (length (tokens s)) ]
+    ])
+
+-- a table of n words as lex leaves it: on success the tokens, on refusal nothing, and zeros
+unfoldable pub lexTable : List ℕ → ℕ → List ℕ
+lexTable s n = tabled tokenRow tokenWidth n (if′ (eqb (lexAnswer s (n / tokenWidth) .verdict .number) 0) (tokens s) [])

@@ -1,8 +1,10 @@
 -- The rows of the lent tables: which words each has, and the number of each kind. docs/TABLES.md says the same in prose.
-use Prim.Native.Nat.{ℕ, _/_, _%_}
+use Prim.Native.Nat.{ℕ, suc, _/_, _%_}
+use lib.ListN.{length}
 use mathlib.Core.Bool.{Bool, true, false}
 use mathlib.Core.List.{List, [], _∷_}
 use Rattle.language.specs.Lexemes.{Tok, lParen, rParen, dot, doubleColon, colon, semiColon, equals, comma, slash, importKeyword, letKeyword, identifier, booleanLiteral, ipv4Literal, hexLiteral, decLiteral, LexErrorKind, unexpectedChar, unterminatedString, intOutOfRange, intLeadingZero, intInvalidSuffix, badIPv4Literal, Kind, trivia, str, tok, error, Placed}
+use Rattle.language.specs.Tokens.{Content, eof, plain, name, string, Token}
 
 -- ---- kinds
 
@@ -119,3 +121,31 @@ highOf (error e) = 0
 
 unfoldable pub lexemeRow : Placed → List ℕ
 lexemeRow p = p .start ∷ p .end ∷ classOf (p .kind) ∷ kindOf (p .kind) ∷ lowOf (p .kind) ∷ highOf (p .kind) ∷ []
+
+-- ---- a token's row: kind, line, column, start, end, and its value in two words
+
+abbrev pub tokenWidth : ℕ
+tokenWidth = 7
+
+abbrev pub contentKind : Content → ℕ
+contentKind eof = 1
+contentKind (plain t) = tokKind t
+contentKind (name bs) = 13
+contentKind (string b bs) = 16
+
+-- of a string how many bodies it has
+abbrev pub contentLow : Content → ℕ
+contentLow eof = 0
+contentLow (plain t) = tokLow t
+contentLow (name bs) = 0
+contentLow (string b bs) = suc (length bs)
+
+abbrev pub contentHigh : Content → ℕ
+contentHigh eof = 0
+contentHigh (plain t) = tokHigh t
+contentHigh (name bs) = 0
+contentHigh (string b bs) = 0
+
+unfoldable pub tokenRow : Token → List ℕ
+tokenRow t =
+    contentKind (t .content) ∷ t .line ∷ t .column ∷ t .start ∷ t .end ∷ contentLow (t .content) ∷ contentHigh (t .content) ∷ []

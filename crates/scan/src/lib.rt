@@ -156,19 +156,19 @@ fn is_space(c: u32) -> bool
 fn is_digit(b: u8) -> bool
     ensures { λ r. ⌜ r ≡ isDigit b ⌝ }
 {
-    48 <= b && b <= 57
+    (48 <= b) & (b <= 57)
 }
 
 fn is_word_start(b: u8) -> bool
     ensures { λ r. ⌜ r ≡ isWordStart b ⌝ }
 {
-    97 <= b && b <= 122 || 65 <= b && b <= 90 || b == 95
+    (97 <= b) & (b <= 122) | (65 <= b) & (b <= 90) | (b == 95)
 }
 
 fn is_word(b: u8) -> bool
     ensures { λ r. ⌜ r ≡ isWord b ⌝ }
 {
-    is_word_start(b) || is_digit(b)
+    is_word_start(b) | is_digit(b)
 }
 
 // ---- runs: the end of the longest run of bytes of one kind
@@ -210,7 +210,7 @@ fn eat_body(line: &[u8], at: usize) -> usize
     let mut i = at;
     while i < line.len() {
         let b = line[i];
-        if b == 34 || b == 10 {
+        if (b == 34) | (b == 10) {
             return i;
         }
         i += 1;
@@ -712,8 +712,12 @@ impl Scanner {
 pub fn body(line: &[u8], start: usize, end: usize) -> &[u8]
     ensures { λ r. ⌜ now r ≡ bodyOf (now (line .entry)) start end ⌝ }
 {
-    if start + 2 <= end && end <= line.len() {
-        return &line[start + 1..end - 1];
+    if end <= line.len() {
+        if start < end {
+            if start + 1 < end {
+                return &line[start + 1..end - 1];
+            }
+        }
     }
     &line[..0]
 }

@@ -1,11 +1,12 @@
+use mathlib.Core.Logic.{⊎-elim}
+use native.Mathlib.Omega.{arith}
 use borrow.Author.Needs.{needs}
+use Rattle.scan.proofs.Parts.{some-body, no-body}
 use Rattle.scan.proofs.body.Statement.{statement}
 use Rattle.scan.proofs.body.Tie as tie
-use Rattle.scan.proofs.body.Reads as reads
-use Rattle.scan.proofs.body.Lts as lts
 
-add-if1 : tie.Need-add-if1
-add-if1 c = ?
+add-if3 : tie.Need-add-if3
+add-if3 c = search needs
 
 add-result : tie.Need-add-result
 add-result c = search needs
@@ -20,22 +21,22 @@ part-result-start : tie.Need-part-result-start
 part-result-start c = search needs
 
 part-result-end : tie.Need-part-result-end
-part-result-end c = ?
+part-result-end c = search needs
 
 returns : tie.Need-returns
-returns c = ?
+returns c = some-body _ _ _ (c .before .before .before .if1 .taken) (c .before .if3 .taken)
 
 slice-aggregate-result : tie.Need-slice-aggregate-result
 slice-aggregate-result c = search needs
 
 returns-2 : tie.Need-returns-2
-returns-2 c = ?
+returns-2 c = no-body _ _ _ (⊎-elim (λ w. omega arith) (⊎-elim (λ w. omega arith) (λ w. omega arith)) (c .before .if1 .came))
 
 pub body-spec : {M : Type 1} → statement M
 body-spec =
     tie.close
     (tie.spec
-    add-if1
+    add-if3
     add-result
     sub-result
     sub-result-2

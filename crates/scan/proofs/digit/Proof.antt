@@ -1,8 +1,8 @@
+use native.Mathlib.Omega.{arith}
 use borrow.Author.Needs.{needs}
+use Rattle.scan.proofs.Bytes.{dec-digit, small-digit, large-digit, no-digit}
 use Rattle.scan.proofs.digit.Statement.{statement}
 use Rattle.scan.proofs.digit.Tie as tie
-use Rattle.scan.proofs.digit.Reads as reads
-use Rattle.scan.proofs.digit.Lts as lts
 
 cast-result : tie.Need-cast-result
 cast-result c = search needs
@@ -20,25 +20,25 @@ cast-result-3 : tie.Need-cast-result-3
 cast-result-3 c = search needs
 
 returns : tie.Need-returns
-returns c = ?
+returns c = dec-digit _ (c .before .if1 .left) (c .if2 .taken)
 
 returns-2 : tie.Need-returns-2
-returns-2 c = ?
+returns-2 c = large-digit _ (c .before .if3 .left) (c .if4 .taken)
 
 returns-3 : tie.Need-returns-3
-returns-3 c = ?
+returns-3 c = small-digit _ (c .before .if5 .left) (c .if6 .taken)
 
 returns-4 : tie.Need-returns-4
-returns-4 c = ?
+returns-4 c = no-digit _ (omega arith) (omega arith) (omega arith)
 
 returns-5 : tie.Need-returns-5
-returns-5 c = ?
+returns-5 c = no-digit _ (omega arith) (omega arith) (omega arith)
 
 returns-6 : tie.Need-returns-6
-returns-6 c = ?
+returns-6 c = no-digit _ (omega arith) (omega arith) (omega arith)
 
 returns-7 : tie.Need-returns-7
-returns-7 c = ?
+returns-7 c = no-digit _ (omega arith) (omega arith) (omega arith)
 
 pub digit-spec : {M : Type 1} → statement M
 digit-spec =

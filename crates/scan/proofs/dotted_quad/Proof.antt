@@ -1,53 +1,68 @@
+-- The invariant: the dots left, after numbers that give the address, come to what the whole quad comes to. The measure is
+-- the dots left.
+use native.Mathlib.Omega.{arith}
+use borrow.Author.Needs.{needs}
+use Rattle.scan.proofs.Quads.{Dots, earlier, start, ends, no-digits, digits, fits, whole, no-dot, next}
 use Rattle.scan.proofs.dotted_quad.Statement.{statement}
 use Rattle.scan.proofs.dotted_quad.Tie as tie
-use Rattle.scan.proofs.dotted_quad.Reads as reads
-use Rattle.scan.proofs.dotted_quad.Lts as lts
-use Rattle.scan.proofs.eat_digits.Reads as eat-digits-reads
-use Rattle.scan.proofs.join.Reads as join-reads
-use Rattle.scan.proofs.peek.Reads as peek-reads
-use Rattle.scan.proofs.quad_part.Reads as quad-part-reads
 
 abbrev Inv-loop : tie.InvT-loop
-Inv-loop line at i₀ dots₀ address₀ i dots address = ?
+Inv-loop line at i₀ dots₀ address₀ i dots address = Dots line at i dots address
 
 abbrev μ-loop : tie.MeasureT-loop
-μ-loop line at i₀ dots₀ address₀ i dots address = ?
+μ-loop line at i₀ dots₀ address₀ i dots address = dots
 
 loop-holds : tie.Need-loop-holds Inv-loop μ-loop
-loop-holds c = ?
+loop-holds c = start _ _ (c .before .pre)
 
 eat-digits-requires : tie.Need-eat-digits-requires Inv-loop μ-loop
-eat-digits-requires c κs = ?
+eat-digits-requires c κs = c .loop .inv .inside
 
 returns : tie.Need-returns Inv-loop μ-loop
-returns c = ?
+returns c = no-digits (c .before .before .loop .inv) _ (c .before .eat-digits .ensures) (c .if1 .taken)
 
 quad-part-requires : tie.Need-quad-part-requires Inv-loop μ-loop
-quad-part-requires c κs = ?
+quad-part-requires c κs = digits (c .before .before .loop .inv) _ (c .before .eat-digits .ensures) (c .if1 .left)
 
 join-requires : tie.Need-join-requires Inv-loop μ-loop
-join-requires c κs = ?
+join-requires c κs =
+    let d = c .before .before in
+    fits (d .before .loop .inv) _ (d .eat-digits .ensures) (c .before .if1 .left) _ (c .quad-part .ensures)
 
 returns-2 : tie.Need-returns-2 Inv-loop μ-loop
-returns-2 c = ?
+returns-2 c =
+    let p = c .before .before in
+    let d = p .before .before in
+    whole (d .before .loop .inv) _ (d .eat-digits .ensures) (p .before .if1 .left) _ (p .quad-part .ensures) _ (c .before .join .ensures) (c .if2 .taken)
 
 peek-requires : tie.Need-peek-requires Inv-loop μ-loop
-peek-requires c κs = ?
+peek-requires c κs = search needs
 
 returns-3 : tie.Need-returns-3 Inv-loop μ-loop
-returns-3 c = ?
+returns-3 c =
+    let j = c .before .before .before in
+    let p = j .before in
+    let d = p .before .before in
+    no-dot (d .before .loop .inv) _ (d .eat-digits .ensures) (p .before .if1 .left) _ (p .quad-part .ensures) _ (j .join .ensures) _ (earlier _ (c .before .before .if2 .left)) _ (c .before .peek .ensures) (c .if3 .taken)
 
 add-i : tie.Need-add-i Inv-loop μ-loop
-add-i c = ?
+add-i c =
+    let p = c .before .before .before .before in
+    let d = p .before .before in
+    omega (arith, ends (d .before .loop .inv) _ (d .eat-digits .ensures) (p .before .if1 .left))
 
 sub-dots : tie.Need-sub-dots Inv-loop μ-loop
-sub-dots c = ?
+sub-dots c = omega arith
 
 loop-less : tie.Need-loop-less Inv-loop μ-loop
-loop-less c = ?
+loop-less c = omega arith
 
 loop-again : tie.Need-loop-again Inv-loop μ-loop
-loop-again c = ?
+loop-again c =
+    let j = c .before .before .before in
+    let p = j .before in
+    let d = p .before .before in
+    next (d .before .loop .inv) _ (d .eat-digits .ensures) (p .before .if1 .left) _ (p .quad-part .ensures) _ (j .join .ensures) _ (earlier _ (c .before .before .if2 .left)) _ (c .before .peek .ensures) (c .if3 .left)
 
 pub dotted-quad-spec : {M : Type 1} → statement M
 dotted-quad-spec =

@@ -1,34 +1,39 @@
+use Prim.Native.Nat.{_-_}
+use Rattle.scan.proofs.Bytes.{body-test}
+use borrow.Author.Needs.{needs}
+use lib.ListN.{length}
+use Rattle.language.specs.Lexemes.{isBody}
+use Rattle.scan.specs.Scanning.{runEnd}
+use Rattle.scan.proofs.Runs.{Reached, begin, run-more, run-stop, run-end}
 use Rattle.scan.proofs.eat_body.Statement.{statement}
 use Rattle.scan.proofs.eat_body.Tie as tie
-use Rattle.scan.proofs.eat_body.Reads as reads
-use Rattle.scan.proofs.eat_body.Lts as lts
 
 abbrev Inv-loop : tie.InvT-loop
-Inv-loop line at i₀ i = ?
+Inv-loop line at i₀ i = Reached (runEnd isBody) line at i
 
 abbrev μ-loop : tie.MeasureT-loop
-μ-loop line at i₀ i = ?
+μ-loop line at i₀ i = length line - i
 
 loop-holds : tie.Need-loop-holds Inv-loop μ-loop
-loop-holds c = ?
+loop-holds c = begin (c .pre)
 
 shared-slice-read-b : tie.Need-shared-slice-read-b Inv-loop μ-loop
-shared-slice-read-b c = ?
+shared-slice-read-b c = search needs
 
 returns : tie.Need-returns Inv-loop μ-loop
-returns c = ?
+returns c = run-stop isBody (c .before .before .before .loop .inv) (c .before .before .loop-test .taken) (body-test _ (c .if1 .taken))
 
 add-i : tie.Need-add-i Inv-loop μ-loop
-add-i c = ?
+add-i c = search needs
 
 loop-less : tie.Need-loop-less Inv-loop μ-loop
-loop-less c = ?
+loop-less c = search needs
 
 loop-again : tie.Need-loop-again Inv-loop μ-loop
-loop-again c = ?
+loop-again c = run-more isBody (c .before .before .before .loop .inv) (c .before .before .loop-test .taken) (body-test _ (c .if1 .left))
 
 returns-2 : tie.Need-returns-2 Inv-loop μ-loop
-returns-2 c = ?
+returns-2 c = run-end isBody (c .before .loop .inv) (c .loop-test .left)
 
 pub eat-body-spec : {M : Type 1} → statement M
 eat-body-spec =

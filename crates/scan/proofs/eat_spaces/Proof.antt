@@ -1,45 +1,62 @@
+use Prim.Native.Nat.{_-_}
+use mathlib.Core.Path.{sym, _∙_}
+use native.Mathlib.Omega.{arith}
+use borrow.Author.Needs.{needs}
+use lib.ListN.{length}
+use Rattle.utf8.proofs.Places.{bad-char}
+use Rattle.scan.specs.Scanning.{blankEnd}
+use Rattle.scan.proofs.Bytes.{refused, passed}
+use Rattle.scan.proofs.Runs.{Reached, begin, blank-more, blank-other, blank-none, blank-end}
 use Rattle.scan.proofs.eat_spaces.Statement.{statement}
 use Rattle.scan.proofs.eat_spaces.Tie as tie
-use Rattle.scan.proofs.eat_spaces.Reads as reads
-use Rattle.scan.proofs.eat_spaces.Lts as lts
-use Rattle.scan.proofs.is_space.Reads as is-space-reads
-use Rattle.utf8.proofs.decode.Reads as decode-reads
 
 abbrev Inv-loop : tie.InvT-loop
-Inv-loop line at i₀ i = ?
+Inv-loop line at i₀ i = Reached blankEnd line at i
 
 abbrev μ-loop : tie.MeasureT-loop
-μ-loop line at i₀ i = ?
+μ-loop line at i₀ i = length line - i
 
 loop-holds : tie.Need-loop-holds Inv-loop μ-loop
-loop-holds c = ?
+loop-holds c = begin (c .before .pre)
 
 decode-requires : tie.Need-decode-requires Inv-loop μ-loop
-decode-requires c κs = ?
+decode-requires c κs = search needs
 
 enum-known-d : tie.Need-enum-known-d Inv-loop μ-loop
-enum-known-d c = ?
+enum-known-d c = search needs
 
 is-space-requires : tie.Need-is-space-requires Inv-loop μ-loop
-is-space-requires c κs = ?
+is-space-requires c κs = search needs
 
 returns : tie.Need-returns Inv-loop μ-loop
-returns c = ?
+returns c =
+    let m = c .before .before .before in
+    let l = m .before .before .before in
+    blank-other (l .before .loop .inv) (l .loop-test .taken) (sym (m .d .given .1) ∙ m .before .before .decode .ensures) (refused (c .before .is-space .ensures) (c .if1 .taken))
 
 loop-less : tie.Need-loop-less Inv-loop μ-loop
-loop-less c = ?
+loop-less c =
+    let m = c .before .before .before in
+    let l = m .before .before .before in
+    let o = bad-char _ _ (l .loop-test .taken) _ _ (sym (m .d .given .1) ∙ m .before .before .decode .ensures) in
+    omega (arith, o .further, o .in-source)
 
 loop-again : tie.Need-loop-again Inv-loop μ-loop
-loop-again c = ?
+loop-again c =
+    let m = c .before .before .before in
+    let l = m .before .before .before in
+    blank-more (l .before .loop .inv) (l .loop-test .taken) (sym (m .d .given .1) ∙ m .before .before .decode .ensures) (passed (c .before .is-space .ensures) (c .if1 .left))
 
 enum-told : tie.Need-enum-told Inv-loop μ-loop
-enum-told c = ?
+enum-told c = search needs
 
 returns-2 : tie.Need-returns-2 Inv-loop μ-loop
-returns-2 c = ?
+returns-2 c =
+    let m = c .before .before in
+    blank-none (m .before .before .loop .inv) (m .before .loop-test .taken) (sym (c .enum-told .given .1) ∙ m .decode .ensures)
 
 returns-3 : tie.Need-returns-3 Inv-loop μ-loop
-returns-3 c = ?
+returns-3 c = blank-end (c .before .loop .inv) (c .loop-test .left)
 
 pub eat-spaces-spec : {M : Type 1} → statement M
 eat-spaces-spec =

@@ -1,38 +1,42 @@
+use Prim.Native.Nat.{_-_}
+use Rattle.scan.proofs.Bytes.{refused, passed}
+use borrow.Author.Needs.{needs}
+use lib.ListN.{length}
+use Rattle.language.specs.Lexemes.{isWord}
+use Rattle.scan.specs.Scanning.{runEnd}
+use Rattle.scan.proofs.Runs.{Reached, begin, run-more, run-stop, run-end}
 use Rattle.scan.proofs.eat_word.Statement.{statement}
 use Rattle.scan.proofs.eat_word.Tie as tie
-use Rattle.scan.proofs.eat_word.Reads as reads
-use Rattle.scan.proofs.eat_word.Lts as lts
-use Rattle.scan.proofs.is_word.Reads as is-word-reads
 
 abbrev Inv-loop : tie.InvT-loop
-Inv-loop line at i₀ i = ?
+Inv-loop line at i₀ i = Reached (runEnd isWord) line at i
 
 abbrev μ-loop : tie.MeasureT-loop
-μ-loop line at i₀ i = ?
+μ-loop line at i₀ i = length line - i
 
 loop-holds : tie.Need-loop-holds Inv-loop μ-loop
-loop-holds c = ?
+loop-holds c = begin (c .before .pre)
 
 shared-slice-read-b : tie.Need-shared-slice-read-b Inv-loop μ-loop
-shared-slice-read-b c = ?
+shared-slice-read-b c = search needs
 
 is-word-requires : tie.Need-is-word-requires Inv-loop μ-loop
-is-word-requires c κs = ?
+is-word-requires c κs = search needs
 
 returns : tie.Need-returns Inv-loop μ-loop
-returns c = ?
+returns c = run-stop isWord (c .before .before .before .before .loop .inv) (c .before .before .before .loop-test .taken) (refused (c .before .is-word .ensures) (c .if1 .taken))
 
 add-i : tie.Need-add-i Inv-loop μ-loop
-add-i c = ?
+add-i c = search needs
 
 loop-less : tie.Need-loop-less Inv-loop μ-loop
-loop-less c = ?
+loop-less c = search needs
 
 loop-again : tie.Need-loop-again Inv-loop μ-loop
-loop-again c = ?
+loop-again c = run-more isWord (c .before .before .before .before .loop .inv) (c .before .before .before .loop-test .taken) (passed (c .before .is-word .ensures) (c .if1 .left))
 
 returns-2 : tie.Need-returns-2 Inv-loop μ-loop
-returns-2 c = ?
+returns-2 c = run-end isWord (c .before .loop .inv) (c .loop-test .left)
 
 pub eat-word-spec : {M : Type 1} → statement M
 eat-word-spec =

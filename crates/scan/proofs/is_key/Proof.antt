@@ -1,46 +1,52 @@
+use Prim.Native.Nat.{_-_}
+use borrow.Author.Needs.{needs}
+use lib.ListN.{length}
+use Rattle.scan.proofs.Words.{Matched, key-size, key-begin, key-more, key-stop, key-end}
 use Rattle.scan.proofs.is_key.Statement.{statement}
 use Rattle.scan.proofs.is_key.Tie as tie
-use Rattle.scan.proofs.is_key.Reads as reads
-use Rattle.scan.proofs.is_key.Lts as lts
 
 abbrev Inv-loop : tie.InvT-loop
-Inv-loop line at end key size i₀ i = ?
+Inv-loop line at end key size i₀ i = Matched line key at end i
 
 abbrev μ-loop : tie.MeasureT-loop
-μ-loop line at end key size i₀ i = ?
+μ-loop line at end key size i₀ i = length key - i
 
 sub-size : tie.Need-sub-size Inv-loop μ-loop
-sub-size c = ?
+sub-size c = search needs
 
 returns : tie.Need-returns Inv-loop μ-loop
-returns c = ?
+returns c = key-size _ _ _ _ (c .before .pre) (c .if1 .taken)
 
 loop-holds : tie.Need-loop-holds Inv-loop μ-loop
-loop-holds c = ?
+loop-holds c = key-begin _ _ _ _ (c .before .pre) (c .if1 .left)
 
 add-p : tie.Need-add-p Inv-loop μ-loop
-add-p c = ?
+add-p c = search needs
 
 shared-slice-read-if2 : tie.Need-shared-slice-read-if2 Inv-loop μ-loop
-shared-slice-read-if2 c = ?
+shared-slice-read-if2 c = search needs
 
 shared-slice-read-if2-2 : tie.Need-shared-slice-read-if2-2 Inv-loop μ-loop
-shared-slice-read-if2-2 c = ?
+shared-slice-read-if2-2 c = search needs
 
 returns-2 : tie.Need-returns-2 Inv-loop μ-loop
-returns-2 c = ?
+returns-2 c =
+    let l = c .before .before .before in
+    key-stop _ _ _ _ (l .before .before .before .pre) (l .before .loop .inv) (l .loop-test .taken) (c .if2 .taken)
 
 add-i : tie.Need-add-i Inv-loop μ-loop
-add-i c = ?
+add-i c = search needs
 
 loop-less : tie.Need-loop-less Inv-loop μ-loop
-loop-less c = ?
+loop-less c = search needs
 
 loop-again : tie.Need-loop-again Inv-loop μ-loop
-loop-again c = ?
+loop-again c =
+    let l = c .before .before .before in
+    key-more _ _ _ _ (l .before .before .before .pre) (l .before .loop .inv) (l .loop-test .taken) (c .if2 .left)
 
 returns-3 : tie.Need-returns-3 Inv-loop μ-loop
-returns-3 c = ?
+returns-3 c = key-end _ _ _ _ (c .before .before .before .pre) (c .before .loop .inv) (c .loop-test .left)
 
 pub is-key-spec : {M : Type 1} → statement M
 is-key-spec =

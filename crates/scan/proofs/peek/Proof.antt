@@ -1,8 +1,8 @@
+use mathlib.Core.Path.{sym}
+use lib.ListN.{List·getD-eq-default}
 use borrow.Author.Needs.{needs}
 use Rattle.scan.proofs.peek.Statement.{statement}
 use Rattle.scan.proofs.peek.Tie as tie
-use Rattle.scan.proofs.peek.Reads as reads
-use Rattle.scan.proofs.peek.Lts as lts
 
 shared-slice-read-result : tie.Need-shared-slice-read-result
 shared-slice-read-result c = search needs
@@ -11,7 +11,7 @@ returns : tie.Need-returns
 returns c = search needs
 
 returns-2 : tie.Need-returns-2
-returns-2 c = ?
+returns-2 c = sym (List·getD-eq-default (c .before .args .line .now) 0 (c .if1 .left))
 
 pub peek-spec : {M : Type 1} → statement M
 peek-spec = tie.close (tie.spec shared-slice-read-result returns returns-2)

@@ -1,28 +1,34 @@
+use Rattle.language.specs.Lexemes.{punctuation}
+use Rattle.scan.proofs.Bytes.{no-mark}
 use Rattle.scan.proofs.punctuation.Statement.{statement}
 use Rattle.scan.proofs.punctuation.Tie as tie
-use Rattle.scan.proofs.punctuation.Reads as reads
-use Rattle.scan.proofs.punctuation.Lts as lts
 
 returns : tie.Need-returns
-returns c = ?
+unfolding punctuation
+returns c = rw (c .match .keys1)
 
 returns-2 : tie.Need-returns-2
-returns-2 c = ?
+unfolding punctuation
+returns-2 c = rw (c .match .keys2)
 
 returns-3 : tie.Need-returns-3
-returns-3 c = ?
+unfolding punctuation
+returns-3 c = rw (c .match .keys3)
 
 returns-4 : tie.Need-returns-4
-returns-4 c = ?
+unfolding punctuation
+returns-4 c = rw (c .match .keys4)
 
 returns-5 : tie.Need-returns-5
-returns-5 c = ?
+unfolding punctuation
+returns-5 c = rw (c .match .keys5)
 
 returns-6 : tie.Need-returns-6
-returns-6 c = ?
+unfolding punctuation
+returns-6 c = rw (c .match .keys6)
 
 returns-7 : tie.Need-returns-7
-returns-7 c = ?
+returns-7 c = no-mark _ (c .match .rest)
 
 pub punctuation-spec : {M : Type 1} → statement M
 punctuation-spec =

@@ -1,22 +1,23 @@
+-- A base that is not ten is sixteen.
+use native.Mathlib.Omega.{arith}
 use borrow.Author.Needs.{needs}
+use Rattle.scan.proofs.Digits.{sixteen}
 use Rattle.scan.proofs.push_digit.Statement.{statement}
 use Rattle.scan.proofs.push_digit.Tie as tie
-use Rattle.scan.proofs.push_digit.Reads as reads
-use Rattle.scan.proofs.push_digit.Lts as lts
-use Rattle.wide.proofs.Wide.times10_plus.Reads as times10-plus-reads
-use Rattle.wide.proofs.Wide.times16_plus.Reads as times16-plus-reads
 
 times10-plus-requires : tie.Need-times10-plus-requires
 times10-plus-requires c κs = search needs
 
 returns : tie.Need-returns
-returns c = ?
+returns c = rw (c .before .if1 .taken) (c .times10-plus .ensures)
 
 times16-plus-requires : tie.Need-times16-plus-requires
-times16-plus-requires c κs = ?
+times16-plus-requires c κs = omega (arith, sixteen (c .before .args .base) (c .before .pre .1) (c .if1 .left))
 
 returns-2 : tie.Need-returns-2
-returns-2 c = ?
+returns-2 c =
+    let e = sixteen (c .before .before .args .base) (c .before .before .pre .1) (c .before .if1 .left) in
+    rw e (c .times16-plus .ensures)
 
 pub push-digit-spec : {M : Type 1} → statement M
 push-digit-spec =

@@ -1,55 +1,62 @@
+-- The invariant: from i on, digits that follow v come to what all of them come to. The measure is the digits left.
+use Prim.Native.Nat.{_-_}
+use borrow.Author.Needs.{needs}
+use Rattle.scan.proofs.Digits.{Reading, start, finished, suffix, out-of-range, again}
 use Rattle.scan.proofs.read_digits.Statement.{statement}
 use Rattle.scan.proofs.read_digits.Tie as tie
-use Rattle.scan.proofs.read_digits.Reads as reads
-use Rattle.scan.proofs.read_digits.Lts as lts
-use Rattle.scan.proofs.digit.Reads as digit-reads
-use Rattle.scan.proofs.push_digit.Reads as push-digit-reads
-use Rattle.wide.proofs.Wide.zero.Reads as zero-reads
 
 abbrev Inv-loop : tie.InvT-loop
-Inv-loop line at end base v₀ i₀ v i = ?
+Inv-loop line at end base v₀ i₀ v i = Reading base line at end v i
 
 abbrev μ-loop : tie.MeasureT-loop
-μ-loop line at end base v₀ i₀ v i = ?
+μ-loop line at end base v₀ i₀ v i = end - i
 
 zero-requires : tie.Need-zero-requires Inv-loop μ-loop
-zero-requires c κs = ?
+zero-requires c κs = search needs
 
 loop-holds : tie.Need-loop-holds Inv-loop μ-loop
-loop-holds c = ?
+loop-holds c = start _ _ _ _ _ (c .before .before .pre .0) (c .zero .ensures)
 
 shared-slice-read-b : tie.Need-shared-slice-read-b Inv-loop μ-loop
-shared-slice-read-b c = ?
+shared-slice-read-b c = search needs
 
 digit-requires : tie.Need-digit-requires Inv-loop μ-loop
-digit-requires c κs = ?
+digit-requires c κs = search needs
 
 returns : tie.Need-returns Inv-loop μ-loop
-returns c = ?
+returns c =
+    let l = c .before .before .before in
+    suffix (l .before .loop .inv) (l .loop-test .taken) (l .before .before .before .before .pre .1) _ (c .before .digit .ensures) (c .if1 .taken)
 
 push-digit-requires : tie.Need-push-digit-requires Inv-loop μ-loop
-push-digit-requires c κs = ?
+push-digit-requires c κs = search needs
 
 enum-known-next : tie.Need-enum-known-next Inv-loop μ-loop
-enum-known-next c = ?
+enum-known-next c = search needs
 
 enum-told : tie.Need-enum-told Inv-loop μ-loop
-enum-told c = ?
+enum-told c = search needs
 
 returns-2 : tie.Need-returns-2 Inv-loop μ-loop
-returns-2 c = ?
+returns-2 c =
+    let l = c .before .before .before .before .before .before in
+    let p = c .before .before in
+    out-of-range (l .before .loop .inv) (l .loop-test .taken) (l .before .before .before .before .pre .1) _ (p .before .before .digit .ensures) (p .before .if1 .left) _ (p .push-digit .ensures) (c .enum-told .given .1)
 
 add-i : tie.Need-add-i Inv-loop μ-loop
-add-i c = ?
+add-i c = search needs
 
 loop-less : tie.Need-loop-less Inv-loop μ-loop
-loop-less c = ?
+loop-less c = search needs
 
 loop-again : tie.Need-loop-again Inv-loop μ-loop
-loop-again c = ?
+loop-again c =
+    let l = c .before .before .before .before .before .before .before in
+    let p = c .before .before .before in
+    again (l .before .loop .inv) (l .loop-test .taken) (l .before .before .before .before .pre .1) _ (p .before .before .digit .ensures) (p .before .if1 .left) _ (p .push-digit .ensures) _ (c .before .next .given .1)
 
 returns-3 : tie.Need-returns-3 Inv-loop μ-loop
-returns-3 c = ?
+returns-3 c = finished (c .before .loop .inv) (c .loop-test .left)
 
 pub read-digits-spec : {M : Type 1} → statement M
 read-digits-spec =

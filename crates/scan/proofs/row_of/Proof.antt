@@ -1,11 +1,6 @@
 use borrow.Author.Needs.{needs}
 use Rattle.scan.proofs.row_of.Statement.{statement}
 use Rattle.scan.proofs.row_of.Tie as tie
-use Rattle.scan.proofs.row_of.Reads as reads
-use Rattle.scan.proofs.row_of.Lts as lts
-use Rattle.scan.proofs.class_of.Reads as class-of-reads
-use Rattle.scan.proofs.kind_of.Reads as kind-of-reads
-use Rattle.scan.proofs.value_of.Reads as value-of-reads
 
 value-of-requires : tie.Need-value-of-requires
 value-of-requires c κs = search needs
@@ -17,7 +12,7 @@ kind-of-requires : tie.Need-kind-of-requires
 kind-of-requires c κs = search needs
 
 returns : tie.Need-returns
-returns c = ?
+returns c = rw (c .before .class-of .ensures, c .kind-of .ensures, c .before .before .value-of .ensures)
 
 pub row-of-spec : {M : Type 1} → statement M
 row-of-spec = tie.close (tie.spec value-of-requires class-of-requires kind-of-requires returns)

@@ -1,16 +1,16 @@
+-- The three bytes one after the other, as `startsHex` tests them.
 use borrow.Author.Needs.{needs}
+use Rattle.scan.proofs.Numerals.{not-hex, not-x, hex-start}
 use Rattle.scan.proofs.starts_hex.Statement.{statement}
 use Rattle.scan.proofs.starts_hex.Tie as tie
-use Rattle.scan.proofs.starts_hex.Reads as reads
-use Rattle.scan.proofs.starts_hex.Lts as lts
-use Rattle.scan.proofs.digit.Reads as digit-reads
-use Rattle.scan.proofs.peek.Reads as peek-reads
 
 peek-requires : tie.Need-peek-requires
 peek-requires c κs = search needs
 
 returns : tie.Need-returns
-returns c = ?
+returns c =
+    let a = c .before .before .before .args in
+    not-hex (a .line .now) (a .at) _ (c .before .peek .ensures) (c .if1 .taken)
 
 add-peek : tie.Need-add-peek
 add-peek c = search needs
@@ -19,7 +19,10 @@ peek-requires-2 : tie.Need-peek-requires-2
 peek-requires-2 c κs = search needs
 
 returns-2 : tie.Need-returns-2
-returns-2 c = ?
+returns-2 c =
+    let p = c .before .before in
+    let a = p .before .before .before .args in
+    not-x (a .line .now) (a .at) _ (p .before .peek .ensures) (p .if1 .left) _ (c .before .peek2 .ensures) (c .if2 .taken)
 
 add-peek-2 : tie.Need-add-peek-2
 add-peek-2 c = search needs
@@ -31,7 +34,10 @@ digit-requires : tie.Need-digit-requires
 digit-requires c κs = search needs
 
 returns-3 : tie.Need-returns-3
-returns-3 c = ?
+returns-3 c =
+    let p = c .before .before .before .before in
+    let a = p .before .before .before .args in
+    hex-start (a .line .now) (a .at) _ (p .before .peek .ensures) (p .if1 .left) _ (c .before .before .before .peek2 .ensures) _ _ (c .before .before .if2 .left) (c .before .peek3 .ensures) (c .digit .ensures)
 
 pub starts-hex-spec : {M : Type 1} → statement M
 starts-hex-spec =

@@ -1,16 +1,16 @@
+-- The two bytes one after the other, as `startsZero` tests them.
 use borrow.Author.Needs.{needs}
+use Rattle.scan.proofs.Numerals.{not-zero, zero-start}
 use Rattle.scan.proofs.starts_zero.Statement.{statement}
 use Rattle.scan.proofs.starts_zero.Tie as tie
-use Rattle.scan.proofs.starts_zero.Reads as reads
-use Rattle.scan.proofs.starts_zero.Lts as lts
-use Rattle.scan.proofs.is_digit.Reads as is-digit-reads
-use Rattle.scan.proofs.peek.Reads as peek-reads
 
 peek-requires : tie.Need-peek-requires
 peek-requires c κs = search needs
 
 returns : tie.Need-returns
-returns c = ?
+returns c =
+    let a = c .before .before .before .args in
+    not-zero (a .line .now) (a .at) _ (c .before .peek .ensures) (c .if1 .taken)
 
 add-peek : tie.Need-add-peek
 add-peek c = search needs
@@ -22,7 +22,10 @@ is-digit-requires : tie.Need-is-digit-requires
 is-digit-requires c κs = search needs
 
 returns-2 : tie.Need-returns-2
-returns-2 c = ?
+returns-2 c =
+    let p = c .before .before in
+    let a = p .before .before .before .args in
+    zero-start (a .line .now) (a .at) _ (p .before .peek .ensures) (p .if1 .left) _ (c .before .peek2 .ensures) _ (c .is-digit .ensures)
 
 pub starts-zero-spec : {M : Type 1} → statement M
 starts-zero-spec =

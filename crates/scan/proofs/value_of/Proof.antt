@@ -1,10 +1,8 @@
+use mathlib.Core.Path.{sym, ap}
 use borrow.Author.Needs.{needs}
+use Rattle.scan.specs.Scanning.{kindValue}
 use Rattle.scan.proofs.value_of.Statement.{statement}
 use Rattle.scan.proofs.value_of.Tie as tie
-use Rattle.scan.proofs.value_of.Reads as reads
-use Rattle.scan.proofs.value_of.Lts as lts
-use Rattle.scan.proofs.LexErrorKind.character.Reads as character-reads
-use Rattle.scan.proofs.Tok.value.Reads as value-reads
 
 enum-told : tie.Need-enum-told
 enum-told c = search needs
@@ -25,16 +23,16 @@ character-requires : tie.Need-character-requires
 character-requires c κs = search needs
 
 returns : tie.Need-returns
-returns c = ?
+returns c = sym (ap kindValue (c .enum-told .given .1))
 
 returns-2 : tie.Need-returns-2
-returns-2 c = ?
+returns-2 c = sym (ap kindValue (c .enum-told2 .given .1))
 
 returns-3 : tie.Need-returns-3
 returns-3 c = search needs
 
 returns-4 : tie.Need-returns-4
-returns-4 c = ?
+returns-4 c = rw (c .character .ensures) (sym (ap kindValue (c .before .before .kind2 .given .1)))
 
 pub value-of-spec : {M : Type 1} → statement M
 value-of-spec =

@@ -1,9 +1,8 @@
+use mathlib.Core.Path.{sym, _∙_}
 use borrow.Author.Needs.{needs}
+use Rattle.scan.proofs.Words.{word-import, word-let, word-true, word-false, word-other}
 use Rattle.scan.proofs.word.Statement.{statement}
 use Rattle.scan.proofs.word.Tie as tie
-use Rattle.scan.proofs.word.Reads as reads
-use Rattle.scan.proofs.word.Lts as lts
-use Rattle.scan.proofs.is_key.Reads as is-key-reads
 
 slice-aggregate-is-key : tie.Need-slice-aggregate-is-key
 slice-aggregate-is-key c = search needs
@@ -12,7 +11,7 @@ is-key-requires : tie.Need-is-key-requires
 is-key-requires c κs = search needs
 
 returns : tie.Need-returns
-returns c = ?
+returns c = word-import _ (sym (c .before .is-key .ensures) ∙ c .if1 .taken)
 
 slice-aggregate-is-key-2 : tie.Need-slice-aggregate-is-key-2
 slice-aggregate-is-key-2 c = search needs
@@ -21,7 +20,9 @@ is-key-requires-2 : tie.Need-is-key-requires-2
 is-key-requires-2 c κs = search needs
 
 returns-2 : tie.Need-returns-2
-returns-2 c = ?
+returns-2 c =
+    let k1 = c .before .before .before in
+    word-let _ (sym (k1 .before .is-key .ensures) ∙ k1 .if1 .left) (sym (c .before .is-key2 .ensures) ∙ c .if2 .taken)
 
 slice-aggregate-is-key-3 : tie.Need-slice-aggregate-is-key-3
 slice-aggregate-is-key-3 c = search needs
@@ -30,7 +31,10 @@ is-key-requires-3 : tie.Need-is-key-requires-3
 is-key-requires-3 c κs = search needs
 
 returns-3 : tie.Need-returns-3
-returns-3 c = ?
+returns-3 c =
+    let k2 = c .before .before .before in
+    let k1 = k2 .before .before .before in
+    word-true _ (sym (k1 .before .is-key .ensures) ∙ k1 .if1 .left) (sym (k2 .before .is-key2 .ensures) ∙ k2 .if2 .left) (sym (c .before .is-key3 .ensures) ∙ c .if3 .taken)
 
 slice-aggregate-is-key-4 : tie.Need-slice-aggregate-is-key-4
 slice-aggregate-is-key-4 c = search needs
@@ -39,10 +43,18 @@ is-key-requires-4 : tie.Need-is-key-requires-4
 is-key-requires-4 c κs = search needs
 
 returns-4 : tie.Need-returns-4
-returns-4 c = ?
+returns-4 c =
+    let k3 = c .before .before .before in
+    let k2 = k3 .before .before .before in
+    let k1 = k2 .before .before .before in
+    word-false _ (sym (k1 .before .is-key .ensures) ∙ k1 .if1 .left) (sym (k2 .before .is-key2 .ensures) ∙ k2 .if2 .left) (sym (k3 .before .is-key3 .ensures) ∙ k3 .if3 .left) (sym (c .before .is-key4 .ensures) ∙ c .if4 .taken)
 
 returns-5 : tie.Need-returns-5
-returns-5 c = ?
+returns-5 c =
+    let k3 = c .before .before .before in
+    let k2 = k3 .before .before .before in
+    let k1 = k2 .before .before .before in
+    word-other _ (sym (k1 .before .is-key .ensures) ∙ k1 .if1 .left) (sym (k2 .before .is-key2 .ensures) ∙ k2 .if2 .left) (sym (k3 .before .is-key3 .ensures) ∙ k3 .if3 .left) (sym (c .before .is-key4 .ensures) ∙ c .if4 .left)
 
 pub word-spec : {M : Type 1} → statement M
 word-spec =

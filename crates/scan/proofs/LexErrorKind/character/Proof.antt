@@ -1,8 +1,7 @@
 use borrow.Author.Needs.{needs}
+use Rattle.scan.proofs.Bytes.{other-error}
 use Rattle.scan.proofs.LexErrorKind.character.Statement.{statement}
 use Rattle.scan.proofs.LexErrorKind.character.Tie as tie
-use Rattle.scan.proofs.LexErrorKind.character.Reads as reads
-use Rattle.scan.proofs.LexErrorKind.character.Lts as lts
 
 enum-known-self : tie.Need-enum-known-self
 enum-known-self c = search needs
@@ -14,7 +13,7 @@ returns : tie.Need-returns
 returns c = search needs
 
 returns-2 : tie.Need-returns-2
-returns-2 c = ?
+returns-2 c = other-error (c .before .args .self) (c .match .keys2)
 
 pub character-spec : {M : Type 1} → statement M
 character-spec = tie.close (tie.spec enum-known-self cast-result returns returns-2)

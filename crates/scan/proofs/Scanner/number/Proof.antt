@@ -1,11 +1,9 @@
+-- A quad, with or without word characters after it, or else the integer that the word is.
+use mathlib.Core.Logic.{inl, inr}
 use borrow.Author.Needs.{needs}
+use Rattle.scan.proofs.Quads.{quad-ends, address, malformed, no-quad}
 use Rattle.scan.proofs.Scanner.number.Statement.{statement}
 use Rattle.scan.proofs.Scanner.number.Tie as tie
-use Rattle.scan.proofs.Scanner.number.Reads as reads
-use Rattle.scan.proofs.Scanner.number.Lts as lts
-use Rattle.scan.proofs.dotted_quad.Reads as dotted-quad-reads
-use Rattle.scan.proofs.eat_word.Reads as eat-word-reads
-use Rattle.scan.proofs.integer.Reads as integer-reads
 
 dotted-quad-requires : tie.Need-dotted-quad-requires
 dotted-quad-requires c κs = search needs
@@ -14,13 +12,22 @@ enum-known-q : tie.Need-enum-known-q
 enum-known-q c = search needs
 
 eat-word-requires : tie.Need-eat-word-requires
-eat-word-requires c κs = ?
+eat-word-requires c κs =
+    let q = c .before in
+    let d = q .before .before in
+    let s = d .before .before in
+    quad-ends (s .args .line .now) (s .args .at) _ (d .dotted-quad .ensures) _ _ (q .q .given .1) (s .pre .0)
 
 enum-known-address : tie.Need-enum-known-address
 enum-known-address c = search needs
 
 returns : tie.Need-returns
-returns c = ?
+returns c =
+    let w = c .before .before .before .before in
+    let q = w .before .before in
+    let d = q .before .before in
+    let s = d .before .before in
+    address (s .args .line .now) (s .args .at) _ (d .dotted-quad .ensures) _ _ (q .q .given .1) _ (w .eat-word .ensures) _ (c .before .before .address .given .1) (c .if1 .taken)
 
 enum-told : tie.Need-enum-told
 enum-told c = search needs
@@ -35,13 +42,26 @@ integer-requires : tie.Need-integer-requires
 integer-requires c κs = search needs
 
 returns-2 : tie.Need-returns-2
-returns-2 c = ?
+returns-2 c =
+    let w = c .before .before .before .before in
+    let q = w .before .before in
+    let d = q .before .before in
+    let s = d .before .before in
+    malformed (s .args .line .now) (s .args .at) _ (d .dotted-quad .ensures) _ _ (q .q .given .1) _ (w .eat-word .ensures) (inr (c .if1 .left))
 
 returns-3 : tie.Need-returns-3
-returns-3 c = ?
+returns-3 c =
+    let w = c .before .before in
+    let q = w .before .before in
+    let d = q .before .before in
+    let s = d .before .before in
+    malformed (s .args .line .now) (s .args .at) _ (d .dotted-quad .ensures) _ _ (q .q .given .1) _ (w .eat-word .ensures) (inl (c .enum-told .given .1))
 
 returns-4 : tie.Need-returns-4
-returns-4 c = ?
+returns-4 c =
+    let d = c .before .before .before .before in
+    let s = d .before .before in
+    no-quad (s .args .line .now) (s .args .at) _ (d .dotted-quad .ensures) (c .before .before .enum-told2 .given .1) _ (c .before .eat-word2 .ensures) _ (c .integer .ensures)
 
 pub number-spec : {M : Type 1} → statement M
 number-spec =

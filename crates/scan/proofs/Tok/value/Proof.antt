@@ -1,8 +1,9 @@
+use mathlib.Core.Path.{sym, ap}
 use borrow.Author.Needs.{needs}
+use Rattle.scan.specs.Scanning.{tokValue}
+use Rattle.scan.proofs.Bytes.{other-token}
 use Rattle.scan.proofs.Tok.value.Statement.{statement}
 use Rattle.scan.proofs.Tok.value.Tie as tie
-use Rattle.scan.proofs.Tok.value.Reads as reads
-use Rattle.scan.proofs.Tok.value.Lts as lts
 
 enum-known-self : tie.Need-enum-known-self
 enum-known-self c = search needs
@@ -23,10 +24,10 @@ enum-known-self-4 : tie.Need-enum-known-self-4
 enum-known-self-4 c = search needs
 
 returns : tie.Need-returns
-returns c = ?
+returns c = sym (ap tokValue (c .before .self .given .1))
 
 returns-2 : tie.Need-returns-2
-returns-2 c = ?
+returns-2 c = sym (ap tokValue (c .before .self2 .given .1))
 
 returns-3 : tie.Need-returns-3
 returns-3 c = search needs
@@ -35,7 +36,7 @@ returns-4 : tie.Need-returns-4
 returns-4 c = search needs
 
 returns-5 : tie.Need-returns-5
-returns-5 c = ?
+returns-5 c = other-token (c .before .args .self) (c .match .keys5)
 
 pub value-spec : {M : Type 1} → statement M
 value-spec =
