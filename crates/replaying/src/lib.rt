@@ -12,10 +12,12 @@ use header::Mode;
 use input::Unread;
 
 pub fn run() {
-    let mut chunk_space = [0u8; 262144];
-    let chunk: &mut [u8] = &mut chunk_space;
-    let mut out_space = [0u8; 65536];
-    let out: &mut [u8] = &mut out_space;
+    let mut chunk = [0u8; 262144];
+    let mut out = [0u8; 65536];
+    run_in(&mut chunk, &mut out);
+}
+
+fn run_in(chunk: &mut [u8], out: &mut [u8]) {
     // the first line is looked for in what is read first, so that is read whole
     let end = io::read_full(0, chunk);
     let head = header::read(&chunk[..end]);

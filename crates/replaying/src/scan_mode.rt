@@ -183,14 +183,29 @@ fn answers(chunk: &mut [u8], start: Unread, source: &mut [u8], table: &mut [u64]
     }
 }
 
-// How many words a table has that is asked for by its rows, at the most 65,536 of them.
-fn words(rows: u64) -> usize
-    ensures { λ r. ⌜ r ≤ 393216 ⌝ }
-{
-    if rows < 65536 {
+// How many words so many rows have, or more than any table here.
+fn words_of(rows: u64) -> usize {
+    if rows < 1000000 {
         return rows as usize * 6;
     }
-    393216
+    6000000
+}
+
+// Lends the rows that are asked for, or the whole table where it has no more.
+fn run_in(
+    rows: u64,
+    chunk: &mut [u8],
+    unread: Unread,
+    source: &mut [u8],
+    table: &mut [u64],
+    out: &mut [u8],
+) {
+    let words = words_of(rows);
+    if words <= table.len() {
+        answers(chunk, unread, source, &mut table[0..words], out);
+    } else {
+        answers(chunk, unread, source, table, out);
+    }
 }
 
 pub fn run(rooms: Rooms, chunk: &mut [u8], unread: Unread, out: &mut [u8]) {
@@ -199,10 +214,9 @@ pub fn run(rooms: Rooms, chunk: &mut [u8], unread: Unread, out: &mut [u8]) {
         return;
     }
     let rows = rooms.rows;
-    let room = words(rows[0]);
     // longer than any source that is scanned, so that one which is too long is still too long here
-    let mut source_space = [0u8; 65600];
-    let source: &mut [u8] = &mut source_space;
-    let mut table_space = [0u64; 393216];
-    answers(chunk, unread, source, &mut table_space[0..room], out);
+    let mut source = [0u8; 65600];
+    // 65,536 rows
+    let mut table = [0u64; 393216];
+    run_in(rows[0], chunk, unread, &mut source, &mut table, out);
 }
