@@ -1,5 +1,5 @@
 // The first line of the input: a mode, and the rows of each table that it lends.
-ghost use Prim.Native.Nat.{_≤_, _<_};
+ghost use Prim.Native.Nat.{_≤_};
 ghost use lib.ListN.{length};
 use crate::input::digit;
 

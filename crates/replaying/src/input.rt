@@ -1,7 +1,6 @@
 // The sources of standard input, a line of hex each. They are decoded from one chunk after another, so a line may be
 // longer than a chunk.
-ghost use Prim.Native.Nat.{_≤_, _<_};
-ghost use lib.ListN.{length};
+ghost use Prim.Native.Nat.{_≤_};
 
 // What is not yet read of a chunk.
 pub struct Unread {

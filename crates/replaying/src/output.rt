@@ -1,7 +1,6 @@
 // Text for standard output, gathered in a buffer. Each function takes the place in the buffer where text goes next, and
 // answers the place after it. A buffer that is full is written.
-ghost use Prim.Native.Nat.{_≤_, _<_};
-ghost use lib.ListN.{length};
+ghost use Prim.Native.Nat.{_<_};
 use libc::STDOUT_FILENO;
 use wide::Wide;
 
