@@ -1,0 +1,37 @@
+// Runs a proved library on the sources of standard input and prints its answers in the oracle's format.
+//
+// The first line says what to run and how many rows each lent table has, as `scan 4096`. Each line after it is a source
+// in hex. An answer ends with a line `--`. Where the input is none of this, one line says `bad input` and nothing
+// follows.
+mod header;
+mod input;
+mod output;
+mod scan_mode;
+
+use header::Mode;
+use input::Unread;
+
+pub fn run() {
+    let mut chunk = [0u8; 262144];
+    let mut out = [0u8; 65536];
+    run_in(&mut chunk, &mut out);
+}
+
+fn run_in(chunk: &mut [u8], out: &mut [u8]) {
+    // the first line is looked for in what is read first, so that is read whole
+    let end = io::read_full(0, chunk);
+    let head = header::read(&chunk[..end]);
+    let unread = Unread {
+        at: head.next,
+        end: end,
+    };
+    let mode = head.mode;
+    match mode {
+        Mode::Scan => {
+            scan_mode::run(head.rooms, chunk, unread, out);
+        }
+        Mode::Unknown => {
+            output::bad_input(out, 0);
+        }
+    }
+}
