@@ -13,3 +13,4 @@ pub mod TokenExamples
 pub mod TokenPlaces
 pub mod TokenBodies
 pub mod TokenClaims
+pub mod TokenContents

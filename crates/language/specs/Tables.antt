@@ -2,9 +2,10 @@
 use Prim.Native.Nat.{ℕ, suc, _/_, _%_}
 use lib.ListN.{length}
 use mathlib.Core.Bool.{Bool, true, false}
-use mathlib.Core.List.{List, [], _∷_}
+use mathlib.Core.Path.{_≡_}
+use mathlib.Core.List.{List, [], _∷_, map}
 use Rattle.language.specs.Lexemes.{Tok, lParen, rParen, dot, doubleColon, colon, semiColon, equals, comma, slash, importKeyword, letKeyword, identifier, booleanLiteral, ipv4Literal, hexLiteral, decLiteral, LexErrorKind, unexpectedChar, unterminatedString, intOutOfRange, intLeadingZero, intInvalidSuffix, badIPv4Literal, Kind, trivia, str, tok, error, Placed}
-use Rattle.language.specs.Tokens.{Content, eof, plain, name, string, Token}
+use Rattle.language.specs.Tokens.{Content, eof, plain, name, string, Token, contents}
 
 -- ---- kinds
 
@@ -149,3 +150,13 @@ contentHigh (string b bs) = 0
 unfoldable pub tokenRow : Token → List ℕ
 tokenRow t =
     contentKind (t .content) ∷ t .line ∷ t .column ∷ t .start ∷ t .end ∷ contentLow (t .content) ∷ contentHigh (t .content) ∷ []
+
+-- a token's row without its place and its span
+abbrev pub unplaced : Content → List ℕ
+unplaced c = contentKind c ∷ contentLow c ∷ contentHigh c ∷ []
+
+-- the contents alone decide how many rows there are, and all of a row but the place and the span
+abbrev pub ContentsDecide : Type 0
+ContentsDecide =
+    (ts us : List Token) → contents ts ≡ contents us
+    → (length ts ≡ length us) × (map (λ t. unplaced (t .content)) ts ≡ map (λ t. unplaced (t .content)) us)

@@ -25,6 +25,7 @@ use Rattle.lex.specs.declared.Fed.{Fed}
 use Rattle.lex.specs.declared.Fed.the-variants.{Goes, Stops}
 use Rattle.lex.specs.declared.Spot.{Spot}
 use Rattle.lex.specs.declared.Lexed.{Lexed}
+use Rattle.lex.specs.Entry.{LexSource}
 use Rattle.lex.proofs.Lines.{few-lines}
 use Rattle.lex.specs.Lexing.{State, begun, stated, flushedState, stepTo, feed, Holds, Few, FedIs, FeedsAll, Finishes, spotAs, lexedAs}
 
@@ -110,13 +111,15 @@ module _ (s : List ℕ) (n : ℕ) where
   -- a refusal leaves a table of zeros
   pub refused : (v : numbers.Verdict) → eqb (v .number) 0 ≡ false → lexAnswer s (n / tokenWidth) ≡ lexed v 0
       → (w : Verdict) → w ≡ verdictAs v → {r : Lexed} → r ≡ result w 0 → {t : List ℕ} (k : ℕ) → t ≡ padTo k [] → length t ≡ n
-      → (r ≡ lexedAs (lexAnswer s (n / tokenWidth))) × (t ≡ lexTable s n)
+      → LexSource s n r t
   unfolding lexTable
-  refused v not-0 e w d q k z l = (q ∙ rw (e, d), pad-own k n [] z l ∙ rw (e, not-0) (sym (tabled-none tokenRow tokenWidth n)))
+  refused v not-0 e w d q k z l =
+      record { answer = q ∙ rw (e, d); table = pad-own k n [] z l ∙ rw (e, not-0) (sym (tabled-none tokenRow tokenWidth n)) }
 
   -- what is done leaves every token's row
   pub accepted : (count : ℕ) → lexAnswer s (n / tokenWidth) ≡ lexed (verdict 0 0 0) count
       → (w : Verdict) → w ≡ verdictAs (verdict 0 0 0) → {t : List ℕ} (k : ℕ) → t ≡ tabled tokenRow tokenWidth k (tokens s) → length t ≡ n
-      → (result w count ≡ lexedAs (lexAnswer s (n / tokenWidth))) × (t ≡ lexTable s n)
+      → LexSource s n (result w count) t
   unfolding lexTable
-  accepted count e w d k z l = (rw (e, d), tabled-own tokenRow tokenWidth k n (tokens s) z l ∙ rw e)
+  accepted count e w d k z l =
+      record { answer = rw (e, d); table = tabled-own tokenRow tokenWidth k n (tokens s) z l ∙ rw e }

@@ -1,13 +1,12 @@
 // The lexer: from raw source to tokens. Ports lex.rs `Lexer`, `Token` and `PendingStr`; the definitions are `Tokens` of
 // the crate `language`.
 ghost use mathlib.Core.Path.{_≡_};
-ghost use Prim.Native.Nat.{_+_, _/_, _≤_};
+ghost use Prim.Native.Nat.{_+_, _≤_};
 ghost use lib.ListN.{length};
-ghost use Rattle.language.specs.Tables.{tokenWidth};
 ghost use Rattle.language.specs.Tokens.{placeOf, between, bodiesIn};
-ghost use Rattle.language.specs.Numbers.{lexAnswer, lexTable};
+ghost use Rattle.lex.specs.Entry.{LexSource};
 ghost use Rattle.scan.specs.Scanning.{errorNumber, errorChar};
-ghost use Rattle.lex.specs.Lexing.{Strings, Flushes, Tokens, Few, lineItems, Feeds, Finishes, lineEnd, FeedsAll, spotAs, lexedAs, nth, bodyAt};
+ghost use Rattle.lex.specs.Lexing.{Strings, Flushes, Tokens, Few, lineItems, Feeds, Finishes, lineEnd, FeedsAll, spotAs, nth, bodyAt};
 use scan::LexErrorKind;
 use scan::LexemeKind;
 use scan::Scanner;
@@ -300,8 +299,7 @@ fn refused(verdict: Verdict) -> Lexed
 
 // Lexes a source into a lent table of tokens.
 pub fn lex_source(source: &[u8], table: &mut [u64]) -> Lexed
-    ensures { λ r. ⌜ r ≡ lexedAs (lexAnswer (now (source .entry)) (length (now (table .entry)) / tokenWidth)) ⌝ }
-    ensures { λ _. ⌜ now (table .exit) ≡ lexTable (now (source .entry)) (length (now (table .entry))) ⌝ }
+    ensures { λ r. ⌜ LexSource (now (source .entry)) (length (now (table .entry))) r (now (table .exit)) ⌝ }
 {
     let room = table.len() / Lexer::ROW_WORDS;
     table::clear(table);

@@ -1,0 +1,18 @@
+-- What the entry promises, and that it leaves no choice.
+use mathlib.Core.Path.{_≡_}
+use mathlib.Core.List.{List}
+use Prim.Native.Nat.{ℕ, _/_}
+use Rattle.language.specs.Tables.{tokenWidth}
+use Rattle.language.specs.Numbers.{lexAnswer, lexTable}
+use Rattle.lex.specs.declared.Lexed.{Lexed}
+use Rattle.lex.specs.Lexing.{lexedAs}
+
+-- of a source and a table of n words: the answer r, and what is left in the table
+pub record LexSource (source : List ℕ) (n : ℕ) (r : Lexed) (left : List ℕ) : Type 0 where
+  pub answer : r ≡ lexedAs (lexAnswer source (n / tokenWidth))
+  pub table : left ≡ lexTable source n
+
+-- two results that satisfy it are equal
+abbrev pub LexDetermined : Type 0
+LexDetermined =
+    (source : List ℕ) (n : ℕ) (r q : Lexed) (t u : List ℕ) → LexSource source n r t → LexSource source n q u → (r ≡ q) × (t ≡ u)
