@@ -10,12 +10,12 @@ use borrow.Author.Tests.{lt-ltb, le-ltb, leb-true}
 use lib.Dec.{ltb}
 use lib.ListN.{length, getD, length-append, List·getD-append}
 use Rattle.language.specs.Choice.{if′}
-use Rattle.language.specs.Integers.{limit, valueFrom, valueOf, digits, mostDigits, decimal, IntType, u8, u16, u32, u64, bits, smallest, DecimalIsRight, DecimalUnfolds, SmallestHolds}
+use Rattle.language.specs.Integers.{limit, valueFrom, valueOf, digitsIn, digits, mostDigits, decimal, IntType, u8, u16, u32, u64, bits, smallest, DecimalIsRight, DecimalUnfolds, SmallestHolds}
 
 -- ---- decimal digits, one step
 
 unfolded : (k n : ℕ) → digits (suc k) n ≡ if′ (ltb n 10) (n ∷ []) (digits k (n / 10) ++ (n % 10 ∷ []))
-unfolding digits
+unfolding digitsIn
 unfolded k n = refl
 
 pub few : (k n : ℕ) → n < 10 → digits (suc k) n ≡ n ∷ []
