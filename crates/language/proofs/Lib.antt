@@ -10,3 +10,6 @@ pub mod LexemeSpans
 pub mod LexemeDigits
 pub mod TokenExamples
 pub mod CanonicalExamples
+pub mod SpellingRuns
+pub mod SpellingDigits
+pub mod SpellingQuads
