@@ -13,3 +13,4 @@ pub mod CanonicalExamples
 pub mod SpellingRuns
 pub mod SpellingDigits
 pub mod SpellingQuads
+pub mod CanonicalUtf8
