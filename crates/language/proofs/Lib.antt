@@ -14,3 +14,4 @@ pub mod SpellingRuns
 pub mod SpellingDigits
 pub mod SpellingQuads
 pub mod CanonicalUtf8
+pub mod CanonicalGood

@@ -56,7 +56,7 @@ pub record Decimal (n : ℕ) (w : List ℕ) : Type 0 where
   -- no test passes that asks for `0` and something after it
   pub no-zero : (t : List ℕ → Bool) → t (48 ∷ []) ≡ false → eqb (getD w 0 0) 48 && t w ≡ false
 
-length-spelt : (ds : List ℕ) → length (spellDigits ds) ≡ length ds
+pub length-spelt : (ds : List ℕ) → length (spellDigits ds) ≡ length ds
 length-spelt [] = refl
 length-spelt (d ∷ ds) = ap suc (length-spelt ds)
 
