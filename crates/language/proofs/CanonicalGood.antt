@@ -210,7 +210,7 @@ late b s e =
     )
 
 -- letters and digits are word characters
-start-is-word : (b : ℕ) → isWordStart b ≡ true → isWord b ≡ true
+pub start-is-word : (b : ℕ) → isWordStart b ≡ true → isWord b ≡ true
 unfolding isWord
 start-is-word b e = rw e
 

@@ -15,3 +15,4 @@ pub mod SpellingDigits
 pub mod SpellingQuads
 pub mod CanonicalUtf8
 pub mod CanonicalGood
+pub mod CanonicalSound
