@@ -16,3 +16,4 @@ pub mod SpellingQuads
 pub mod CanonicalUtf8
 pub mod CanonicalGood
 pub mod CanonicalSound
+pub mod CanonicalLines
