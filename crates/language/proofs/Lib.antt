@@ -17,3 +17,6 @@ pub mod CanonicalUtf8
 pub mod CanonicalGood
 pub mod CanonicalSound
 pub mod CanonicalLines
+pub mod CanonicalJoin
+pub mod CanonicalText
+pub mod Canonical
