@@ -5,7 +5,7 @@ use mathlib.Core.List.{List, []}
 use mathlib.Core.Option.{none}
 use Rattle.language.specs.Utf8.{firstBad}
 use Rattle.language.specs.Tokens.{eofToken, items, tokens, contents}
-use Rattle.language.specs.Canonical.{canonical, text, Lexes, Fits, RoundTrip, OwnText, SameText}
+use Rattle.language.specs.Canonical.{canonical, text, Lexes, RoundTrip, OwnText, SameText}
 use Rattle.language.proofs.Utf8.{good-is-encoded}
 use Rattle.language.proofs.CanonicalGood.{Part}
 use Rattle.language.proofs.CanonicalLines.{pieces, by-walk}
@@ -18,6 +18,7 @@ unfolding tokens
 contents-join s ps r = tokens-join (items s) ps (eofToken s) r refl none
 
 module _ (s : List ℕ) (h : Lexes s) where
+  -- its good parts
   parts : Parts (pieces (items s))
   parts = parts-of (items s) (subst AllFine (sym (by-walk s)) (walk-fine s 0 [] (good-is-encoded .0 s (h .whole)))) (h .good)
 
@@ -25,12 +26,15 @@ module _ (s : List ℕ) (h : Lexes s) where
   by-parts : text s ≡ canonical (alone (parts .parts))
   by-parts = ap canonical (contents-join s (parts .parts) (parts .reads)) ∙ joins-text (parts .parts)
 
+  -- so it is read as the same parts
   again : Reads (pieces (items (text s))) (parts .parts)
   again = rw (by-walk (text s), by-parts) (text-reads (parts .parts) (parts .good))
 
+  -- with the same contents
   same-contents : contents (tokens (text s)) ≡ contents (tokens s)
   same-contents = contents-join (text s) (parts .parts) again ∙ sym (contents-join s (parts .parts) (parts .reads))
 
+  -- and it is encoded
   text-whole : firstBad (text s) ≡ none
   text-whole = rw by-parts (good-is-encoded .1 _ (text-encoded (parts .parts) (parts .good)))
 

@@ -1,27 +1,27 @@
 -- A part of a source is good if its spelling, before the end of a line or a space, is read as that part. Each literal,
 -- name and token that a lexeme can be is good.
-use Prim.Native.Nat.{ℕ, zero, suc, _+_, _-_, _/_, _%_, _^_, _<_}
-use mathlib.Core.Path.{_≡_, refl, sym, ap, ap₂, subst, _∙_}
+use Prim.Native.Nat.{ℕ, suc, _+_, _-_, _/_, _%_, _^_, _<_}
+use mathlib.Core.Path.{_≡_, refl, sym, ap, _∙_}
 use mathlib.Core.Bool.{Bool, true, false, _&&_, _||_, not, false≢true, or-true}
 use mathlib.Core.List.{List, [], _∷_, _++_, append-assoc}
 use mathlib.Core.Option.{Option, none, some}
 use native.Mathlib.Omega.{arith}
 use native.Mathlib.Decide.{decLt}
 use native.Mathlib.Nat.{lt-of-lt-of-le}
-use borrow.Author.Tests.{lt-ltb, ltb-true, leb-true, ne-eqb, not-true}
-use lib.Dec.{ltb, leb, eqb}
-use lib.ListN.{length, getD, take, drop, length-append, List·getD-append}
+use borrow.Author.Tests.{lt-ltb, leb-true, ne-eqb, not-true}
+use lib.Dec.{ltb, eqb}
+use lib.ListN.{length, getD, take, length-append, List·getD-append}
 use lib.Seq.{take-append-seam, drop-append-seam, getD-append-seam}
 use Rattle.language.specs.Choice.{if′, within}
-use Rattle.language.specs.Integers.{limit, digitsIn, decimal, hexadecimal}
-use Rattle.language.specs.Utf8.{Char, char, charAt, leadOf, follow, Encoded}
-use Rattle.language.specs.Lexemes.{Tok, lParen, rParen, dot, doubleColon, colon, semiColon, equals, comma, slash, importKeyword, letKeyword, identifier, booleanLiteral, ipv4Literal, hexLiteral, decLiteral, Kind, str, tok, Lexeme, lexemeOf, isBlank, isDigit, isWordStart, isWord, notNewline, isBody, run, all, word, digitOf, readDigits, startsHex, startsZero, integer, quadFrom, number, punctuation, ascii, lexeme}
+use Rattle.language.specs.Integers.{limit, decimal, hexadecimal}
+use Rattle.language.specs.Utf8.{char, charAt, leadOf, follow, Encoded}
+use Rattle.language.specs.Lexemes.{Tok, lParen, rParen, dot, doubleColon, colon, semiColon, equals, comma, slash, importKeyword, letKeyword, identifier, booleanLiteral, ipv4Literal, hexLiteral, decLiteral, unexpectedChar, Kind, str, tok, error, Lexeme, lexemeOf, isBlank, isDigit, isWordStart, isWord, notNewline, isBody, run, all, word, digitOf, startsHex, startsZero, integer, notQuad, quadFrom, number, punctuation, ascii, lexeme}
 use Rattle.language.specs.Lexemes as lexemes
 use Rattle.language.specs.Tokens.{Content, plain, name, string, Piece, body, token, pieceOf}
-use Rattle.language.specs.Canonical.{spellDigit, spellDigits, spellQuad, spellTok, quoted, spell}
+use Rattle.language.specs.Canonical.{spellDigits, spellQuad, spellTok, quoted, spell}
 use Rattle.language.proofs.Tests.{both, inside, inside-test, outside-test}
 use Rattle.language.proofs.Integers.{Right, right}
-use Rattle.language.proofs.SpellingRuns.{and, all-parts, all-append, all-also, run-all, upTo, up-to, implied}
+use Rattle.language.proofs.SpellingRuns.{and, all-parts, all-append, all-also, run-all, up-to, implied}
 use Rattle.language.proofs.SpellingDigits.{all-spelt, length-spelt, spelt-read, Decimal, decimal-spelt, byte-spelt}
 use Rattle.language.proofs.SpellingQuads.{quad-none, quad-spelt}
 use Rattle.language.proofs.CanonicalUtf8.{isAscii, encoded-append, ascii-encoded}
@@ -64,6 +64,7 @@ pub record Good (p : Part) : Type 0 where
   pub piece : pieceOf kind (front ∷ back) ≡ pieceFor p
   pub reads : (r : List ℕ) → Ends r → lexeme (front ∷ back ++ r) ≡ lexemeOf kind (suc (length back))
 
+-- so no newline, and ASCII
 visible-clean : (b : ℕ) → isVisible b ≡ true → notNewline b ≡ true
 unfolding notNewline
 visible-clean b e = let h = inside 33 126 b e in rw (ne-eqb b 10 (λ z. omega arith))
@@ -72,8 +73,8 @@ visible-ascii : (b : ℕ) → isVisible b ≡ true → isAscii b ≡ true
 visible-ascii b e = let h = inside 33 126 b e in lt-ltb b 128 (omega arith)
 
 -- a part that is spelt with visible bytes
-good-visible : (p : Part) (front : ℕ) (back : List ℕ) (k : Kind) → spell (contentFor p) ≡ front ∷ back → all isVisible (front ∷ back) ≡ true
-    → pieceOf k (front ∷ back) ≡ pieceFor p
+good-visible : (p : Part) (front : ℕ) (back : List ℕ) (k : Kind) → spell (contentFor p) ≡ front ∷ back
+    → all isVisible (front ∷ back) ≡ true → pieceOf k (front ∷ back) ≡ pieceFor p
     → ((r : List ℕ) → Ends r → lexeme (front ∷ back ++ r) ≡ lexemeOf k (suc (length back))) → Good p
 good-visible p front back k is a piece reads =
     record {
@@ -95,7 +96,7 @@ by-end : (P : List ℕ → Type 0) → P [] → ((r : List ℕ) → P (32 ∷ r)
 by-end P e s r end = e
 by-end P e s r (space {r = q}) = s q
 
-abbrev isFixed : Tok → Bool
+abbrev pub isFixed : Tok → Bool
 isFixed lParen = true
 isFixed rParen = true
 isFixed dot = true
@@ -113,6 +114,7 @@ isFixed (ipv4Literal n) = false
 isFixed (hexLiteral n) = false
 isFixed (decLiteral n) = false
 
+-- by what is read before either end
 fixed : (t : Tok) (front : ℕ) (back : List ℕ) → spellTok t ≡ front ∷ back → all isVisible (front ∷ back) ≡ true
     → pieceOf (tok t) (front ∷ back) ≡ token (plain t)
     → lexeme (front ∷ back ++ []) ≡ lexemeOf (tok t) (suc (length back))
@@ -144,6 +146,7 @@ good-fixed (decLiteral n) e = absurd (false≢true e)
 
 -- ---- words and numbers, by their first byte
 
+-- no punctuation
 isNone : Option Tok → Bool
 isNone none = true
 isNone (some t) = false
@@ -155,16 +158,23 @@ none-of (some t) e = absurd (false≢true e)
 
 -- none of the tests that come before those of words and numbers
 abbrev isLate : ℕ → Bool
-isLate b = not (isBlank b) && (isNone (punctuation b) && (not (eqb b 35) && (not (eqb b 47) && (not (eqb b 58) && not (eqb b 34)))))
+isLate b =
+    not (isBlank b)
+    && (isNone (punctuation b) && (not (eqb b 35) && (not (eqb b 47) && (not (eqb b 58) && not (eqb b 34)))))
 
+-- what is in none of the ranges of letters starts no word
+no-start : (b : ℕ) → 0 < (97 - b) + (b - 122) → 0 < (65 - b) + (b - 90) → 0 < (95 - b) + (b - 95) → isWordStart b ≡ false
+unfolding isWordStart
+no-start b h i j = rw (outside-test 97 122 b h, outside-test 65 90 b i, outside-test 95 95 b j)
+
+-- a byte that a word can have is ASCII
 word-low : (b : ℕ) → isWord b ≡ true → b < 128
-unfolding isWord isWordStart isDigit
+unfolding isWord isDigit
 word-low b e =
     elim (decLt b 128) [
       | yes l ↦ l
       | no g ↦
-          let n : isWord b ≡ false =
-          rw (outside-test 97 122 b (omega arith), outside-test 65 90 b (omega arith), outside-test 95 95 b (omega arith), outside-test 48 57 b (omega arith)) in
+          let n : isWord b ≡ false = rw (no-start b (omega arith) (omega arith) (omega arith), outside-test 48 57 b (omega arith)) in
           absurd (false≢true (sym n ∙ e))
     ]
 
@@ -175,6 +185,7 @@ word-tests b e =
     both (isVisible b) (isLate b)
     (implied (isWord b) _ e (up-to (λ n. not (isWord n) || (isVisible n && isLate n)) 128 refl b (word-low b e)))
 
+-- it is visible
 pub word-visible : (b : ℕ) → isWord b ≡ true → isVisible b ≡ true
 word-visible b e = word-tests b e .0
 
@@ -186,9 +197,10 @@ ascii-char b s l = rw (inside-test 0x00 0x7F b (omega arith) (omega arith))
 abbrev wordLexeme : List ℕ → Lexeme
 wordLexeme s = lexemeOf (tok (word (take (run isWord s) s))) (run isWord s)
 
--- what a byte that a word can have starts
+-- what it starts
 late : (b : ℕ) (s : List ℕ) → isWord b ≡ true
-    → lexeme (b ∷ s) ≡ if′ (isWordStart b) (wordLexeme (b ∷ s)) (if′ (isDigit b) (number (b ∷ s)) (lexemeOf (lexemes.error (lexemes.unexpectedChar b)) 1))
+    → lexeme (b ∷ s)
+    ≡ if′ (isWordStart b) (wordLexeme (b ∷ s)) (if′ (isDigit b) (number (b ∷ s)) (lexemeOf (error (unexpectedChar b)) 1))
 unfolding lexeme ascii
 late b s e =
     let t1 = both (not (isBlank b)) _ (word-tests b e .1) in
@@ -218,16 +230,15 @@ digit-is-word : (b : ℕ) → isDigit b ≡ true → isWord b ≡ true
 unfolding isWord
 digit-is-word b e = rw e (or-true (isWordStart b))
 
+-- a letter starts a word, and a digit a number
 word-starts : (b : ℕ) (s : List ℕ) → isWordStart b ≡ true → lexeme (b ∷ s) ≡ wordLexeme (b ∷ s)
 unfolding isWord
 word-starts b s e = late b s (start-is-word b e) ∙ rw e
 
 -- a digit starts no word
 digit-no-start : (b : ℕ) → isDigit b ≡ true → isWordStart b ≡ false
-unfolding isDigit isWordStart
-digit-no-start b e =
-    let h = inside 48 57 b e in
-    rw (outside-test 97 122 b (omega arith), outside-test 65 90 b (omega arith), outside-test 95 95 b (omega arith))
+unfolding isDigit
+digit-no-start b e = let h = inside 48 57 b e in no-start b (omega arith) (omega arith) (omega arith)
 
 number-starts : (b : ℕ) (s : List ℕ) → isDigit b ≡ true → lexeme (b ∷ s) ≡ number (b ∷ s)
 number-starts b s e = late b s (digit-is-word b e) ∙ rw (digit-no-start b e, e)
@@ -236,6 +247,7 @@ number-starts b s e = late b s (digit-is-word b e) ∙ rw (digit-no-start b e, e
 ends-run : (p : ℕ → Bool) → p 32 ≡ false → (r : List ℕ) → Ends r → run p r ≡ 0
 ends-run p e = by-end (λ (r : List ℕ). run p r ≡ 0) refl (λ r. rw e)
 
+-- a word is read to its end
 word-run : (w r : List ℕ) → all isWord w ≡ true → Ends r → run isWord (w ++ r) ≡ length w
 unfolding isWord isWordStart isDigit
 word-run w r a k = run-all isWord w r a (ends-run isWord refl r k)
@@ -252,8 +264,8 @@ good-name b w e h i =
 -- ---- numbers
 
 -- a token that is spelt with a digit first
-good-number : (t : Tok) (w : List ℕ) → spellTok t ≡ w → all isVisible w ≡ true → isDigit (getD w 0 0) ≡ true → pieceOf (tok t) w ≡ token (plain t)
-    → ((r : List ℕ) → Ends r → number (w ++ r) ≡ lexemeOf (tok t) (length w)) → Good (other t)
+good-number : (t : Tok) (w : List ℕ) → spellTok t ≡ w → all isVisible w ≡ true → isDigit (getD w 0 0) ≡ true
+    → pieceOf (tok t) w ≡ token (plain t) → ((r : List ℕ) → Ends r → number (w ++ r) ≡ lexemeOf (tok t) (length w)) → Good (other t)
 unfolding spell isDigit
 good-number t [] is a d piece reads = absurd (false≢true d)
 good-number t (b ∷ w) is a d piece reads =
@@ -264,6 +276,7 @@ first-byte : (p : ℕ → Bool) (w : List ℕ) → 0 < length w → all p w ≡ 
 first-byte p [] l a = absurd (omega arith)
 first-byte p (b ∷ w) l a = all-parts p b w a .0
 
+-- digits are word characters, and these are visible
 digits-word : (w : List ℕ) → all isDigit w ≡ true → all isWord w ≡ true
 digits-word = all-also isDigit isWord digit-is-word
 
@@ -271,26 +284,33 @@ words-visible : (w : List ℕ) → all isWord w ≡ true → all isVisible w ≡
 words-visible = all-also isWord isVisible word-visible
 
 -- a word that is no quad is an integer
-number-word : (w r : List ℕ) → all isWord w ≡ true → Ends r → quadFrom 3 (some 0) (w ++ r) ≡ lexemes.notQuad → number (w ++ r) ≡ lexemeOf (integer w) (length w)
+number-word : (w r : List ℕ) → all isWord w ≡ true → Ends r → quadFrom 3 (some 0) (w ++ r) ≡ notQuad
+    → number (w ++ r) ≡ lexemeOf (integer w) (length w)
 unfolding number
 number-word w r a k e = rw (e, number, word-run w r a k, take-append-seam)
 
+-- no dot ends a decimal
+no-dot : (r : List ℕ) → Ends r → eqb (getD r 0 0) 46 ≡ false
+no-dot = by-end (λ (r : List ℕ). eqb (getD r 0 0) 46 ≡ false) refl (λ r. refl)
+
+-- the bytes of a decimal are no quad, no hexadecimal, and have no leading zero
 dec-reads : (n : ℕ) (w r : List ℕ) → Decimal n w → Ends r → number (w ++ r) ≡ lexemeOf (tok (decLiteral n)) (length w)
 unfolding integer startsHex startsZero isDigit
 dec-reads n w r c k =
-    number-word w r (digits-word w (c .digits)) k
-    (quad-none (some 0) w (c .some-digit) (c .digits) 2 r (ends-run isDigit refl r k) (by-end (λ (q : List ℕ). eqb (getD q 0 0) 46 ≡ false) refl (λ q. refl) r k))
-    ∙ rw (c .no-zero (λ v. eqb (getD v 1 0) 120 && ltb (digitOf (getD v 2 0)) 16) refl, c .no-zero (λ v. isDigit (getD v 1 0)) refl, c .read)
+    let x = c .no-zero (λ v. eqb (getD v 1 0) 120 && ltb (digitOf (getD v 2 0)) 16) refl in
+    let z = c .no-zero (λ v. isDigit (getD v 1 0)) refl in
+    let q = quad-none (some 0) w (c .some-digit) (c .digits) 2 r (ends-run isDigit refl r k) (no-dot r k) in
+    number-word w r (digits-word w (c .digits)) k q ∙ rw (x, z, c .read)
 
 pub good-dec : (n : ℕ) → n < limit → Good (other (decLiteral n))
 unfolding spellTok
 good-dec n l =
     let c = decimal-spelt n l in
     let w = spellDigits (decimal n) in
-    good-number (decLiteral n) w refl (words-visible w (digits-word w (c .digits))) (first-byte isDigit w (c .some-digit) (c .digits)) refl
-    (λ r k. dec-reads n w r c k)
+    let d = first-byte isDigit w (c .some-digit) (c .digits) in
+    good-number (decLiteral n) w refl (words-visible w (digits-word w (c .digits))) d refl (λ r k. dec-reads n w r c k)
 
--- the bytes of the digits in base 16
+-- the digits in base 16, and their bytes
 hex-right : (n : ℕ) → n < limit → Right 16 32 n (hexadecimal n)
 unfolding hexadecimal
 hex-right n l = right 16 (omega arith) 31 n (lt-of-lt-of-le l (leb-true limit (16 ^ 32) refl))
@@ -299,6 +319,7 @@ hex-word : (n : ℕ) → n < limit → all isWord (spellDigits (hexadecimal n)) 
 unfolding isWord isWordStart isDigit
 hex-word n l = all-spelt isWord 16 refl (hexadecimal n) (hex-right n l .small)
 
+-- one stands after `0x`
 hex-first : (n : ℕ) → n < limit → ltb (digitOf (getD (spellDigits (hexadecimal n)) 0 0)) 16 ≡ true
 unfolding digitOf
 hex-first n l =
@@ -320,6 +341,7 @@ good-hex n l =
 
 -- ---- addresses
 
+-- the numbers of an address are visible
 byte-visible : (m : ℕ) → m < 256 → all isVisible (spellDigits (decimal m)) ≡ true
 byte-visible m l = let w = spellDigits (decimal m) in words-visible w (digits-word w (byte-spelt m l .digits))
 
@@ -336,6 +358,7 @@ quad-visible n =
     (dotted v2 (n / 0x100 % 0x100) (omega arith)
     (dotted v1 (n / 0x10000 % 0x100) (omega arith) (byte-visible (n / 0x1000000 % 0x100) (omega arith))))
 
+-- its first byte is a digit
 byte-first : (m : ℕ) → m < 256 → (v : List ℕ) → isDigit (getD (spellDigits (decimal m) ++ v) 0 0) ≡ true
 byte-first m l v =
     let c = byte-spelt m l in
@@ -353,6 +376,7 @@ good-quad n l =
 
 -- ---- literals
 
+-- what stands between quotes, and is read to the second
 unquotes : (x : List ℕ) → take (length (quoted x) - 2) (x ++ 34 ∷ []) ≡ x
 unquotes x = let z : length (quoted x) - 2 ≡ length x = simp length-append (omega arith) in rw (z, take-append-seam)
 
@@ -367,6 +391,7 @@ body-clean b e = both (not (eqb b 34)) (not (eqb b 10)) e .1
 pub good-literal : (x : List ℕ) → all isBody x ≡ true → Encoded x → Good (literal x)
 unfolding spell notNewline lexeme charAt leadOf follow isBlank ascii punctuation
 good-literal x a v =
+    let quote = ascii-encoded (34 ∷ []) refl in
     record {
       front = 34;
       back = x ++ 34 ∷ [];
@@ -374,7 +399,7 @@ good-literal x a v =
       is = refl;
       starts = refl;
       clean = all-append notNewline x (34 ∷ []) (all-also isBody notNewline body-clean x a) refl;
-      whole = encoded-append (x ++ 34 ∷ []) (ascii-encoded (34 ∷ []) refl) (encoded-append (34 ∷ []) v (ascii-encoded (34 ∷ []) refl));
+      whole = encoded-append (x ++ 34 ∷ []) quote (encoded-append (34 ∷ []) v quote);
       piece = ap body (unquotes x);
       reads = λ r k. rw append-assoc (string-reads x r a ∙ ap (lexemeOf str) (simp length-append (omega arith)));
     }

@@ -1,6 +1,6 @@
 -- From parts to tokens: joining literals goes by contents alone, and changes no canonical text.
-use Prim.Native.Nat.{ℕ, suc}
-use mathlib.Core.Path.{_≡_, refl, sym, ap, ap₂, _∙_}
+use Prim.Native.Nat.{ℕ}
+use mathlib.Core.Path.{_≡_, refl, ap, ap₂, _∙_}
 use mathlib.Core.List.{List, [], _∷_, _++_, append-assoc}
 use mathlib.Core.Option.{Option, none, some}
 use Rattle.language.specs.Choice.{if′}
@@ -15,6 +15,7 @@ pub data Reads : List Piece → List Part → Type 0 where
   past : {q : Piece} {qs : List Piece} {ps : List Part} → q ≡ gap → Reads qs ps → Reads (q ∷ qs) ps
   next : {q : Piece} {qs : List Piece} {ps : List Part} (p : Part) → q ≡ pieceFor p → Reads qs ps → Reads (q ∷ qs) (p ∷ ps)
 
+-- so no first error is found
 pub no-error : (is : List Item) (ps : List Part) → Reads (pieces is) ps → firstWrong is ≡ none
 unfolding firstWrong
 no-error [] ps nothing = refl
@@ -44,6 +45,7 @@ abbrev pub alone : List Part → List Content
 alone [] = eof ∷ []
 alone (p ∷ ps) = contentFor p ∷ alone ps
 
+-- a literal after those that are pending
 join-twice : (b : List ℕ) (bs : List (List ℕ)) (d : List ℕ) (cs : List Content) → join b (bs ++ d ∷ []) cs ≡ join b bs (join d [] cs)
 join-twice b bs d [] = refl
 join-twice b bs d (eof ∷ cs) = refl
@@ -56,6 +58,7 @@ abbrev held : Option Pending → List Content → List Content
 held none cs = cs
 held (some p) cs = join (p .first) (p .others) cs
 
+-- one more is pending
 held-more : (o : Option Pending) (i : Item) (b : List ℕ) (cs : List Content) → held (some (joined o i b)) cs ≡ held o (join b [] cs)
 held-more none i b cs = refl
 held-more (some p) i b cs = join-twice (p .first) (p .others) b cs
@@ -85,10 +88,11 @@ tokens-join (i ∷ is) (x ∷ ps) e (next p k r) h o =
 
 -- ---- canonical text
 
--- the same text, and the same before it
+-- the same text, and the same space before it
 abbrev Same : List Content → List Content → Type 0
 Same cs ds = (canonical cs ≡ canonical ds) × (between′ cs ≡ between′ ds)
 
+-- a string's bodies are spelt as tokens are, with a space between
 regroup : (q s a c : List ℕ) → q ++ 32 ∷ s ++ a ++ c ≡ q ++ 32 ∷ [] ++ (s ++ a ++ c)
 regroup q s a c = simp append-assoc
 
@@ -100,6 +104,7 @@ same-join b (plain t ∷ cs) = (refl, refl)
 same-join b (name w ∷ cs) = (refl, refl)
 same-join b (string d ds ∷ cs) = (regroup (quoted b) (spellBodies d ds) (between′ cs) (canonical cs), refl)
 
+-- a content before texts that are the same
 same-before : (c : Content) (cs ds : List Content) → Same cs ds → canonical (c ∷ cs) ≡ canonical (c ∷ ds)
 unfolding canonical
 same-before c cs ds h = ap₂ (λ (b t : List ℕ). spell c ++ if′ (endsLine c) (10 ∷ []) b ++ t) (h .1) (h .0)
@@ -112,5 +117,6 @@ same-joins (literal b ∷ ps) =
 same-joins (named w ∷ ps) = (same-before (name w) (joins ps) (alone ps) (same-joins ps), refl)
 same-joins (other t ∷ ps) = (same-before (plain t) (joins ps) (alone ps) (same-joins ps), refl)
 
+-- joining changes no text
 pub joins-text : (ps : List Part) → canonical (joins ps) ≡ canonical (alone ps)
 joins-text ps = same-joins ps .0

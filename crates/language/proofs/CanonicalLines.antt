@@ -1,6 +1,6 @@
 -- The lexemes of a source as one walk over its bytes, without the places.
-use Prim.Native.Nat.{ℕ, zero, suc, _+_, _-_, _≤_, _<_}
-use mathlib.Core.Path.{_≡_, refl, sym, ap, ap₂, _∙_}
+use Prim.Native.Nat.{ℕ, zero, suc, _+_, _-_, _≤_}
+use mathlib.Core.Path.{_≡_, refl, ap, ap₂, _∙_}
 use mathlib.Core.Bool.{Bool, true, false}
 use mathlib.Core.List.{List, [], _∷_, _++_, map, map-append}
 use native.Mathlib.Omega.{arith}
@@ -17,6 +17,7 @@ abbrev pub lineOf : List ℕ → List ℕ
 lineOf [] = []
 lineOf (b ∷ s) = if′ (eqb b 10) [] (b ∷ lineOf s)
 
+-- what the lexeme is that bytes start with
 abbrev pub pieceAt : List ℕ → Piece
 pieceAt bs = pieceOf (lexeme bs .kind) (take (lexeme bs .size) bs)
 
@@ -31,6 +32,7 @@ pieces is = map (λ i. i .piece) is
 
 -- ---- lines
 
+-- the first line, which is empty where there is none, and those after it
 abbrev first : List Line → Line
 first [] = lineAt 0 []
 first (l ∷ ls) = l
@@ -43,11 +45,13 @@ later (l ∷ ls) = ls
 abbrev rest : ℕ → Line → ℕ → ℕ → List ℕ → List Line → List Piece
 rest n l skip at s ls = pieces (map (itemOf n l) (scanFrom skip at s)) ++ pieces (itemsFrom (suc n) ls)
 
+-- the first line, then the others
 by-first : (n : ℕ) (ls : List Line) → pieces (itemsFrom n ls) ≡ rest n (first ls) 0 0 (first ls .bytes) (later ls)
 unfolding itemsFrom scanFrom
 by-first n [] = refl
 by-first n (l ∷ ls) = map-append (λ (i : Item). i .piece) (map (itemOf n l) (scan (l .bytes))) (itemsFrom (suc n) ls)
 
+-- a byte in front is of the first line
 first-onto : (at b : ℕ) (ls : List Line) → first (onto at b ls) .bytes ≡ b ∷ first ls .bytes
 first-onto at b [] = refl
 first-onto at b (l ∷ ls) = refl
@@ -56,6 +60,7 @@ later-onto : (at b : ℕ) (ls : List Line) → later (onto at b ls) ≡ later ls
 later-onto at b [] = refl
 later-onto at b (l ∷ ls) = refl
 
+-- which ends before byte 10
 first-line : (at : ℕ) (s : List ℕ) → first (linesFrom at s) .bytes ≡ lineOf s
 unfolding linesFrom
 first-line at [] = refl
@@ -91,6 +96,7 @@ from-start s h n pos =
 own-piece : (n : ℕ) (l : Line) (at : ℕ) (s : List ℕ) → drop at (l .bytes) ≡ s → itemOf n l (placed at (lexeme s)) .piece ≡ pieceAt s
 own-piece n l at s d = let z : at + lexeme s .size - at ≡ lexeme s .size = omega arith in rw (z, d)
 
+-- a byte more in front
 walks-more : (b : ℕ) (s : List ℕ) → Walks s → Walks (b ∷ s)
 unfolding walk linesFrom scanFrom
 walks-more b s ih n l skip at pos d h = go (eqb b 10) skip refl d h

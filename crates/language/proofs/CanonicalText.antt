@@ -1,27 +1,27 @@
 -- A source is parts that are good; the canonical text of good parts is encoded, and is read as those parts.
-use Prim.Native.Nat.{ℕ, zero, suc, _+_, _-_, _<_}
+use Prim.Native.Nat.{ℕ, zero, suc, _-_}
 use mathlib.Core.Path.{_≡_, refl, sym, ap, subst, _∙_}
 use mathlib.Core.Bool.{Bool, true, false, not, _&&_, _||_}
 use mathlib.Core.List.{List, [], _∷_, _++_, append-assoc}
-use mathlib.Core.Option.{Option, none, some}
+use mathlib.Core.Option.{none}
 use native.Mathlib.Omega.{arith}
 use borrow.Author.Tests.{not-true}
 use lib.Dec.{eqb}
-use lib.ListN.{length, take}
+use lib.ListN.{length}
 use lib.Seq.{take-append-seam}
 use Rattle.language.specs.Choice.{if′}
 use Rattle.language.specs.Utf8.{charAt, leadOf, follow, Encoded}
-use Rattle.language.specs.Lexemes.{all, notNewline, isBlank, blankRun, lexemeOf, lexeme}
-use Rattle.language.specs.Tokens.{Piece, gap, Item, firstWrong, pieceOf}
+use Rattle.language.specs.Lexemes.{all, notNewline, isBlank, blankRun, lexeme}
+use Rattle.language.specs.Tokens.{Piece, gap, Item, firstWrong}
 use Rattle.language.specs.Tokens as tokens
 use Rattle.language.specs.Canonical.{spell, endsLine, between′, after, canonical}
 use Rattle.language.proofs.Tests.{both, inside}
 use Rattle.language.proofs.LexemeSizes.{by-cases}
-use Rattle.language.proofs.SpellingRuns.{all-parts, upTo, up-to, implied}
+use Rattle.language.proofs.SpellingRuns.{all-parts, up-to, implied}
 use Rattle.language.proofs.CanonicalUtf8.{encoded-append, ascii-encoded}
 use Rattle.language.proofs.CanonicalGood.{Part, literal, named, other, pieceFor, contentFor, Ends, end, space, isVisible, Good, ascii-char}
 use Rattle.language.proofs.CanonicalSound.{Fine, a-gap, an-error, a-part, lexeme-fine}
-use Rattle.language.proofs.CanonicalLines.{lineOf, pieceAt, walk, pieces}
+use Rattle.language.proofs.CanonicalLines.{lineOf, walk, pieces}
 use Rattle.language.proofs.CanonicalJoin.{Reads, nothing, past, next, alone}
 
 abbrev pub AllGood : List Part → Type 0
@@ -43,7 +43,7 @@ line-first (b ∷ s) = go (eqb b 10) (line-first s)
     go true h = (b ∷ s, refl)
     go false h = (h .0, ap (λ (x : List ℕ). b ∷ x) (h .1))
 
--- the rest s of an encoded text
+-- each piece of an encoded text, of which s is the rest
 pub walk-fine : (s : List ℕ) (skip : ℕ) (p : List ℕ) → Encoded (p ++ s) → AllFine (walk skip s)
 unfolding walk
 walk-fine [] skip p w = tt
@@ -54,7 +54,7 @@ walk-fine (b ∷ s) zero p w =
     by-cases AllFine (eqb b 10) (λ _. walk-fine s 0 (p ++ b ∷ []) m)
     (λ _. (lexeme-fine b (lineOf s) p (q .0) (rw (q .1) w), walk-fine s _ (p ++ b ∷ []) m))
 
--- the parts of pieces
+-- pieces that are good parts
 pub record Parts (qs : List Piece) : Type 0 where
   pub parts : List Part
   pub reads : Reads qs parts
@@ -67,6 +67,7 @@ after-part i is (literal b) k e = rw k at e
 after-part i is (named w) k e = rw k at e
 after-part i is (other t) k e = rw k at e
 
+-- lexemes without an error are parts
 pub parts-of : (is : List Item) → AllFine (pieces is) → firstWrong is ≡ none → Parts (pieces is)
 unfolding firstWrong
 parts-of [] f e = record { parts = []; reads = nothing; good = tt }
@@ -90,6 +91,7 @@ unfolding walk
 walk-skips [] t = refl
 walk-skips (b ∷ w) t = walk-skips w t
 
+-- bytes without newlines are of their line
 not-newline : (b : ℕ) → notNewline b ≡ true → eqb b 10 ≡ false
 unfolding notNewline
 not-newline b e = not-true (eqb b 10) e
@@ -120,7 +122,8 @@ visible-tests : (b : ℕ) → isVisible b ≡ true → (isBlank b ≡ false) × 
 unfolding isBlank
 visible-tests b e =
     let h = inside 33 126 b e in
-    let t = both (not (isBlank b)) (not (eqb b 10)) (implied (isVisible b) _ e (up-to (λ n. not (isVisible n) || (not (isBlank n) && not (eqb n 10))) 127 refl b (omega arith))) in
+    let k = up-to (λ n. not (isVisible n) || (not (isBlank n) && not (eqb n 10))) 127 refl b (omega arith) in
+    let t = both (not (isBlank b)) (not (eqb b 10)) (implied (isVisible b) _ e k) in
     (not-true (isBlank b) (t .0), not-true (eqb b 10) (t .1))
 
 -- no blank character starts with it
@@ -140,21 +143,24 @@ a-space b s e =
 
 -- ---- the canonical text
 
--- what follows a part, and the text ps of the others
+-- what follows a part, and the text of the parts ps after it
 abbrev tail : Bool → List Part → List ℕ
 tail t ps = if′ t (10 ∷ []) (between′ (alone ps)) ++ canonical (alone ps)
 
+-- the text of parts starts with the first of them
 first-spelt : (p : Part) (ps : List Part) (g : Good p) → (s : List ℕ) × (canonical (alone (p ∷ ps)) ≡ g .front ∷ s)
 unfolding canonical
 first-spelt p ps g = (g .back ++ after (contentFor p) (alone ps) ++ canonical (alone ps), rw (g .is))
 
+-- a part that follows has a space before it
 spaced : (p : Part) (ps : List Part) → between′ (alone (p ∷ ps)) ≡ 32 ∷ []
 spaced (literal b) ps = refl
 spaced (named w) ps = refl
 spaced (other t) ps = refl
 
 -- it ends the part, and reads as the others
-tail-reads : (t : Bool) (ps : List Part) → AllGood ps → Reads (walk 0 (canonical (alone ps))) ps → Ends (lineOf (tail t ps)) × Reads (walk 0 (tail t ps)) ps
+tail-reads : (t : Bool) (ps : List Part) → AllGood ps → Reads (walk 0 (canonical (alone ps))) ps
+    → Ends (lineOf (tail t ps)) × Reads (walk 0 (tail t ps)) ps
 unfolding walk canonical spell
 tail-reads true ps g r = (end, r)
 tail-reads false [] g r = (end, nothing)
@@ -163,16 +169,19 @@ tail-reads false (p ∷ ps) g r =
     let e : tail false (p ∷ ps) ≡ 32 ∷ (g .0 .front ∷ f .0) = rw (spaced p ps, f .1) in
     rw e (space, rw (a-space (g .0 .front) (f .0) (g .0 .starts)) (past refl (rw (f .1) at r)))
 
+-- the text of good parts is read as those parts
 pub text-reads : (ps : List Part) → AllGood ps → Reads (walk 0 (canonical (alone ps))) ps
 unfolding canonical spell walk
 text-reads [] g = nothing
 text-reads (p ∷ ps) g =
     let c = contentFor p in
     let d = tail-reads (endsLine c) ps (g .1) (text-reads ps (g .1)) in
-    rw (append-assoc (spell c) (after c (alone ps)) (canonical (alone ps)), one p (g .0) (tail (endsLine c) ps) (d .0)) (next p refl (d .1))
+    rw (append-assoc (spell c) (after c (alone ps)) (canonical (alone ps)), one p (g .0) (tail (endsLine c) ps) (d .0))
+    (next p refl (d .1))
 
 -- ---- and is encoded
 
+-- what follows a part is ASCII, and the spelling of a good part is encoded
 between-encoded : (t : Bool) (ps : List Part) → Encoded (if′ t (10 ∷ []) (between′ (alone ps)))
 between-encoded true ps = ascii-encoded (10 ∷ []) refl
 between-encoded false [] = ascii-encoded [] refl

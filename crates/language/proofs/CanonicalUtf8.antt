@@ -1,13 +1,12 @@
 -- Encoded text may be put together, and cut at an ASCII byte.
-use Prim.Native.Nat.{ℕ, suc, _+_, _/_, _%_, _≤_, _<_}
+use Prim.Native.Nat.{ℕ, _≤_, _<_}
 use mathlib.Core.Path.{_≡_, refl, sym, ap, subst, _∙_}
-use mathlib.Core.Bool.{Bool, true, false}
+use mathlib.Core.Bool.{Bool, true}
 use mathlib.Core.List.{List, [], _∷_, _++_, append-assoc}
 use mathlib.Core.Logic.{_⊎_, inl, inr}
 use native.Mathlib.Omega.{arith}
-use borrow.Author.Tests.{le-leb, leb-true, leb-false, lt-leb, ltb-true}
+use borrow.Author.Tests.{le-leb, ltb-true}
 use lib.Dec.{leb, ltb}
-use Rattle.language.specs.Choice.{if′}
 use Rattle.language.specs.Utf8.{isScalar, encode, Encoded, nothing, another}
 use Rattle.language.specs.Lexemes.{all}
 use Rattle.language.proofs.Tests.{outside-test}
@@ -33,6 +32,7 @@ encoding n =
 
 -- ---- put together
 
+-- two encoded texts
 pub encoded-append : {p : List ℕ} (q : List ℕ) → Encoded p → Encoded q → Encoded (p ++ q)
 encoded-append q nothing v = v
 encoded-append q (another {s} n h w) v = rw append-assoc (another n h (encoded-append q w v))
@@ -46,6 +46,7 @@ encoded-more b s e w =
     let k : isScalar b ≡ true = rw (le-leb b 0x10FFFF (omega arith), outside-test 0xD800 0xDFFF b (omega arith)) in
     subst (λ (x : List ℕ). Encoded (x ++ s)) c (another b k w)
 
+-- ASCII bytes alone
 pub ascii-encoded : (w : List ℕ) → all isAscii w ≡ true → Encoded w
 ascii-encoded [] e = nothing
 ascii-encoded (b ∷ w) e = let h = all-parts isAscii b w e in encoded-more b w (h .0) (ascii-encoded w (h .1))
