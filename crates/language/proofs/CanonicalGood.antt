@@ -1,29 +1,24 @@
--- A part of a source is good if its spelling, before the end of a line or a space, is read as that part. Each literal,
--- name and token that a lexeme can be is good.
-use Prim.Native.Nat.{ℕ, suc, _+_, _-_, _/_, _%_, _^_, _<_}
+-- A part of a source is good if its spelling, before the end of a line or a space, is read as that part. So are the tokens
+-- that are spelt in one way, names and literals.
+use Prim.Native.Nat.{ℕ, suc, _+_, _-_, _<_}
 use mathlib.Core.Path.{_≡_, refl, sym, ap, _∙_}
 use mathlib.Core.Bool.{Bool, true, false, _&&_, _||_, not, false≢true, or-true}
 use mathlib.Core.List.{List, [], _∷_, _++_, append-assoc}
 use mathlib.Core.Option.{Option, none, some}
 use native.Mathlib.Omega.{arith}
 use native.Mathlib.Decide.{decLt}
-use native.Mathlib.Nat.{lt-of-lt-of-le}
-use borrow.Author.Tests.{lt-ltb, leb-true, ne-eqb, not-true}
-use lib.Dec.{ltb, eqb}
-use lib.ListN.{length, getD, take, length-append, List·getD-append}
-use lib.Seq.{take-append-seam, drop-append-seam, getD-append-seam}
+use borrow.Author.Tests.{lt-ltb, ne-eqb, not-true}
+use lib.Dec.{eqb}
+use lib.ListN.{length, take, length-append}
+use lib.Seq.{take-append-seam, getD-append-seam}
 use Rattle.language.specs.Choice.{if′, within}
-use Rattle.language.specs.Integers.{limit, decimal, hexadecimal}
 use Rattle.language.specs.Utf8.{char, charAt, leadOf, follow, Encoded}
-use Rattle.language.specs.Lexemes.{Tok, lParen, rParen, dot, doubleColon, colon, semiColon, equals, comma, slash, importKeyword, letKeyword, identifier, booleanLiteral, ipv4Literal, hexLiteral, decLiteral, unexpectedChar, Kind, str, tok, error, Lexeme, lexemeOf, isBlank, isDigit, isWordStart, isWord, notNewline, isBody, run, all, word, digitOf, startsHex, startsZero, integer, notQuad, quadFrom, number, punctuation, ascii, lexeme}
+use Rattle.language.specs.Lexemes.{Tok, lParen, rParen, dot, doubleColon, colon, semiColon, equals, comma, slash, importKeyword, letKeyword, identifier, booleanLiteral, ipv4Literal, hexLiteral, decLiteral, unexpectedChar, Kind, str, tok, error, Lexeme, lexemeOf, isBlank, isDigit, isWordStart, isWord, notNewline, isBody, run, all, word, number, punctuation, ascii, lexeme}
 use Rattle.language.specs.Lexemes as lexemes
 use Rattle.language.specs.Tokens.{Content, plain, name, string, Piece, body, token, pieceOf}
-use Rattle.language.specs.Canonical.{spellDigits, spellQuad, spellTok, quoted, spell}
+use Rattle.language.specs.Canonical.{spellTok, quoted, spell}
 use Rattle.language.proofs.Tests.{both, inside, inside-test, outside-test}
-use Rattle.language.proofs.Integers.{Right, right}
 use Rattle.language.proofs.SpellingRuns.{and, all-parts, all-append, all-also, run-all, up-to, implied}
-use Rattle.language.proofs.SpellingDigits.{all-spelt, length-spelt, spelt-read, Decimal, decimal-spelt, byte-spelt}
-use Rattle.language.proofs.SpellingQuads.{quad-none, quad-spelt}
 use Rattle.language.proofs.CanonicalUtf8.{isAscii, encoded-append, ascii-encoded}
 
 -- ---- parts
@@ -73,7 +68,7 @@ visible-ascii : (b : ℕ) → isVisible b ≡ true → isAscii b ≡ true
 visible-ascii b e = let h = inside 33 126 b e in lt-ltb b 128 (omega arith)
 
 -- a part that is spelt with visible bytes
-good-visible : (p : Part) (front : ℕ) (back : List ℕ) (k : Kind) → spell (contentFor p) ≡ front ∷ back
+pub good-visible : (p : Part) (front : ℕ) (back : List ℕ) (k : Kind) → spell (contentFor p) ≡ front ∷ back
     → all isVisible (front ∷ back) ≡ true → pieceOf k (front ∷ back) ≡ pieceFor p
     → ((r : List ℕ) → Ends r → lexeme (front ∷ back ++ r) ≡ lexemeOf k (suc (length back))) → Good p
 good-visible p front back k is a piece reads =
@@ -92,7 +87,7 @@ good-visible p front back k is a piece reads =
 -- ---- tokens that are spelt in one way
 
 -- what holds of either end
-by-end : (P : List ℕ → Type 0) → P [] → ((r : List ℕ) → P (32 ∷ r)) → (r : List ℕ) → Ends r → P r
+pub by-end : (P : List ℕ → Type 0) → P [] → ((r : List ℕ) → P (32 ∷ r)) → (r : List ℕ) → Ends r → P r
 by-end P e s r end = e
 by-end P e s r (space {r = q}) = s q
 
@@ -185,9 +180,9 @@ word-tests b e =
     both (isVisible b) (isLate b)
     (implied (isWord b) _ e (up-to (λ n. not (isWord n) || (isVisible n && isLate n)) 128 refl b (word-low b e)))
 
--- it is visible
-pub word-visible : (b : ℕ) → isWord b ≡ true → isVisible b ≡ true
-word-visible b e = word-tests b e .0
+-- words are visible
+pub words-visible : (w : List ℕ) → all isWord w ≡ true → all isVisible w ≡ true
+words-visible = all-also isWord isVisible (λ b e. word-tests b e .0)
 
 -- an ASCII byte is a character
 pub ascii-char : (b : ℕ) (s : List ℕ) → b < 128 → charAt (b ∷ s) ≡ char b 1
@@ -226,7 +221,7 @@ pub start-is-word : (b : ℕ) → isWordStart b ≡ true → isWord b ≡ true
 unfolding isWord
 start-is-word b e = rw e
 
-digit-is-word : (b : ℕ) → isDigit b ≡ true → isWord b ≡ true
+pub digit-is-word : (b : ℕ) → isDigit b ≡ true → isWord b ≡ true
 unfolding isWord
 digit-is-word b e = rw e (or-true (isWordStart b))
 
@@ -240,15 +235,15 @@ digit-no-start : (b : ℕ) → isDigit b ≡ true → isWordStart b ≡ false
 unfolding isDigit
 digit-no-start b e = let h = inside 48 57 b e in no-start b (omega arith) (omega arith) (omega arith)
 
-number-starts : (b : ℕ) (s : List ℕ) → isDigit b ≡ true → lexeme (b ∷ s) ≡ number (b ∷ s)
+pub number-starts : (b : ℕ) (s : List ℕ) → isDigit b ≡ true → lexeme (b ∷ s) ≡ number (b ∷ s)
 number-starts b s e = late b s (digit-is-word b e) ∙ rw (digit-no-start b e, e)
 
 -- a run stops at an end
-ends-run : (p : ℕ → Bool) → p 32 ≡ false → (r : List ℕ) → Ends r → run p r ≡ 0
+pub ends-run : (p : ℕ → Bool) → p 32 ≡ false → (r : List ℕ) → Ends r → run p r ≡ 0
 ends-run p e = by-end (λ (r : List ℕ). run p r ≡ 0) refl (λ r. rw e)
 
 -- a word is read to its end
-word-run : (w r : List ℕ) → all isWord w ≡ true → Ends r → run isWord (w ++ r) ≡ length w
+pub word-run : (w r : List ℕ) → all isWord w ≡ true → Ends r → run isWord (w ++ r) ≡ length w
 unfolding isWord isWordStart isDigit
 word-run w r a k = run-all isWord w r a (ends-run isWord refl r k)
 
@@ -258,121 +253,8 @@ pub good-name : (b : ℕ) (w : List ℕ) → isWordStart b ≡ true → all isWo
 unfolding spell
 good-name b w e h i =
     let a : all isWord (b ∷ w) ≡ true = and {a = isWord b} (start-is-word b e) h in
-    good-visible (named (b ∷ w)) b w (tok identifier) refl (all-also isWord isVisible word-visible (b ∷ w) a) refl
+    good-visible (named (b ∷ w)) b w (tok identifier) refl (words-visible (b ∷ w) a) refl
     (λ r k. word-starts b (w ++ r) e ∙ rw (word-run (b ∷ w) r a k, take-append-seam (b ∷ w) r, i))
-
--- ---- numbers
-
--- a token that is spelt with a digit first
-good-number : (t : Tok) (w : List ℕ) → spellTok t ≡ w → all isVisible w ≡ true → isDigit (getD w 0 0) ≡ true
-    → pieceOf (tok t) w ≡ token (plain t) → ((r : List ℕ) → Ends r → number (w ++ r) ≡ lexemeOf (tok t) (length w)) → Good (other t)
-unfolding spell isDigit
-good-number t [] is a d piece reads = absurd (false≢true d)
-good-number t (b ∷ w) is a d piece reads =
-    good-visible (other t) b w (tok t) is a piece (λ r k. number-starts b (w ++ r) d ∙ reads r k)
-
--- the first byte of a list that is not empty
-first-byte : (p : ℕ → Bool) (w : List ℕ) → 0 < length w → all p w ≡ true → p (getD w 0 0) ≡ true
-first-byte p [] l a = absurd (omega arith)
-first-byte p (b ∷ w) l a = all-parts p b w a .0
-
--- digits are word characters, and these are visible
-digits-word : (w : List ℕ) → all isDigit w ≡ true → all isWord w ≡ true
-digits-word = all-also isDigit isWord digit-is-word
-
-words-visible : (w : List ℕ) → all isWord w ≡ true → all isVisible w ≡ true
-words-visible = all-also isWord isVisible word-visible
-
--- a word that is no quad is an integer
-number-word : (w r : List ℕ) → all isWord w ≡ true → Ends r → quadFrom 3 (some 0) (w ++ r) ≡ notQuad
-    → number (w ++ r) ≡ lexemeOf (integer w) (length w)
-unfolding number
-number-word w r a k e = rw (e, number, word-run w r a k, take-append-seam)
-
--- no dot ends a decimal
-no-dot : (r : List ℕ) → Ends r → eqb (getD r 0 0) 46 ≡ false
-no-dot = by-end (λ (r : List ℕ). eqb (getD r 0 0) 46 ≡ false) refl (λ r. refl)
-
--- the bytes of a decimal are no quad, no hexadecimal, and have no leading zero
-dec-reads : (n : ℕ) (w r : List ℕ) → Decimal n w → Ends r → number (w ++ r) ≡ lexemeOf (tok (decLiteral n)) (length w)
-unfolding integer startsHex startsZero isDigit
-dec-reads n w r c k =
-    let x = c .no-zero (λ v. eqb (getD v 1 0) 120 && ltb (digitOf (getD v 2 0)) 16) refl in
-    let z = c .no-zero (λ v. isDigit (getD v 1 0)) refl in
-    let q = quad-none (some 0) w (c .some-digit) (c .digits) 2 r (ends-run isDigit refl r k) (no-dot r k) in
-    number-word w r (digits-word w (c .digits)) k q ∙ rw (x, z, c .read)
-
-pub good-dec : (n : ℕ) → n < limit → Good (other (decLiteral n))
-unfolding spellTok
-good-dec n l =
-    let c = decimal-spelt n l in
-    let w = spellDigits (decimal n) in
-    let d = first-byte isDigit w (c .some-digit) (c .digits) in
-    good-number (decLiteral n) w refl (words-visible w (digits-word w (c .digits))) d refl (λ r k. dec-reads n w r c k)
-
--- the digits in base 16, and their bytes
-hex-right : (n : ℕ) → n < limit → Right 16 32 n (hexadecimal n)
-unfolding hexadecimal
-hex-right n l = right 16 (omega arith) 31 n (lt-of-lt-of-le l (leb-true limit (16 ^ 32) refl))
-
-hex-word : (n : ℕ) → n < limit → all isWord (spellDigits (hexadecimal n)) ≡ true
-unfolding isWord isWordStart isDigit
-hex-word n l = all-spelt isWord 16 refl (hexadecimal n) (hex-right n l .small)
-
--- one stands after `0x`
-hex-first : (n : ℕ) → n < limit → ltb (digitOf (getD (spellDigits (hexadecimal n)) 0 0)) 16 ≡ true
-unfolding digitOf
-hex-first n l =
-    let ds = hexadecimal n in
-    first-byte (λ b. ltb (digitOf b) 16) (spellDigits ds) (rw length-spelt (hex-right n l .some-digit))
-    (all-spelt (λ b. ltb (digitOf b) 16) 16 refl ds (hex-right n l .small))
-
-hex-integer : (n : ℕ) → n < limit → integer (48 ∷ 120 ∷ spellDigits (hexadecimal n)) ≡ tok (hexLiteral n)
-unfolding integer startsHex
-hex-integer n l = rw (hex-first n l, spelt-read 16 (omega arith) (omega arith) (hex-right n l) l)
-
-pub good-hex : (n : ℕ) → n < limit → Good (other (hexLiteral n))
-unfolding spellTok isDigit isWord isWordStart quadFrom
-good-hex n l =
-    let w : List ℕ = 48 ∷ 120 ∷ spellDigits (hexadecimal n) in
-    let a : all isWord w ≡ true = hex-word n l in
-    good-number (hexLiteral n) w refl (words-visible w a) refl refl
-    (λ r k. number-word w r a k refl ∙ ap (λ (x : Kind). lexemeOf x (length w)) (hex-integer n l))
-
--- ---- addresses
-
--- the numbers of an address are visible
-byte-visible : (m : ℕ) → m < 256 → all isVisible (spellDigits (decimal m)) ≡ true
-byte-visible m l = let w = spellDigits (decimal m) in words-visible w (digits-word w (byte-spelt m l .digits))
-
--- a dot and a number more
-dotted : (v : List ℕ) (m : ℕ) → m < 256 → all isVisible v ≡ true → all isVisible (v ++ 46 ∷ spellDigits (decimal m)) ≡ true
-dotted v m l a = all-append isVisible v (46 ∷ spellDigits (decimal m)) a (byte-visible m l)
-
-quad-visible : (n : ℕ) → all isVisible (spellQuad n) ≡ true
-quad-visible n =
-    let v1 = spellDigits (decimal (n / 0x1000000 % 0x100)) in
-    let v2 = v1 ++ 46 ∷ spellDigits (decimal (n / 0x10000 % 0x100)) in
-    let v3 = v2 ++ 46 ∷ spellDigits (decimal (n / 0x100 % 0x100)) in
-    dotted v3 (n % 0x100) (omega arith)
-    (dotted v2 (n / 0x100 % 0x100) (omega arith)
-    (dotted v1 (n / 0x10000 % 0x100) (omega arith) (byte-visible (n / 0x1000000 % 0x100) (omega arith))))
-
--- its first byte is a digit
-byte-first : (m : ℕ) → m < 256 → (v : List ℕ) → isDigit (getD (spellDigits (decimal m) ++ v) 0 0) ≡ true
-byte-first m l v =
-    let c = byte-spelt m l in
-    let w = spellDigits (decimal m) in
-    rw (List·getD-append w v 0 0 (c .some-digit)) (first-byte isDigit w (c .some-digit) (c .digits))
-
-quad-first : (n : ℕ) → isDigit (getD (spellQuad n) 0 0) ≡ true
-quad-first n = simp append-assoc (byte-first (n / 0x1000000 % 0x100) (omega arith) _)
-
-pub good-quad : (n : ℕ) → n < 0x100000000 → Good (other (ipv4Literal n))
-unfolding spellTok number isDigit isWord isWordStart
-good-quad n l =
-    good-number (ipv4Literal n) (spellQuad n) refl (quad-visible n) (quad-first n) refl
-    (λ r k. rw (quad-spelt n r l (ends-run isDigit refl r k), number, drop-append-seam, ends-run isWord refl r k))
 
 -- ---- literals
 

@@ -21,7 +21,8 @@ use Rattle.language.proofs.LexemeSizes.{by-cases}
 use Rattle.language.proofs.LexemeDigits.{digits-read}
 use Rattle.language.proofs.SpellingRuns.{all-run}
 use Rattle.language.proofs.CanonicalUtf8.{isAscii, cut}
-use Rattle.language.proofs.CanonicalGood.{Part, literal, named, other, pieceFor, Good, isFixed, good-fixed, good-name, good-dec, good-hex, good-quad, good-literal, start-is-word}
+use Rattle.language.proofs.CanonicalGood.{Part, literal, named, other, pieceFor, Good, isFixed, good-fixed, good-name, good-literal, start-is-word}
+use Rattle.language.proofs.CanonicalNumbers.{good-dec, good-hex, good-quad}
 
 pub data Fine : Piece → Type 0 where
   a-gap : Fine gap

@@ -1,6 +1,6 @@
 -- A source is parts that are good; the canonical text of good parts is encoded, and is read as those parts.
 use Prim.Native.Nat.{ℕ, zero, suc, _-_}
-use mathlib.Core.Path.{_≡_, refl, sym, ap, subst, _∙_}
+use mathlib.Core.Path.{_≡_, refl, ap, _∙_}
 use mathlib.Core.Bool.{Bool, true, false, not, _&&_, _||_}
 use mathlib.Core.List.{List, [], _∷_, _++_, append-assoc}
 use mathlib.Core.Option.{none}
@@ -13,7 +13,6 @@ use Rattle.language.specs.Choice.{if′}
 use Rattle.language.specs.Utf8.{charAt, leadOf, follow, Encoded}
 use Rattle.language.specs.Lexemes.{all, notNewline, isBlank, blankRun, lexeme}
 use Rattle.language.specs.Tokens.{Piece, gap, Item, firstWrong}
-use Rattle.language.specs.Tokens as tokens
 use Rattle.language.specs.Canonical.{spell, endsLine, between′, after, canonical}
 use Rattle.language.proofs.Tests.{both, inside}
 use Rattle.language.proofs.LexemeSizes.{by-cases}
@@ -192,5 +191,6 @@ unfolding canonical spell
 text-encoded [] g = ascii-encoded [] refl
 text-encoded (p ∷ ps) g =
     let c = contentFor p in
+    let spelt : Encoded (spell c) = rw (g .0 .is) (g .0 .whole) in
     encoded-append (canonical (alone ps))
-    (encoded-append (after c (alone ps)) (subst Encoded (sym (g .0 .is)) (g .0 .whole)) (between-encoded (endsLine c) ps)) (text-encoded ps (g .1))
+    (encoded-append (after c (alone ps)) spelt (between-encoded (endsLine c) ps)) (text-encoded ps (g .1))

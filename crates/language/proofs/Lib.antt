@@ -15,6 +15,7 @@ pub mod SpellingDigits
 pub mod SpellingQuads
 pub mod CanonicalUtf8
 pub mod CanonicalGood
+pub mod CanonicalNumbers
 pub mod CanonicalSound
 pub mod CanonicalLines
 pub mod CanonicalJoin
