@@ -8,7 +8,11 @@ pub mod LexemeExamples
 pub mod LexemeSizes
 pub mod LexemeSpans
 pub mod LexemeDigits
+pub mod CutLexemes
 pub mod TokenExamples
+pub mod TokenPlaces
+pub mod TokenBodies
+pub mod TokenClaims
 pub mod CanonicalExamples
 pub mod SpellingRuns
 pub mod SpellingDigits

@@ -7,7 +7,7 @@ use native.Mathlib.Omega.{arith}
 use native.Mathlib.Decide.{decLe}
 use borrow.Author.Tests.{leb-true, le-leb, lt-leb}
 use lib.Dec.{leb}
-use Rattle.language.specs.Choice.{within}
+use Rattle.language.specs.Choice.{if′, within}
 
 -- what a test of both says
 pub both : (a b : Bool) → a && b ≡ true → (a ≡ true) × (b ≡ true)
@@ -18,6 +18,12 @@ both false b e = absurd (false≢true e)
 pub either : (a b : Bool) → a || b ≡ true → (a ≡ true) ⊎ (b ≡ true)
 either true b e = inl refl
 either false b e = inr e
+
+-- where two tests are the same, what holds of both branches holds of both choices
+pub both-sides : {A : Type 0} (P : A → A → Type 0) (t : Bool) {a b c d : A} → (t ≡ true → P a c) → (t ≡ false → P b d)
+    → P (if′ t a b) (if′ t c d)
+both-sides P true f g = f refl
+both-sides P false f g = g refl
 
 -- b is in a range, or below a or past z
 module _ (a z b : ℕ) where
