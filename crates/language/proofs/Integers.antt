@@ -3,87 +3,109 @@ use Prim.Native.Nat.{ℕ, zero, suc, _+_, _*_, _/_, _%_, _^_, _≤_, _<_}
 use mathlib.Core.Path.{_≡_, refl, sym, ap, subst, _∙_}
 use mathlib.Core.List.{List, [], _∷_, _++_}
 use mathlib.Core.Option.{Option, none, some}
-use native.Mathlib.Nat.{lt-of-lt-of-le, lt-of-le-of-lt, div-lt-iff-lt-mul, div-add-mod', div-le-self, pow-suc}
+use native.Mathlib.Nat.{lt-of-lt-of-le, lt-of-le-of-lt, div-lt-iff-lt-mul, le-div-iff-mul-le, div-add-mod', div-le-self, mod-lt, pow-suc, pow-zero, one-mul}
 use native.Mathlib.Decide.{decLt}
 use native.Mathlib.Omega.{arith}
 use borrow.Author.Tests.{lt-ltb, le-ltb, leb-true}
 use lib.Dec.{ltb}
 use lib.ListN.{length, getD, length-append, List·getD-append}
 use Rattle.language.specs.Choice.{if′}
-use Rattle.language.specs.Integers.{limit, valueFrom, valueOf, digits, mostDigits, decimal, IntType, u8, u16, u32, u64, bits, smallest, DecimalIsRight, DecimalUnfolds, SmallestHolds}
+use Rattle.language.specs.Integers.{limit, valueFrom, valueOf, digitsIn, digits, mostDigits, decimal, IntType, u8, u16, u32, u64, bits, smallest, DecimalIsRight, DecimalUnfolds, SmallestHolds}
 
--- ---- decimal digits, one step
+-- ---- digits in a base, one step
 
-unfolded : (k n : ℕ) → digits (suc k) n ≡ if′ (ltb n 10) (n ∷ []) (digits k (n / 10) ++ (n % 10 ∷ []))
-unfolding digits
-unfolded k n = refl
+module _ (base : ℕ) where
+  pub few-in : (k n : ℕ) → n < base → digitsIn base (suc k) n ≡ n ∷ []
+  unfolding digitsIn
+  few-in k n h = rw (lt-ltb n base h)
+
+  pub many-in : (k n : ℕ) → base ≤ n → digitsIn base (suc k) n ≡ digitsIn base k (n / base) ++ (n % base ∷ [])
+  unfolding digitsIn
+  many-in k n h = rw (le-ltb n base h)
+
+module _ (base : ℕ) (two : 1 < base) where
+  -- what a number divided by the base has is a place fewer
+  fewer : (k n : ℕ) → n < base ^ suc k → n / base < base ^ k
+  fewer k n h = div-lt-iff-lt-mul {k = base} {x = n} {y = base ^ k} (omega arith) .1 (rw pow-suc at h)
+
+  -- what holds of one digit, and of a digit more, holds of the digits of every number that has room
+  module _ (P : ℕ → ℕ → List ℕ → Type 0)
+      (one : (k n : ℕ) → n < base → P (suc k) n (n ∷ []))
+      (more : (k n : ℕ) (ds : List ℕ) → base ≤ n → P k (n / base) ds → P (suc k) n (ds ++ (n % base ∷ []))) where
+    pub each-in : (k n : ℕ) → n < base ^ suc k → P (suc k) n (digitsIn base (suc k) n)
+    each-in zero n h =
+        let l : n < base = rw (pow-suc, pow-zero, one-mul) at h in
+        rw (few-in base 0 n l) (one 0 n l)
+    each-in (suc k) n h =
+        elim (decLt n base) [
+          | yes lt ↦ rw (few-in base (suc k) n lt) (one (suc k) n lt)
+          | no ge ↦ rw (many-in base (suc k) n (omega arith)) (more (suc k) n _ (omega arith) (each-in k (n / base) (fewer (suc k) n h)))
+        ]
+
+-- ---- and in base 10
 
 pub few : (k n : ℕ) → n < 10 → digits (suc k) n ≡ n ∷ []
-few k n h = rw (unfolded, lt-ltb n 10 h)
+few = few-in 10
 
 pub many : (k n : ℕ) → 10 ≤ n → digits (suc k) n ≡ digits k (n / 10) ++ (n % 10 ∷ [])
-many k n h = rw (unfolded k n, le-ltb n 10 h)
+many = many-in 10
 
 -- a tenth has a place fewer
 pub tenth : (k n : ℕ) → n < 10 ^ suc k → n / 10 < 10 ^ k
-tenth k n h = div-lt-iff-lt-mul {k = 10} {x = n} {y = 10 ^ k} (omega arith) .1 (rw pow-suc at h)
+tenth = fewer 10 (omega arith)
 
--- what holds of one digit, and of a digit more, holds of the digits of every number that has room
 module _ (P : ℕ → ℕ → List ℕ → Type 0)
     (one : (k n : ℕ) → n < 10 → P (suc k) n (n ∷ []))
     (more : (k n : ℕ) (ds : List ℕ) → 10 ≤ n → P k (n / 10) ds → P (suc k) n (ds ++ (n % 10 ∷ []))) where
   pub each : (k n : ℕ) → n < 10 ^ suc k → P (suc k) n (digits (suc k) n)
-  each zero n h = rw (few 0 n) (one 0 n h)
-  each (suc k) n h =
-      elim (decLt n 10) [
-        | yes lt ↦ rw few (one (suc k) n lt)
-        | no ge ↦ rw (many (suc k) n (omega arith)) (more (suc k) n _ (omega arith) (each k (n / 10) (tenth (suc k) n h)))
-      ]
+  each = each-in 10 (omega arith) P one more
 
 -- ---- what the digits say
 
-value-snoc : (v : ℕ) (ds : List ℕ) (d : ℕ) → valueFrom 10 v (ds ++ (d ∷ [])) ≡ valueFrom 10 v ds * 10 + d
-value-snoc v [] d = refl
-value-snoc v (e ∷ ds) d = value-snoc (v * 10 + e) ds d
+value-snoc : (base v : ℕ) (ds : List ℕ) (d : ℕ) → valueFrom base v (ds ++ (d ∷ [])) ≡ valueFrom base v ds * base + d
+value-snoc base v [] d = refl
+value-snoc base v (e ∷ ds) d = value-snoc base (v * base + e) ds d
 
 -- past the end `getD` answers 0, so no bound on the index is asked
-small-snoc : (ds : List ℕ) (d : ℕ) → ((i : ℕ) → getD ds i 0 < 10) → d < 10 → (i : ℕ) → getD (ds ++ (d ∷ [])) i 0 < 10
-small-snoc [] d h s zero = s
-small-snoc [] d h s (suc i) = omega arith
-small-snoc (e ∷ ds) d h s zero = h 0
-small-snoc (e ∷ ds) d h s (suc i) = small-snoc ds d (λ j. h (suc j)) s i
+small-snoc : (base : ℕ) (ds : List ℕ) (d : ℕ) → ((i : ℕ) → getD ds i 0 < base) → d < base → (i : ℕ) → getD (ds ++ (d ∷ [])) i 0 < base
+small-snoc base [] d h s zero = s
+small-snoc base [] d h s (suc i) = omega arith
+small-snoc base (e ∷ ds) d h s zero = h 0
+small-snoc base (e ∷ ds) d h s (suc i) = small-snoc base ds d (λ j. h (suc j)) s i
 
-record Right (k n : ℕ) (ds : List ℕ) : Type 0 where
-  value : valueOf 10 ds ≡ n
-  small : (i : ℕ) → getD ds i 0 < 10
-  some-digit : 0 < length ds
-  in-room : length ds ≤ k
-  first : 0 < n → 0 < getD ds 0 0
+pub record Right (base k n : ℕ) (ds : List ℕ) : Type 0 where
+  pub value : valueOf base ds ≡ n
+  pub small : (i : ℕ) → getD ds i 0 < base
+  pub some-digit : 0 < length ds
+  pub in-room : length ds ≤ k
+  pub first : 0 < n → 0 < getD ds 0 0
 
-right-one : (k n : ℕ) → n < 10 → Right (suc k) n (n ∷ [])
-right-one k n h =
-    record {
-      value = omega arith;
-      small = small-snoc [] n (λ i. omega arith) h;
-      some-digit = omega arith;
-      in-room = omega arith;
-      first = λ p. p;
-    }
+module _ (base : ℕ) (two : 1 < base) where
+  right-one : (k n : ℕ) → n < base → Right base (suc k) n (n ∷ [])
+  right-one k n h =
+      record {
+        value = omega arith;
+        small = small-snoc base [] n (λ i. omega arith) h;
+        some-digit = omega arith;
+        in-room = omega arith;
+        first = λ p. p;
+      }
 
-right-more : (k n : ℕ) (ds : List ℕ) → 10 ≤ n → Right k (n / 10) ds → Right (suc k) n (ds ++ (n % 10 ∷ []))
-right-more k n ds g r =
-    record {
-      value = rw (value-snoc, r .value) (div-add-mod' n 10);
-      small = small-snoc ds (n % 10) (r .small) (omega arith);
-      some-digit = simp length-append (omega arith);
-      in-room = simp length-append (omega (arith, r .in-room));
-      first = λ p. rw (List·getD-append ds (n % 10 ∷ []) 0 0 (r .some-digit)) (r .first (omega arith));
-    }
+  right-more : (k n : ℕ) (ds : List ℕ) → base ≤ n → Right base k (n / base) ds → Right base (suc k) n (ds ++ (n % base ∷ []))
+  right-more k n ds g r =
+      let z : 0 < base = omega arith in
+      record {
+        value = rw (value-snoc, r .value) (div-add-mod' n base);
+        small = small-snoc base ds (n % base) (r .small) (mod-lt n z);
+        some-digit = simp length-append (omega arith);
+        in-room = simp length-append (omega (arith, r .in-room));
+        first = λ p. rw (List·getD-append ds (n % base ∷ []) 0 0 (r .some-digit)) (r .first (le-div-iff-mul-le z .1 (omega arith)));
+      }
 
-right : (k n : ℕ) → n < 10 ^ suc k → Right (suc k) n (digits (suc k) n)
-right = each Right right-one right-more
+  pub right : (k n : ℕ) → n < base ^ suc k → Right base (suc k) n (digitsIn base (suc k) n)
+  right = each-in base two (Right base) right-one right-more
 
-zero-first : (k n : ℕ) → Right (suc k) n (digits (suc k) n) → getD (digits (suc k) n) 0 0 ≡ 0 → digits (suc k) n ≡ 0 ∷ []
+zero-first : (k n : ℕ) → Right 10 (suc k) n (digits (suc k) n) → getD (digits (suc k) n) 0 0 ≡ 0 → digits (suc k) n ≡ 0 ∷ []
 zero-first k n r e =
     elim (decLt 0 n) [
       | yes p ↦ absurd (omega (arith, r .first p))
@@ -93,13 +115,13 @@ zero-first k n r e =
     ]
 
 -- 2^127 has 39 digits
-has-room : (n : ℕ) → n < limit → n < 10 ^ mostDigits
+pub has-room : (n : ℕ) → n < limit → n < 10 ^ mostDigits
 has-room n h = lt-of-lt-of-le h (leb-true limit (10 ^ mostDigits) refl)
 
 pub decimal-is-right : DecimalIsRight
 unfolding decimal
 decimal-is-right n h =
-    let r : Right 39 n (digits 39 n) = right 38 n (has-room n h) in
+    let r : Right 10 39 n (digits 39 n) = right 10 (omega arith) 38 n (has-room n h) in
     (r .value, λ i l. r .small i, r .some-digit, r .in-room, λ e. zero-first 38 n r e)
 
 -- ---- the equation without a bound
@@ -122,10 +144,10 @@ unfolding Same
 room k j n a b = each Same same-one same-more k n a j b
 
 pub decimal-unfolds : DecimalUnfolds
-unfolding decimal
+unfolding decimal digitsIn
 decimal-unfolds n h =
     let b : n < 10 ^ 39 = has-room n h in
-    unfolded 38 n ∙ rw (room 37 38 (n / 10) (tenth 38 n b) (lt-of-le-of-lt (div-le-self n 10) b))
+    rw (room 37 38 (n / 10) (tenth 38 n b) (lt-of-le-of-lt (div-le-self n 10) b))
 
 -- ---- the smallest type
 

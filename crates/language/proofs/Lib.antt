@@ -14,3 +14,15 @@ pub mod TokenPlaces
 pub mod TokenBodies
 pub mod TokenClaims
 pub mod TokenContents
+pub mod CanonicalExamples
+pub mod SpellingRuns
+pub mod SpellingDigits
+pub mod SpellingQuads
+pub mod CanonicalUtf8
+pub mod CanonicalGood
+pub mod CanonicalNumbers
+pub mod CanonicalSound
+pub mod CanonicalLines
+pub mod CanonicalJoin
+pub mod CanonicalText
+pub mod Canonical

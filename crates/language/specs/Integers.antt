@@ -23,10 +23,13 @@ valueFrom base v (d ∷ ds) = valueFrom base (v * base + d) ds
 abbrev pub valueOf : ℕ → List ℕ → ℕ
 valueOf base ds = valueFrom base 0 ds
 
--- the decimal digits of a number that has `most` at the most
-unfoldable pub digits : ℕ → ℕ → List ℕ
-digits zero n = []
-digits (suc most) n = if′ (ltb n 10) (n ∷ []) (digits most (n / 10) ++ (n % 10 ∷ []))
+-- the digits in a base of a number that has `most` at the most
+unfoldable pub digitsIn : ℕ → ℕ → ℕ → List ℕ
+digitsIn base zero n = []
+digitsIn base (suc most) n = if′ (ltb n base) (n ∷ []) (digitsIn base most (n / base) ++ (n % base ∷ []))
+
+abbrev pub digits : ℕ → ℕ → List ℕ
+digits most n = digitsIn 10 most n
 
 -- 2^127 has 39
 abbrev pub mostDigits : ℕ
@@ -34,6 +37,10 @@ mostDigits = 39
 
 unfoldable pub decimal : ℕ → List ℕ
 decimal n = digits mostDigits n
+
+-- the hexadecimal digits; 2^127 has 32
+unfoldable pub hexadecimal : ℕ → List ℕ
+hexadecimal n = digitsIn 16 32 n
 
 -- digits as ASCII
 abbrev pub ascii : List ℕ → List ℕ

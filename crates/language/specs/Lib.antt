@@ -4,5 +4,6 @@ pub mod Utf8
 pub mod Integers
 pub mod Lexemes
 pub mod Tokens
+pub mod Canonical
 pub mod Tables
 pub mod Numbers
