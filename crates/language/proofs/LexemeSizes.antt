@@ -22,7 +22,7 @@ by-cases P false f g = g refl
 -- ---- runs
 
 -- a run ends within the list
-run-fits : (p : ℕ → Bool) (s : List ℕ) → run p s ≤ length s
+pub run-fits : (p : ℕ → Bool) (s : List ℕ) → run p s ≤ length s
 run-fits p [] = omega arith
 run-fits p (b ∷ s) = by-cases (λ (n : ℕ). n ≤ suc (length s)) (p b) (λ _. omega (arith, run-fits p s)) (λ _. omega arith)
 

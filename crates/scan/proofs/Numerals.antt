@@ -9,6 +9,7 @@ use borrow.Author.Tests.{ltb-true, eqb-true, eq-eqb, ne-eqb}
 use lib.Dec.{ltb, eqb}
 use lib.ListN.{length, getD, take, drop, length-drop}
 use lib.Seq.{getD-drop}
+use Rattle.language.proofs.LexemeSizes.{run-fits}
 use Rattle.language.specs.Choice.{if′, within}
 use Rattle.language.specs.Lexemes as language
 use Rattle.language.specs.Lexemes.{isDigit, isWordStart, isWord, run, digitOf, readDigits, value, wrong, numbered, hexLiteral, decLiteral, startsHex, startsZero, integer}
@@ -69,18 +70,10 @@ Seen q i t n = q (getD (take n t) i 0) ≡ q (getD t i 0)
 
 -- a run of bytes with p
 module _ (p : ℕ → Bool) where
-  pub run-le : (t : List ℕ) → run p t ≤ length t
-  run-le [] = zero-le
-  run-le (b ∷ t) = go (p b) (run-le t)
-    where
-      go : (k : Bool) → run p t ≤ length t → if′ k (suc (run p t)) 0 ≤ suc (length t)
-      go true h = suc-le-suc h
-      go false h = zero-le
-
   pub run-starts : (s : List ℕ) (at e : ℕ) → at < e → e ≡ runEnd p s at → (at < length s) × (e ≤ length s)
   unfolding runEnd
   run-starts s at e h k =
-      let l = run-le (drop at s) in
+      let l = run-fits p (drop at s) in
       let d = length-drop at s in
       (omega arith, omega arith)
 
@@ -204,7 +197,7 @@ literal-as f g h (wrong e) = refl
 module _ (s : List ℕ) (at e : ℕ) (h : (at < length s) × (e ≡ runEnd isWord s at)) where
   pub word-ends : (at ≤ e) × (e ≤ length s)
   unfolding runEnd
-  word-ends = (omega arith, omega (arith, run-le isWord (drop at s), length-drop at s))
+  word-ends = (omega arith, omega (arith, run-fits isWord (drop at s), length-drop at s))
 
   -- x and z are what its start is found to be
   module _ (x : Bool) (x-said : x ≡ startsHex (drop at s)) where

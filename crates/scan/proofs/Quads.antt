@@ -11,6 +11,7 @@ use borrow.Author.Tests.{le-leb, lt-leb, leb-true, eq-eqb, ne-eqb, eqb-true}
 use lib.Dec.{leb, eqb}
 use lib.ListN.{length, getD, take, drop, length-drop, List·getD-eq-default}
 use lib.Seq.{length-take-le, getD-drop, drop-drop}
+use Rattle.language.proofs.LexemeSizes.{run-fits}
 use Rattle.language.specs.Choice.{if′}
 use Rattle.language.specs.Lexemes as language
 use Rattle.language.specs.Lexemes.{isDigit, isWord, run, readDigits, value, wrong, startsZero, octet, quad, notQuad, joined, further, quadFrom, quadLexeme, integer, number, lexemeOf, error, badIPv4Literal}
@@ -30,7 +31,7 @@ use Rattle.scan.specs.declared.LexemeKind.the-variants as kind-is
 use Rattle.scan.specs.declared.Quad.the-variants.{Dotted, Not}
 use Rattle.scan.specs.Scanning.{between, runEnd, numberAs, octetAs, Below, joinedAs, quadAs, kindAs, lexemeAs}
 use Rattle.scan.proofs.Digits.{value-wide}
-use Rattle.scan.proofs.Numerals.{run-le, run-starts, run-between, zero-between}
+use Rattle.scan.proofs.Numerals.{run-starts, run-between, zero-between}
 
 -- ---- a number of a quad
 
@@ -273,7 +274,7 @@ quad-within zero a t = go (eqb (run isDigit t) 0)
   where
     go : (k : Bool) → Within (length t) (if′ k notQuad (quad (run isDigit t) (joined a (octet (take (run isDigit t) t)))))
     go true = tt
-    go false = run-le isDigit t
+    go false = run-fits isDigit t
 quad-within (suc d) a t =
     let n = run isDigit t in
     let b = joined a (octet (take n t)) in

@@ -17,6 +17,7 @@ use Rattle.language.specs.Utf8.{Char, char, noChar, charAt}
 use Rattle.language.specs.Lexemes as language
 use Rattle.language.specs.Lexemes.{slash, doubleColon, colon, trivia, str, tok, error, unexpectedChar, unterminatedString, isBlank, isDigit, isWordStart, isWord, isBody, notNewline, run, blankRun, word, number, lexemeOf, comment, string, punctuation, ascii, lexeme}
 use Rattle.language.proofs.Tests.{inside, either}
+use Rattle.language.proofs.LexemeSizes.{run-fits}
 use Rattle.utf8.specs.Decoding.{placed}
 use Rattle.utf8.specs.declared.Decoded.the-variants.{Read, Nothing}
 use Rattle.scan.specs.declared.Tok.{Tok}
@@ -31,14 +32,6 @@ use Rattle.scan.specs.declared.Step.the-variants.{Found, Done}
 -- a lexeme of the code, from its parts
 abbrev pub made : ℕ → ℕ → LexemeKind → Lexeme
 made at e k = record { start = at; end = e; kind = k }
-
-run-most : (p : ℕ → Bool) (s : List ℕ) → run p s ≤ length s
-run-most p [] = omega arith
-run-most p (b ∷ s) = go (p b) (run-most p s)
-  where
-    go : (t : Bool) → run p s ≤ length s → if′ t (suc (run p s)) 0 ≤ suc (length s)
-    go true h = omega arith
-    go false h = omega arith
 
 -- ---- ASCII
 
@@ -104,7 +97,7 @@ module _ (line : List ℕ) (at : ℕ) where
   -- a run that starts here ends within the line
   pub run-ends : (p : ℕ → Bool) → at ≤ length line → (at ≤ runEnd p line at) × (runEnd p line at ≤ length line)
   unfolding runEnd
-  run-ends p h = (omega arith, omega (arith, run-most p (drop at line), length-drop at line))
+  run-ends p h = (omega arith, omega (arith, run-fits p (drop at line), length-drop at line))
 
   -- ---- strings and comments
 
