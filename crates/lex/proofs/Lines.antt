@@ -16,7 +16,7 @@ use Rattle.language.proofs.LexemeSizes.{by-cases}
 use Rattle.table.specs.Table.{padTo}
 use Rattle.table.proofs.Laws.{tabled-none}
 use Rattle.scan.specs.declared.Verdict.{Verdict}
-use Rattle.scan.proofs.Numerals.{run-le}
+use Rattle.language.proofs.LexemeSizes.{run-fits}
 use Rattle.lex.specs.declared.Lexer.{Lexer}
 use Rattle.lex.specs.declared.Fed.{Fed}
 use Rattle.lex.specs.declared.Fed.the-variants.{Goes, Stops}
@@ -80,7 +80,7 @@ few-lines at (b ∷ s) =
 -- the line that starts at `at` and ends at e
 module _ (s : List ℕ) (at : ℕ) (l : at < length s) (e : ℕ) (q : e ≡ lineEnd s at) where
   pub end-within : (at ≤ e) × (e ≤ length s)
-  end-within = let h = run-le notNewline (drop at s) in let k = length-drop at s in (omega arith, omega arith)
+  end-within = let h = run-fits notNewline (drop at s) in let k = length-drop at s in (omega arith, omega arith)
 
   next-line : linesFrom at (drop at s) ≡ lineAt at (between s at e) ∷ linesFrom (e + 1) (drop (e + 1) s)
   next-line =
