@@ -9,3 +9,4 @@ pub mod LexemeSizes
 pub mod LexemeSpans
 pub mod LexemeDigits
 pub mod TokenExamples
+pub mod SentenceExamples

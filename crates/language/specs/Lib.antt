@@ -5,4 +5,5 @@ pub mod Integers
 pub mod Lexemes
 pub mod Tokens
 pub mod Tables
+pub mod Sentences
 pub mod Numbers
