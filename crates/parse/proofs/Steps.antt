@@ -12,7 +12,7 @@ use Rattle.language.specs.Choice.{if′}
 use Rattle.language.specs.Tables.{contentKind}
 use Rattle.language.specs.Tokens.{Content, eof}
 use Rattle.language.specs.Sentences.{Expr, literal, sock4, local, path, member, call, slash′, Args, none-given, given, named, Stmt, import′, let′, expr′, Port, port, tooLarge, notPort, portOf, Out, ok, no, andThen, mostSteps, mostLists, is, namesFrom, address, named′, primary, links, chainOf, slashes, exprOf, argOf, argsOf, listAt, chainAt, exprAt, ended, importAt, letAt, stmtAt, stmtsFrom, program}
-use Rattle.parse.specs.Parsing.{kindAt, portAt, isNamed, valueFrom, withArg, exprStmt, Rep}
+use Rattle.parse.specs.Parsing.{kindAt, literalKind, portAt, isNamed, valueFrom, withArg, exprStmt, Rep}
 use Rattle.parse.proofs.Looks.{inside, row-of, kind-is, is-true, is-false}
 
 -- a path whose names after the first are still to be read, n of them read
@@ -62,6 +62,14 @@ module _ {toks : List ℕ} {ts : List Content} (rep : Rep toks ts) where
       address-bad p = rw (is-true toks (at + 1) rep 6 is6, address) (rw (sym (rep .ports (at + 2)) ∙ p) refl)
 
     -- ---- primaries
+    pub primary-literal : literalKind (kindAt toks at) ≡ true → primary ts at s ≡ ok (literal at) (at + 1) s
+    unfolding primary
+    primary-literal e = rw (rw (rep .kinds at) at e, primary)
+
+    pub primary-no : literalKind (kindAt toks at) ≡ false → (kindAt toks at ≡ 15 → ⊥) → (kindAt toks at ≡ 13 → ⊥) → primary ts at s ≡ no 5 1 at
+    unfolding primary
+    primary-no e no15 no13 = rw (rw (rep .kinds at) at e, is-false toks at rep 15 no15, is-false toks at rep 13 no13, primary)
+
     pub primary-address : kindAt toks at ≡ 15 → primary ts at s ≡ address ts at s
     unfolding primary
     primary-address e = let k = kind-is toks at rep 15 e in rw (k, primary)

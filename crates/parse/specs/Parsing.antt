@@ -1,7 +1,7 @@
 -- How the parser's tables and answers stand for contents and trees.
 use Prim.Native.Nat.{ℕ, _+_, _*_, _≤_}
 use mathlib.Core.Path.{_≡_}
-use mathlib.Core.Bool.{Bool, true, false, _&&_}
+use mathlib.Core.Bool.{Bool, true, false, _&&_, _||_}
 use mathlib.Core.List.{List, [], _∷_, _++_}
 use lib.Dec.{eqb, leb}
 use lib.ListN.{length, getD}
@@ -25,6 +25,10 @@ use Rattle.parse.specs.declared.PortIs.the-variants.{Good, TooLarge, Not
 -- the kind of the token with an index: `Eof` past the last whole row
 unfoldable pub kindAt : List ℕ → ℕ → ℕ
 kindAt toks at = if′ (leb (7 * at + 7) (length toks)) (getD toks (7 * at) 0) 1
+
+-- a bool, a string or an integer
+abbrev pub literalKind : ℕ → Bool
+literalKind n = eqb n 14 || (eqb n 16 || (eqb n 17 || eqb n 18))
 
 abbrev pub portAs : Port → PortIs
 portAs port = Good

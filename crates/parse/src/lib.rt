@@ -8,7 +8,7 @@ ghost use Prim.Native.Nat.{ℕ, _+_, _*_, _<_, _≤_};
 ghost use lib.ListN.{length, getD};
 ghost use Rattle.language.specs.Tokens.{Content};
 ghost use Rattle.language.specs.Sentences.{Expr, Stmt, Node, node, mostSteps, primary, address, named′, links, chainAt, slashes, exprAt, listAt, ended, importAt, letAt, stmtAt, program};
-ghost use Rattle.parse.specs.Parsing.{kindAt, portAt, portAs, portTokOf, isNamed, argKind, valueFrom, Room, Rep, Holds, Pushes, Stands, withStmt, exprStmt, After, AfterExpr, MetExpr, MetArgs, MetStmt, MetAll, Ahead, AheadList};
+ghost use Rattle.parse.specs.Parsing.{kindAt, literalKind, portAt, portAs, portTokOf, isNamed, argKind, valueFrom, Room, Rep, Holds, Pushes, Stands, withStmt, exprStmt, After, AfterExpr, MetExpr, MetArgs, MetStmt, MetAll, Ahead, AheadList};
 
 use wide::Wide;
 
@@ -216,21 +216,29 @@ fn address(toks: &[u64], nodes: &mut [u64], at: usize, count: usize, steps: usiz
     }
 }
 
+// A bool, a string or an integer.
+fn is_literal(kind: u64) -> bool
+    ensures { λ r. ⌜ r ≡ literalKind kind ⌝ }
+{
+    (kind == 14) | ((kind == 16) | ((kind == 17) | (kind == 18)))
+}
+
 // A literal, an address, a name or a path.
 fn primary(toks: &[u64], nodes: &mut [u64], at: usize, count: usize, steps: usize) -> Parsed
     requires { ⌜ Room (length (now toks)) at count ⌝ }
     ensures { λ r. ⌜ Ahead 1 (length (now (toks .entry))) at count steps r ⌝ }
     ensures { λ r. ⌜ After (now (toks .entry)) (now (nodes .entry)) count (λ ts ns. MetExpr r (now (nodes .exit)) ns at (primary ts at steps)) ⌝ }
 {
-    match kind_at(toks, at) {
-        14 | 16 | 17 | 18 => {
-            push(nodes, count, 2, at, 0, 0, 0);
-            Parsed::Done {
-                next: at + 1,
-                nodes: count + 1,
-                steps,
-            }
-        }
+    let kind = kind_at(toks, at);
+    if is_literal(kind) {
+        push(nodes, count, 2, at, 0, 0, 0);
+        return Parsed::Done {
+            next: at + 1,
+            nodes: count + 1,
+            steps,
+        };
+    }
+    match kind {
         15 => address(toks, nodes, at, count, steps),
         13 => {
             if kind_at(toks, at + 1) == 5 {

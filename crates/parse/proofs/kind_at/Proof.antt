@@ -1,3 +1,4 @@
+use Rattle.parse.proofs.Looks.{kind-in, kind-past}
 use borrow.Author.Needs.{needs}
 use Rattle.parse.proofs.kind_at.Statement.{statement}
 use Rattle.parse.proofs.kind_at.Tie as tie
@@ -17,10 +18,10 @@ shared-slice-read-result : tie.Need-shared-slice-read-result
 shared-slice-read-result c = search needs
 
 returns : tie.Need-returns
-returns c = ?
+returns c = kind-in _ _ (c .before .if1 .taken)
 
 returns-2 : tie.Need-returns-2
-returns-2 c = ?
+returns-2 c = kind-past _ _ (c .if1 .left)
 
 pub kind-at-spec : {M : Type 1} → statement M
 kind-at-spec =

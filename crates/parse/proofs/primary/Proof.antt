@@ -4,6 +4,7 @@ use Rattle.parse.proofs.primary.Tie as tie
 use Rattle.parse.proofs.primary.Reads as reads
 use Rattle.parse.proofs.primary.Lts as lts
 use Rattle.parse.proofs.address.Reads as address-reads
+use Rattle.parse.proofs.is_literal.Reads as is-literal-reads
 use Rattle.parse.proofs.kind_at.Reads as kind-at-reads
 use Rattle.parse.proofs.module_path.Reads as module-path-reads
 use Rattle.parse.proofs.push.Reads as push-reads
@@ -11,6 +12,24 @@ use Rattle.parse.proofs.unexpected.Reads as unexpected-reads
 
 kind-at-requires : tie.Need-kind-at-requires
 kind-at-requires c κs = search needs
+
+is-literal-requires : tie.Need-is-literal-requires
+is-literal-requires c κs = search needs
+
+push-requires : tie.Need-push-requires
+push-requires c κs = search needs
+
+add-t11 : tie.Need-add-t11
+add-t11 c = search needs
+
+add-t12 : tie.Need-add-t12
+add-t12 c = search needs
+
+same-length : tie.Need-same-length
+same-length c = search needs
+
+returns : tie.Need-returns
+returns c = ?
 
 address-requires : tie.Need-address-requires
 address-requires c κs = search needs
@@ -24,38 +43,23 @@ kind-at-requires-2 c κs = search needs
 module-path-requires : tie.Need-module-path-requires
 module-path-requires c κs = search needs
 
-same-length : tie.Need-same-length
-same-length c = search needs
-
-returns : tie.Need-returns
-returns c = ?
-
-push-requires : tie.Need-push-requires
-push-requires c κs = search needs
-
-add-t11 : tie.Need-add-t11
-add-t11 c = search needs
-
-add-t18 : tie.Need-add-t18
-add-t18 c = search needs
-
-unexpected-requires : tie.Need-unexpected-requires
-unexpected-requires c κs = search needs
-
-push-requires-2 : tie.Need-push-requires-2
-push-requires-2 c κs = search needs
-
-add-t23 : tie.Need-add-t23
-add-t23 c = search needs
-
-add-t24 : tie.Need-add-t24
-add-t24 c = search needs
-
 same-length-2 : tie.Need-same-length-2
 same-length-2 c = search needs
 
 returns-2 : tie.Need-returns-2
 returns-2 c = ?
+
+push-requires-2 : tie.Need-push-requires-2
+push-requires-2 c κs = search needs
+
+add-t17 : tie.Need-add-t17
+add-t17 c = search needs
+
+add-t24 : tie.Need-add-t24
+add-t24 c = search needs
+
+unexpected-requires : tie.Need-unexpected-requires
+unexpected-requires c κs = search needs
 
 same-length-3 : tie.Need-same-length-3
 same-length-3 c = search needs
@@ -63,11 +67,11 @@ same-length-3 c = search needs
 returns-3 : tie.Need-returns-3
 returns-3 c = ?
 
-returns-4 : tie.Need-returns-4
-returns-4 c = ?
-
 same-length-4 : tie.Need-same-length-4
 same-length-4 c = search needs
+
+returns-4 : tie.Need-returns-4
+returns-4 c = ?
 
 returns-5 : tie.Need-returns-5
 returns-5 c = ?
@@ -77,23 +81,24 @@ primary-spec =
     tie.close
     (tie.spec
     kind-at-requires
+    is-literal-requires
+    push-requires
+    add-t11
+    add-t12
+    same-length
+    returns
     address-requires
     add-kind-at
     kind-at-requires-2
     module-path-requires
-    same-length
-    returns
-    push-requires
-    add-t11
-    add-t18
-    unexpected-requires
-    push-requires-2
-    add-t23
-    add-t24
     same-length-2
     returns-2
+    push-requires-2
+    add-t17
+    add-t24
+    unexpected-requires
     same-length-3
     returns-3
-    returns-4
     same-length-4
+    returns-4
     returns-5)

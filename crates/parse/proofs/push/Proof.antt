@@ -1,3 +1,4 @@
+use Rattle.parse.proofs.Nodes.{stored}
 use borrow.Author.Needs.{needs}
 use Rattle.parse.proofs.push.Statement.{statement}
 use Rattle.parse.proofs.push.Tie as tie
@@ -15,7 +16,7 @@ same-length : tie.Need-same-length
 same-length c = search needs
 
 returns : tie.Need-returns
-returns c = ?
+returns c = stored _ _ _ _ _ _ _ _ (c .before .before .put-row .ensures)
 
 pub push-spec : {M : Type 1} → statement M
 push-spec = tie.close (tie.spec slice-aggregate-put-row put-row-requires same-length returns)
