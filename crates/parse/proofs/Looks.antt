@@ -14,7 +14,7 @@ use Rattle.wide.specs.declared.Wide.{Wide}
 use Rattle.language.specs.Tables.{contentKind}
 use Rattle.language.specs.Tokens.{Content, eof}
 use Rattle.language.specs.Sentences.{Port, port, tooLarge, notPort, portOf}
-use Rattle.parse.specs.Parsing.{kindAt, portAs, portTokOf, portOfTok, portAt, isNamed, argKind, valueFrom, Rep}
+use Rattle.parse.specs.Parsing.{kindAt, literalKind, portAs, portTokOf, portOfTok, portAt, isNamed, argKind, valueFrom, Rep}
 use Rattle.parse.specs.declared.PortTok.{PortTok}
 use Rattle.parse.specs.declared.PortTok.the-variants.{DecLiteral, Other}
 use Rattle.parse.specs.declared.PortIs.{PortIs}
@@ -57,6 +57,14 @@ module _ (toks : List ℕ) (at : ℕ) where
 
     pub is-false : (kindAt toks at ≡ n → ⊥) → eqb (contentKind (getD ts at eof)) n ≡ false
     is-false f = ne-eqb _ _ (λ q. f (rep .kinds at ∙ q))
+
+-- ---- literals
+
+pub literal-seen : {r b : Bool} {k n : ℕ} → k ≡ n → r ≡ literalKind k → r ≡ b → literalKind n ≡ b
+literal-seen e p q = rw e at (sym p ∙ q)
+
+pub literal-inside : (toks : List ℕ) (at : ℕ) → literalKind (kindAt toks at) ≡ true → 7 * at + 7 ≤ length toks
+literal-inside toks at e = row-of toks at (λ one. let z : false ≡ true = rw one at e in let y : _≡_ {A = ℕ} 0 1 = cc in omega arith)
 
 -- ---- ports
 

@@ -161,5 +161,10 @@ nodes-more k (x ∷ xs) s =
     let e : k + length (stmtNodes k x) + length (nodesFrom (k + length (stmtNodes k x)) xs) ≡ k + length (stmtNodes k x ++ nodesFrom (k + length (stmtNodes k x)) xs) = simp length-append (omega arith) in
     rw (nodes-more (k + length (stmtNodes k x)) xs s, e, append-assoc)
 
-pub all-nodes : (ss : List Stmt) (s : Stmt) → withStmt (nodesFrom 0 ss) s ≡ nodesFrom 0 (ss ++ s ∷ [])
-all-nodes ss s = let e : 0 + length (nodesFrom 0 ss) ≡ length (nodesFrom 0 ss) = omega arith in sym (rw e at (nodes-more 0 ss s))
+pub no-stmt : {t : List ℕ} → Holds t [] → (length (nodesFrom 0 []) ≡ 0) × Holds t (nodesFrom 0 [])
+unfolding nodesFrom
+no-stmt h = (refl, h)
+
+pub stmt-more : {t : List ℕ} {n : ℕ} (ss : List Stmt) (s : Stmt) → length (withStmt (nodesFrom 0 ss) s) ≡ n → Holds t (withStmt (nodesFrom 0 ss) s)
+    → (length (nodesFrom 0 (ss ++ s ∷ [])) ≡ n) × Holds t (nodesFrom 0 (ss ++ s ∷ []))
+stmt-more ss s l h = let e : 0 + length (nodesFrom 0 ss) ≡ length (nodesFrom 0 ss) = omega arith in rw (nodes-more 0 ss s, e) (l, h)

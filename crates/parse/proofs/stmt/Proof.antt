@@ -1,3 +1,6 @@
+use Rattle.parse.proofs.Looks.{seen, unseen}
+use Rattle.parse.proofs.Answers.{stmt-by}
+use Rattle.parse.proofs.Steps.{stmt-import, stmt-let, stmt-expr}
 use borrow.Author.Needs.{needs}
 use Rattle.parse.proofs.stmt.Statement.{statement}
 use Rattle.parse.proofs.stmt.Tie as tie
@@ -24,19 +27,21 @@ same-length : tie.Need-same-length
 same-length c = search needs
 
 returns : tie.Need-returns
-returns c = ?
+returns c = (c .before .before .import-stmt .ensures .0, λ ts ns rep l h. stmt-by (stmt-import rep _ (seen (c .before .before .before .before .before .kind-at .ensures) (c .before .before .before .before .match .keys1))) (c .before .before .import-stmt .ensures .1 ts ns rep l h))
 
 same-length-2 : tie.Need-same-length-2
 same-length-2 c = search needs
 
 returns-2 : tie.Need-returns-2
-returns-2 c = ?
+returns-2 c = (c .before .before .let-stmt .ensures .0, λ ts ns rep l h. stmt-by (stmt-let rep _ (seen (c .before .before .before .before .before .kind-at .ensures) (c .before .before .before .before .match .keys2))) (c .before .before .let-stmt .ensures .1 ts ns rep l h))
 
 same-length-3 : tie.Need-same-length-3
 same-length-3 c = search needs
 
 returns-3 : tie.Need-returns-3
-returns-3 c = ?
+returns-3 c =
+    (c .before .before .expr-stmt .ensures .0,
+    λ ts ns rep l h. stmt-by (stmt-expr rep _ (unseen (c .before .before .before .before .before .kind-at .ensures) (c .before .before .before .before .match .rest .0 .1)) (unseen (c .before .before .before .before .before .kind-at .ensures) (c .before .before .before .before .match .rest .1))) (c .before .before .expr-stmt .ensures .1 ts ns rep l h))
 
 pub stmt-spec : {M : Type 1} → statement M
 stmt-spec =
