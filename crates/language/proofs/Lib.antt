@@ -26,3 +26,4 @@ pub mod CanonicalLines
 pub mod CanonicalJoin
 pub mod CanonicalText
 pub mod Canonical
+pub mod SentenceExamples

@@ -6,4 +6,5 @@ pub mod Lexemes
 pub mod Tokens
 pub mod Canonical
 pub mod Tables
+pub mod Sentences
 pub mod Numbers

@@ -5,13 +5,14 @@ use mathlib.Core.Bool.{Bool, true, false}
 use mathlib.Core.List.{List, []}
 use mathlib.Core.Option.{Option, none, some}
 use lib.Dec.{ltb, eqb}
-use lib.ListN.{length}
+use lib.ListN.{length, getD}
 use Rattle.table.specs.Table.{tabled}
 use Rattle.language.specs.Choice.{if′}
 use Rattle.language.specs.Utf8.{firstBad}
 use Rattle.language.specs.Lexemes.{Placed, scan}
 use Rattle.language.specs.Tables.{lexemeRow, lexemeWidth, tokenRow, tokenWidth, errorKind, errorChar}
-use Rattle.language.specs.Tokens.{Wrong, items, firstWrong, tokens, Place, placeOf}
+use Rattle.language.specs.Tokens.{Wrong, items, firstWrong, tokens, contents, eofToken, Place, placeOf}
+use Rattle.language.specs.Sentences.{Out, ok, no, Stmt, Node, program, nodes, nodeRow, nodeWidth}
 
 -- "source 65,536 bytes"
 abbrev pub mostBytes : ℕ
@@ -85,3 +86,47 @@ lexAnswer s room =
 -- a table of n words as lex leaves it: on success the tokens, on refusal nothing, and zeros
 unfoldable pub lexTable : List ℕ → ℕ → List ℕ
 lexTable s n = tabled tokenRow tokenWidth n (if′ (eqb (lexAnswer s (n / tokenWidth) .verdict .number) 0) (tokens s) [])
+
+-- ---- parse
+
+pub record Parsed : Type 0 where
+  pub verdict : Verdict
+  pub tokens : ℕ
+  pub nodes : ℕ
+
+abbrev pub parsed : Verdict → ℕ → ℕ → Parsed
+parsed v t n = record { verdict = v; tokens = t; nodes = n }
+
+-- the place of the token with an index; past the end that of `Eof`
+abbrev pub tokenPlace : List ℕ → ℕ → Place
+tokenPlace s at = record { line = getD (tokens s) at (eofToken s) .line; column = getD (tokens s) at (eofToken s) .column }
+
+-- "nodes exceed the room"
+abbrev pub parsedWithin : ℕ → ℕ → ℕ → Parsed
+parsedWithin room t n = if′ (ltb room n) (parsed (verdict 6 0 0) 0 0) (parsed (verdict 0 0 0) t n)
+
+-- 5 or 7 at its token, or the nodes
+abbrev pub parsedAs : List ℕ → ℕ → ℕ → Out (List Stmt) → Parsed
+parsedAs s room t (ok ss at x) = parsedWithin room t (length (nodes ss))
+parsedAs s room t (no n k at) =
+    parsed (record { number = n; kind = k; line = tokenPlace s at .line; column = tokenPlace s at .column; character = 0 }) 0 0
+
+-- "parse 1 to 7": where lexing refuses, that; "6 only when neither 5 nor 7 holds"
+unfoldable pub parseAnswer : List ℕ → ℕ → ℕ → Parsed
+parseAnswer s tokenRoom nodeRoom =
+    let l = lexAnswer s tokenRoom in
+    if′ (eqb (l .verdict .number) 0) (parsedAs s nodeRoom (l .count) (program (contents (tokens s)))) (parsed (l .verdict) 0 0)
+
+abbrev pub parsedNodes : Out (List Stmt) → List Node
+parsedNodes (ok ss at x) = nodes ss
+parsedNodes (no n k at) = []
+
+-- the token table of t words and the node table of n words as parse leaves them
+unfoldable pub parseTokens : List ℕ → ℕ → ℕ → List ℕ
+parseTokens s t n =
+    tabled tokenRow tokenWidth t (if′ (eqb (parseAnswer s (t / tokenWidth) (n / nodeWidth) .verdict .number) 0) (tokens s) [])
+
+unfoldable pub parseNodes : List ℕ → ℕ → ℕ → List ℕ
+parseNodes s t n =
+    tabled nodeRow nodeWidth n
+    (if′ (eqb (parseAnswer s (t / tokenWidth) (n / nodeWidth) .verdict .number) 0) (parsedNodes (program (contents (tokens s)))) [])

@@ -1,0 +1,5 @@
+-- The laws that the proofs of the functions cite.
+pub mod Nodes
+pub mod Answers
+pub mod Looks
+pub mod Steps

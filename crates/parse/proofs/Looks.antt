@@ -1,0 +1,141 @@
+-- What the code sees of a token: its kind, whether it is a port, whether it names an argument.
+use mathlib.Core.Path.{_≡_, refl, sym, ap, _∙_}
+use mathlib.Core.Bool.{Bool, true, false, _&&_}
+use mathlib.Core.Logic.{_⊎_, inl, inr}
+use mathlib.Core.List.{List}
+use Prim.Native.Nat.{ℕ, zero, suc, _+_, _*_, _≤_, _<_}
+use native.Mathlib.Omega.{arith}
+use native.Mathlib.Decide.{decLe}
+use borrow.Author.Tests.{eq-eqb, ne-eqb, le-leb, lt-leb, eqb-true, eqb-false}
+use denote.Enum.Declared.{tagOf}
+use lib.Dec.{eqb}
+use lib.ListN.{length, getD}
+use Rattle.wide.specs.declared.Wide.{Wide}
+use Rattle.language.specs.Tables.{contentKind}
+use Rattle.language.specs.Tokens.{Content, eof}
+use Rattle.language.specs.Sentences.{Port, port, tooLarge, notPort, portOf}
+use Rattle.parse.specs.Parsing.{kindAt, literalKind, portAs, portTokOf, portOfTok, portAt, isNamed, argKind, valueFrom, Rep}
+use Rattle.parse.specs.declared.PortTok.{PortTok}
+use Rattle.parse.specs.declared.PortTok.the-variants.{DecLiteral, Other}
+use Rattle.parse.specs.declared.PortIs.{PortIs}
+use Rattle.parse.specs.declared.PortIs.the-variants.{Good, TooLarge, NotPort}
+
+-- ---- kinds
+
+-- the number r that the code has seen is what stands there
+pub seen : {r k n : ℕ} → r ≡ k → r ≡ n → k ≡ n
+seen p q = sym p ∙ q
+
+pub unseen : {r k n : ℕ} → r ≡ k → (r ≡ n → ⊥) → k ≡ n → ⊥
+unseen p f q = f (p ∙ q)
+
+module _ (toks : List ℕ) (at : ℕ) where
+  pub kind-in : 7 * at + 7 ≤ length toks → getD toks (7 * at) 0 ≡ kindAt toks at
+  unfolding kindAt
+  kind-in h = rw (le-leb _ _ h)
+
+  pub kind-past : length toks < 7 * at + 7 → 1 ≡ kindAt toks at
+  unfolding kindAt
+  kind-past h = rw (lt-leb _ _ h)
+
+  -- a token that is not `Eof` has a row
+  pub inside : (n : ℕ) → kindAt toks at ≡ suc (suc n) → 7 * at + 7 ≤ length toks
+  inside n e = elim (decLe (7 * at + 7) (length toks)) [
+    | yes h ↦ h
+    | no h ↦ let one = kind-past (omega arith) in absurd (omega (arith, one, e))
+  ]
+
+  pub row-of : (kindAt toks at ≡ 1 → ⊥) → 7 * at + 7 ≤ length toks
+  row-of some = elim (decLe (7 * at + 7) (length toks)) [ yes h ↦ h | no h ↦ absurd (some (sym (kind-past (omega arith)))) ]
+
+  module _ {ts : List Content} (rep : Rep toks ts) (n : ℕ) where
+    pub kind-is : kindAt toks at ≡ n → contentKind (getD ts at eof) ≡ n
+    kind-is e = sym (rep .kinds at) ∙ e
+
+    pub is-true : kindAt toks at ≡ n → eqb (contentKind (getD ts at eof)) n ≡ true
+    is-true e = eq-eqb _ _ (kind-is e)
+
+    pub is-false : (kindAt toks at ≡ n → ⊥) → eqb (contentKind (getD ts at eof)) n ≡ false
+    is-false f = ne-eqb _ _ (λ q. f (rep .kinds at ∙ q))
+
+-- ---- literals
+
+pub literal-seen : {r b : Bool} {k n : ℕ} → k ≡ n → r ≡ literalKind k → r ≡ b → literalKind n ≡ b
+literal-seen e p q = rw e at (sym p ∙ q)
+
+pub literal-inside : (toks : List ℕ) (at : ℕ) → literalKind (kindAt toks at) ≡ true → 7 * at + 7 ≤ length toks
+literal-inside toks at e = row-of toks at (λ one. let z : false ≡ true = rw one at e in let y : _≡_ {A = ℕ} 0 1 = cc in omega arith)
+
+-- ---- ports
+
+pub port-other : (kind lo hi : ℕ) → (kind ≡ 18 → ⊥) → Other ≡ portTokOf kind lo hi
+unfolding portTokOf
+port-other kind lo hi f = rw (ne-eqb _ _ f)
+
+pub port-dec : (kind lo hi : ℕ) → kind ≡ 18 → DecLiteral (record { hi = hi; lo = lo }) ≡ portTokOf kind lo hi
+unfolding portTokOf
+port-dec kind lo hi e = rw (eq-eqb _ _ e)
+
+module _ (t : PortTok) (toks : List ℕ) (at : ℕ) (e : t ≡ portTokOf (kindAt toks at) (getD toks (7 * at + 5) 0) (getD toks (7 * at + 6) 0)) where
+  port-at : portOfTok t ≡ portAt toks at
+  unfolding portAt
+  port-at = rw e
+
+  pub port-not : t ≡ Other → NotPort ≡ portAs (portAt toks at)
+  unfolding portOfTok
+  port-not q = ap portAs (sym (ap portOfTok q) ∙ port-at)
+
+  module _ (v : Wide) (q : t ≡ DecLiteral v) where
+    pub port-good : v .hi ≡ 0 → v .lo ≤ 65535 → Good ≡ portAs (portAt toks at)
+    unfolding portOfTok
+    port-good z h = rw (← port-at, q) (rw (eq-eqb _ _ z, le-leb _ _ h) refl)
+
+    pub port-large : v .hi ≡ 0 → 65535 < v .lo → TooLarge ≡ portAs (portAt toks at)
+    unfolding portOfTok
+    port-large z h = rw (← port-at, q) (rw (eq-eqb _ _ z, lt-leb _ _ h) refl)
+
+    pub port-huge : (v .hi ≡ 0 → ⊥) → TooLarge ≡ portAs (portAt toks at)
+    unfolding portOfTok
+    port-huge z = rw (← port-at, q) (rw (ne-eqb _ _ z) refl)
+
+-- what the code's answer says of the port
+pub is-good : (p : Port) → Good ≡ portAs p → p ≡ port
+is-good port e = refl
+is-good tooLarge e = let z : _≡_ {A = ℕ} 0 1 = cc in absurd (omega arith)
+is-good notPort e = let z : _≡_ {A = ℕ} 0 1 = cc in absurd (omega arith)
+
+pub is-large : (p : Port) → TooLarge ≡ portAs p → p ≡ tooLarge
+is-large port e = let z : _≡_ {A = ℕ} 0 1 = cc in absurd (omega arith)
+is-large tooLarge e = refl
+is-large notPort e = let z : _≡_ {A = ℕ} 0 1 = cc in absurd (omega arith)
+
+pub is-not : (p : Port) → NotPort ≡ portAs p → p ≡ notPort
+is-not port e = let z : _≡_ {A = ℕ} 0 1 = cc in absurd (omega arith)
+is-not tooLarge e = let z : _≡_ {A = ℕ} 0 1 = cc in absurd (omega arith)
+is-not notPort e = refl
+
+-- a port has a row
+pub port-inside : (toks : List ℕ) (at : ℕ) → portAt toks at ≡ port → 7 * at + 7 ≤ length toks
+unfolding portAt portTokOf portOfTok
+port-inside toks at e = row-of toks at (λ one. let z : notPort ≡ port = rw one at e in let y : _≡_ {A = ℕ} 0 1 = cc in absurd (omega arith))
+
+-- ---- the names of arguments
+
+module _ (toks : List ℕ) (at : ℕ) where
+  pub named-yes : kindAt toks at ≡ 13 → kindAt toks (at + 1) ≡ 6 → isNamed toks at ≡ true
+  unfolding isNamed
+  named-yes p q = rw (eq-eqb _ _ p, eq-eqb _ _ q)
+
+  pub named-bare : kindAt toks at ≡ 13 → (kindAt toks (at + 1) ≡ 6 → ⊥) → isNamed toks at ≡ false
+  unfolding isNamed
+  named-bare p q = rw (eq-eqb _ _ p, ne-eqb _ _ q)
+
+  pub named-no : (kindAt toks at ≡ 13 → ⊥) → isNamed toks at ≡ false
+  unfolding isNamed
+  named-no p = rw (ne-eqb _ _ p)
+
+pub head-named : (b : Bool) (at : ℕ) → b ≡ true → (10 ≡ argKind b) × (at + 2 ≡ valueFrom b at)
+head-named b at e = rw e (refl, refl)
+
+pub head-bare : (b : Bool) (at : ℕ) → b ≡ false → (9 ≡ argKind b) × (at ≡ valueFrom b at)
+head-bare b at e = rw e (refl, refl)

@@ -1,0 +1,115 @@
+use Prim.Native.Nat.{_+_}
+use mathlib.Core.Path.{refl, sym, _∙_}
+use Rattle.language.specs.Sentences.{literal, sock4}
+use Rattle.parse.proofs.Looks.{seen, unseen, inside, is-good, is-large, is-not, port-inside}
+use Rattle.parse.proofs.Nodes.{leaf-pushed}
+use Rattle.parse.proofs.Answers.{met-ok, met-no, ahead-no}
+use Rattle.parse.proofs.Steps.{address-plain, address-port, address-large, address-bad}
+use native.Mathlib.Omega.{arith}
+use borrow.Author.Needs.{needs}
+use Rattle.parse.proofs.address.Statement.{statement}
+use Rattle.parse.proofs.address.Tie as tie
+use Rattle.parse.proofs.address.Reads as reads
+use Rattle.parse.proofs.address.Lts as lts
+use Rattle.parse.proofs.kind_at.Reads as kind-at-reads
+use Rattle.parse.proofs.port.Reads as port-reads
+use Rattle.parse.proofs.push.Reads as push-reads
+use Rattle.parse.proofs.unexpected.Reads as unexpected-reads
+
+add-kind-at : tie.Need-add-kind-at
+add-kind-at c = search needs
+
+kind-at-requires : tie.Need-kind-at-requires
+kind-at-requires c κs = search needs
+
+push-requires : tie.Need-push-requires
+push-requires c κs = search needs
+
+add-t12 : tie.Need-add-t12
+add-t12 c = search needs
+
+add-t13 : tie.Need-add-t13
+add-t13 c = search needs
+
+same-length : tie.Need-same-length
+same-length c = search needs
+
+returns : tie.Need-returns
+returns c =
+    (omega (arith, inside (c .before .before .before .before .before .before .before .before .args .toks .now) (c .before .before .before .before .before .before .before .before .args .at) 13 (c .before .before .before .before .before .before .before .before .pre .1)), λ ts ns rep l h. met-ok refl (address-plain rep _ _ (unseen (c .before .before .before .before .before .kind-at .ensures) (c .before .before .before .before .if1 .taken))) (leaf-pushed (literal _) l h refl refl (c .before .before .push .ensures)))
+
+add-port : tie.Need-add-port
+add-port c = search needs
+
+port-requires : tie.Need-port-requires
+port-requires c κs = search needs
+
+enum-told : tie.Need-enum-told
+enum-told c = search needs
+
+push-requires-2 : tie.Need-push-requires-2
+push-requires-2 c κs = search needs
+
+add-t19 : tie.Need-add-t19
+add-t19 c = search needs
+
+add-t20 : tie.Need-add-t20
+add-t20 c = search needs
+
+enum-told-2 : tie.Need-enum-told-2
+enum-told-2 c = search needs
+
+add-t21 : tie.Need-add-t21
+add-t21 c = search needs
+
+enum-told-3 : tie.Need-enum-told-3
+enum-told-3 c = search needs
+
+add-unexpected : tie.Need-add-unexpected
+add-unexpected c = search needs
+
+unexpected-requires : tie.Need-unexpected-requires
+unexpected-requires c κs = search needs
+
+same-length-2 : tie.Need-same-length-2
+same-length-2 c = search needs
+
+returns-2 : tie.Need-returns-2
+returns-2 c =
+    let p = is-good _ (sym (c .before .before .before .before .enum-told .given .1) ∙ c .before .before .before .before .before .before .port .ensures) in
+    (omega (arith, port-inside (c .before .before .before .before .before .before .before .before .before .before .before .args .toks .now) (c .before .before .before .before .before .before .before .before .before .before .before .args .at + 2) p), λ ts ns rep l h. met-ok refl (address-port rep _ _ (seen (c .before .before .before .before .before .before .before .before .kind-at .ensures) (c .before .before .before .before .before .before .before .if1 .left)) p) (leaf-pushed (sock4 _) l h refl refl (c .before .before .push2 .ensures)))
+
+returns-3 : tie.Need-returns-3
+returns-3 c =
+    (ahead-no refl (omega arith), λ ts ns rep l h. met-no refl (address-large rep _ _ (seen (c .before .before .before .before .kind-at .ensures) (c .before .before .before .if1 .left)) (is-large _ (sym (c .enum-told2 .given .1) ∙ c .before .before .port .ensures))))
+
+returns-4 : tie.Need-returns-4
+returns-4 c =
+    (ahead-no (c .unexpected .ensures) (omega arith), λ ts ns rep l h. met-no (c .unexpected .ensures) (address-bad rep _ _ (seen (c .before .before .before .before .before .kind-at .ensures) (c .before .before .before .before .if1 .left)) (is-not _ (sym (c .before .enum-told3 .given .1) ∙ c .before .before .before .port .ensures))))
+
+pub address-spec : {M : Type 1} → statement M
+address-spec =
+    tie.close
+    (tie.spec
+    add-kind-at
+    kind-at-requires
+    push-requires
+    add-t12
+    add-t13
+    same-length
+    returns
+    add-port
+    port-requires
+    enum-told
+    push-requires-2
+    add-t19
+    add-t20
+    enum-told-2
+    add-t21
+    enum-told-3
+    add-unexpected
+    unexpected-requires
+    same-length-2
+    returns-2
+    returns-3
+    returns-4)

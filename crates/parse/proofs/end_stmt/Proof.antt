@@ -1,0 +1,55 @@
+use mathlib.Core.Path.{refl}
+use Rattle.parse.proofs.Looks.{seen, unseen, inside}
+use Rattle.parse.proofs.Nodes.{grown}
+use Rattle.parse.proofs.Answers.{stmt-ok, stmt-no, ahead-no}
+use Rattle.parse.proofs.Steps.{ended-ok, ended-no}
+use native.Mathlib.Omega.{arith}
+use borrow.Author.Needs.{needs}
+use Rattle.parse.proofs.end_stmt.Statement.{statement}
+use Rattle.parse.proofs.end_stmt.Tie as tie
+use Rattle.parse.proofs.end_stmt.Reads as reads
+use Rattle.parse.proofs.end_stmt.Lts as lts
+use Rattle.parse.proofs.kind_at.Reads as kind-at-reads
+use Rattle.parse.proofs.push.Reads as push-reads
+use Rattle.parse.proofs.unexpected.Reads as unexpected-reads
+
+kind-at-requires : tie.Need-kind-at-requires
+kind-at-requires c κs = search needs
+
+unexpected-requires : tie.Need-unexpected-requires
+unexpected-requires c κs = search needs
+
+returns : tie.Need-returns
+returns c =
+    (ahead-no (c .unexpected .ensures) (omega arith), λ ts ms rep l h ns s e. stmt-no (c .unexpected .ensures) (ended-no rep s _ (unseen (c .before .before .kind-at .ensures) (c .before .if1 .taken))))
+
+push-requires : tie.Need-push-requires
+push-requires c κs = search needs
+
+add-t13 : tie.Need-add-t13
+add-t13 c = search needs
+
+add-t14 : tie.Need-add-t14
+add-t14 c = search needs
+
+same-length : tie.Need-same-length
+same-length c = search needs
+
+returns-2 : tie.Need-returns-2
+returns-2 c =
+    let is7 = seen (c .before .before .before .before .before .kind-at .ensures) (c .before .before .before .before .if1 .left) in
+    (omega (arith, inside (c .before .before .before .before .before .before .before .before .args .toks .now) (c .before .before .before .before .before .before .before .before .args .at) 5 is7),
+    λ ts ms rep l h ns s e. let g = grown (c .before .before .push .ensures) l h e in stmt-ok refl (ended-ok rep s _ is7) (g .0) (g .1))
+
+pub end-stmt-spec : {M : Type 1} → statement M
+end-stmt-spec =
+    tie.close
+    (tie.spec
+    kind-at-requires
+    unexpected-requires
+    returns
+    push-requires
+    add-t13
+    add-t14
+    same-length
+    returns-2)

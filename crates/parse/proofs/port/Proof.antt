@@ -1,0 +1,33 @@
+use Rattle.parse.proofs.Looks.{port-not, port-good, port-large, port-huge}
+use borrow.Author.Needs.{needs}
+use Rattle.parse.proofs.port.Statement.{statement}
+use Rattle.parse.proofs.port.Tie as tie
+use Rattle.parse.proofs.port.Reads as reads
+use Rattle.parse.proofs.port.Lts as lts
+use Rattle.parse.proofs.port_tok.Reads as port-tok-reads
+
+port-tok-requires : tie.Need-port-tok-requires
+port-tok-requires c κs = search needs
+
+enum-known-tok : tie.Need-enum-known-tok
+enum-known-tok c = search needs
+
+enum-told : tie.Need-enum-told
+enum-told c = search needs
+
+returns : tie.Need-returns
+returns c = port-not _ _ _ (c .before .before .port-tok .ensures) (c .enum-told .given .1)
+
+returns-2 : tie.Need-returns-2
+returns-2 c = port-good _ _ _ (c .before .before .before .before .before .before .before .port-tok .ensures) _ (c .before .before .before .before .before .tok .given .1) (c .before .before .if1 .taken) (c .if2 .taken)
+
+returns-3 : tie.Need-returns-3
+returns-3 c = port-large _ _ _ (c .before .before .before .before .before .before .before .port-tok .ensures) _ (c .before .before .before .before .before .tok .given .1) (c .before .before .if1 .taken) (c .if2 .left)
+
+returns-4 : tie.Need-returns-4
+returns-4 c = port-huge _ _ _ (c .before .before .before .before .before .port-tok .ensures) _ (c .before .before .before .tok .given .1) (c .if1 .left)
+
+pub port-spec : {M : Type 1} → statement M
+port-spec =
+    tie.close
+    (tie.spec port-tok-requires enum-known-tok enum-told returns returns-2 returns-3 returns-4)

@@ -1,0 +1,59 @@
+use Rattle.parse.proofs.Looks.{seen, unseen}
+use Rattle.parse.proofs.Answers.{stmt-by}
+use Rattle.parse.proofs.Steps.{stmt-import, stmt-let, stmt-expr}
+use borrow.Author.Needs.{needs}
+use Rattle.parse.proofs.stmt.Statement.{statement}
+use Rattle.parse.proofs.stmt.Tie as tie
+use Rattle.parse.proofs.stmt.Reads as reads
+use Rattle.parse.proofs.stmt.Lts as lts
+use Rattle.parse.proofs.expr_stmt.Reads as expr-stmt-reads
+use Rattle.parse.proofs.import_stmt.Reads as import-stmt-reads
+use Rattle.parse.proofs.kind_at.Reads as kind-at-reads
+use Rattle.parse.proofs.let_stmt.Reads as let-stmt-reads
+
+kind-at-requires : tie.Need-kind-at-requires
+kind-at-requires c κs = search needs
+
+import-stmt-requires : tie.Need-import-stmt-requires
+import-stmt-requires c κs = search needs
+
+let-stmt-requires : tie.Need-let-stmt-requires
+let-stmt-requires c κs = search needs
+
+expr-stmt-requires : tie.Need-expr-stmt-requires
+expr-stmt-requires c κs = search needs
+
+same-length : tie.Need-same-length
+same-length c = search needs
+
+returns : tie.Need-returns
+returns c = (c .before .before .import-stmt .ensures .0, λ ts ns rep l h. stmt-by (stmt-import rep _ (seen (c .before .before .before .before .before .kind-at .ensures) (c .before .before .before .before .match .keys1))) (c .before .before .import-stmt .ensures .1 ts ns rep l h))
+
+same-length-2 : tie.Need-same-length-2
+same-length-2 c = search needs
+
+returns-2 : tie.Need-returns-2
+returns-2 c = (c .before .before .let-stmt .ensures .0, λ ts ns rep l h. stmt-by (stmt-let rep _ (seen (c .before .before .before .before .before .kind-at .ensures) (c .before .before .before .before .match .keys2))) (c .before .before .let-stmt .ensures .1 ts ns rep l h))
+
+same-length-3 : tie.Need-same-length-3
+same-length-3 c = search needs
+
+returns-3 : tie.Need-returns-3
+returns-3 c =
+    (c .before .before .expr-stmt .ensures .0,
+    λ ts ns rep l h. stmt-by (stmt-expr rep _ (unseen (c .before .before .before .before .before .kind-at .ensures) (c .before .before .before .before .match .rest .0 .1)) (unseen (c .before .before .before .before .before .kind-at .ensures) (c .before .before .before .before .match .rest .1))) (c .before .before .expr-stmt .ensures .1 ts ns rep l h))
+
+pub stmt-spec : {M : Type 1} → statement M
+stmt-spec =
+    tie.close
+    (tie.spec
+    kind-at-requires
+    import-stmt-requires
+    let-stmt-requires
+    expr-stmt-requires
+    same-length
+    returns
+    same-length-2
+    returns-2
+    same-length-3
+    returns-3)

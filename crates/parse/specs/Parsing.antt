@@ -1,0 +1,164 @@
+-- How the parser's tables and answers stand for contents and trees.
+use Prim.Native.Nat.{ℕ, _+_, _*_, _≤_}
+use mathlib.Core.Path.{_≡_}
+use mathlib.Core.Bool.{Bool, true, false, _&&_, _||_}
+use mathlib.Core.List.{List, [], _∷_, _++_}
+use lib.Dec.{eqb, leb}
+use lib.ListN.{length, getD}
+use Rattle.table.specs.Table.{tabled}
+use Rattle.wide.specs.declared.Wide.{Wide}
+use Rattle.language.specs.Choice.{if′}
+use Rattle.language.specs.Tables.{contentKind}
+use Rattle.language.specs.Tokens.{Content, eof}
+use Rattle.language.specs.Sentences.{Expr, Args, given, named, Stmt, expr′, firstOf, Port, port, tooLarge, notPort, portOf, Out, ok, no, andThen, mostLists, exprAt, ended, Node, node, exprNodes, argNodes, lastOf, stmtNodes, nodes, nodeRow, nodeWidth}
+use Rattle.parse.specs.declared.Parsed.{Parsed}
+use Rattle.parse.specs.declared.Parsed.the-variants.{Done, Refused}
+use Rattle.parse.specs.declared.Listed.{Listed}
+use Rattle.parse.specs.declared.Listed.the-variants as listed
+use Rattle.parse.specs.declared.PortTok.{PortTok}
+use Rattle.parse.specs.declared.PortTok.the-variants.{DecLiteral, Other}
+use Rattle.parse.specs.declared.PortIs.{PortIs}
+use Rattle.parse.specs.declared.PortIs.the-variants.{Good, TooLarge, NotPort}
+
+-- ---- tokens
+
+-- the kind of the token with an index: `Eof` past the last whole row
+unfoldable pub kindAt : List ℕ → ℕ → ℕ
+kindAt toks at = if′ (leb (7 * at + 7) (length toks)) (getD toks (7 * at) 0) 1
+
+-- a bool, a string or an integer
+abbrev pub literalKind : ℕ → Bool
+literalKind n = eqb n 14 || (eqb n 16 || (eqb n 17 || eqb n 18))
+
+abbrev pub portAs : Port → PortIs
+portAs port = Good
+portAs tooLarge = TooLarge
+portAs notPort = NotPort
+
+-- a token's kind and value, where a port is expected
+unfoldable pub portTokOf : ℕ → ℕ → ℕ → PortTok
+portTokOf kind lo hi = if′ (eqb kind 18) (DecLiteral (record { hi = hi; lo = lo })) Other
+
+unfoldable pub portOfTok : PortTok → Port
+portOfTok (DecLiteral v) = if′ (eqb (v .hi) 0) (if′ (leb (v .lo) 65535) port tooLarge) tooLarge
+portOfTok Other = notPort
+
+unfoldable pub portAt : List ℕ → ℕ → Port
+portAt toks at = portOfTok (portTokOf (kindAt toks at) (getD toks (7 * at + 5) 0) (getD toks (7 * at + 6) 0))
+
+-- the table's rows are those of tokens with these contents
+pub record Rep (toks : List ℕ) (ts : List Content) : Type 0 where
+  pub long : length toks ≡ 7 * length ts
+  pub kinds : (at : ℕ) → kindAt toks at ≡ contentKind (getD ts at eof)
+  pub ports : (at : ℕ) → portAt toks at ≡ portOf (getD ts at eof)
+
+-- a name and a `:`
+unfoldable pub isNamed : List ℕ → ℕ → Bool
+isNamed toks at = eqb (kindAt toks at) 13 && eqb (kindAt toks (at + 1)) 6
+
+abbrev pub argKind : Bool → ℕ
+argKind b = if′ b 10 9
+
+abbrev pub valueFrom : Bool → ℕ → ℕ
+valueFrom b at = if′ b (at + 2) at
+
+-- the argument that starts at a token, after others
+abbrev pub withArg : Bool → Args → ℕ → Expr → Args
+withArg b g at e = if′ b (named g at e) (given g e)
+
+-- ---- nodes
+
+-- the table holds these nodes, as many of them as fit
+pub record Holds (t : List ℕ) (ns : List Node) : Type 0 where
+  pub rows : t ≡ tabled nodeRow nodeWidth (length t) ns
+
+-- t′ holds a node more than t
+pub record Pushes (t t′ : List ℕ) (count : ℕ) (n : Node) : Type 0 where
+  pub one : (ns : List Node) → length ns ≡ count → Holds t ns → Holds t′ (ns ++ n ∷ [])
+
+-- the nodes of an expression after those that are there
+abbrev pub withExpr : List Node → Expr → List Node
+withExpr ns e = ns ++ exprNodes (length ns) e
+
+abbrev pub withArgs : List Node → Args → List Node
+withArgs ns g = ns ++ argNodes (length ns) g
+
+abbrev pub withStmt : List Node → Stmt → List Node
+withStmt ns s = ns ++ stmtNodes (length ns) s
+
+-- the table t holds an expression that starts at a token, after the nodes ns: `count` nodes in all
+pub record Stands (t : List ℕ) (ns : List Node) (e : Expr) (count first : ℕ) : Type 0 where
+  pub long : length (withExpr ns e) ≡ count
+  pub held : Holds t (withExpr ns e)
+  pub starts : firstOf e ≡ first
+
+-- the same of arguments, with the row of the last one plus 1
+pub record Lists (t : List ℕ) (ns : List Node) (g : Args) (count last : ℕ) : Type 0 where
+  pub long : length (withArgs ns g) ≡ count
+  pub held : Holds t (withArgs ns g)
+  pub ends : lastOf (length ns) g ≡ last
+
+-- ---- answers
+
+-- what holds for all contents that the tokens stand for, and all nodes that are there
+abbrev pub After : List ℕ → List ℕ → ℕ → (List Content → List Node → Type 0) → Type 0
+After toks t count P = (ts : List Content) (ns : List Node) → Rep toks ts → length ns ≡ count → Holds t ns → P ts ns
+
+-- and for all expressions that were parsed before
+abbrev pub AfterExpr : List ℕ → List ℕ → ℕ → ℕ → (List Content → List Node → Expr → Type 0) → Type 0
+AfterExpr toks t count first P = (ts : List Content) (ns : List Node) (e : Expr) → Rep toks ts → Stands t ns e count first → P ts ns e
+
+-- r is the code's answer and t its table, where the definition gives an outcome, after the nodes ns
+abbrev pub ExprOf : Parsed → List ℕ → List Node → ℕ → Out Expr → Type 0
+ExprOf r t ns first (ok e at s) = (n : ℕ) × (r ≡ Done at n s) × Stands t ns e n first
+ExprOf r t ns first (no n k at) = r ≡ Refused n k at
+
+pub record MetExpr (r : Parsed) (t : List ℕ) (ns : List Node) (first : ℕ) (o : Out Expr) : Type 0 where
+  pub met : ExprOf r t ns first o
+
+abbrev pub ArgsOf : Listed → List ℕ → List Node → Out Args → Type 0
+ArgsOf r t ns (ok g at s) = (n : ℕ) × (last : ℕ) × (r ≡ listed.Done at n last) × Lists t ns g n last
+ArgsOf r t ns (no n k at) = r ≡ listed.Refused n k at
+
+pub record MetArgs (r : Listed) (t : List ℕ) (ns : List Node) (o : Out Args) : Type 0 where
+  pub met : ArgsOf r t ns o
+
+abbrev pub StmtOf : Parsed → List ℕ → List Node → Out Stmt → Type 0
+StmtOf r t ns (ok s at x) = (r ≡ Done at (length (withStmt ns s)) 0) × Holds t (withStmt ns s)
+StmtOf r t ns (no n k at) = r ≡ Refused n k at
+
+pub record MetStmt (r : Parsed) (t : List ℕ) (ns : List Node) (o : Out Stmt) : Type 0 where
+  pub met : StmtOf r t ns o
+
+-- an expression and its `;`, which `stmtAt` has no name for
+abbrev pub exprStmt : List Content → ℕ → Out Stmt
+exprStmt ts at = andThen (exprAt ts mostLists at) (λ e next x. ended ts (expr′ e) next)
+
+abbrev pub AllOf : Parsed → List ℕ → Out (List Stmt) → Type 0
+AllOf r t (ok ss at x) = (r ≡ Done at (length (nodes ss)) 0) × Holds t (nodes ss)
+AllOf r t (no n k at) = r ≡ Refused n k at
+
+pub record MetAll (r : Parsed) (t : List ℕ) (o : Out (List Stmt)) : Type 0 where
+  pub met : AllOf r t o
+
+-- ---- how far the code went: numbers alone, for safety
+
+-- where a part of the grammar starts: a token, in a table of so many words, and how many nodes there are
+abbrev pub Room : ℕ → ℕ → ℕ → Type 0
+Room len at count = (7 * at ≤ len) × (len ≤ 458759) × (count ≤ 2 * at)
+
+-- from the token `at` with `count` nodes and some steps it went on by d tokens and d nodes at least, and by at most two
+-- nodes for each token
+abbrev pub AheadOf : ℕ → ℕ → ℕ → ℕ → ℕ → Parsed → Type 0
+AheadOf d len at count steps (Done next n left) = (at + d ≤ next) × (7 * next ≤ len) × (count + d ≤ n) × (n + 2 * at ≤ count + 2 * next) × (left ≤ steps)
+AheadOf d len at count steps (Refused n k a) = a ≤ len + 3
+
+pub record Ahead (d len at count steps : ℕ) (r : Parsed) : Type 0 where
+  pub on : AheadOf d len at count steps r
+
+abbrev pub AheadArgs : ℕ → ℕ → ℕ → Listed → Type 0
+AheadArgs len at count (listed.Done next n last) = (at + 2 ≤ next) × (7 * next ≤ len) × (count ≤ n) × (n + 2 * at + 2 ≤ count + 2 * next) × (last ≤ n)
+AheadArgs len at count (listed.Refused n k a) = a ≤ len + 3
+
+pub record AheadList (len at count : ℕ) (r : Listed) : Type 0 where
+  pub on : AheadArgs len at count r

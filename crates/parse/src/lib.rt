@@ -1,0 +1,660 @@
+// The parser: trees as flat nodes. Ports parse.rs and ast.rs; the definitions are `Sentences` of the crate `language`.
+// A node is stored after its children, so a child is named by its row, which is always a smaller number. A store past the
+// table's end is lost, and every node is counted. Expressions and lists of arguments call each other: each list that is
+// opened leaves one list less to open.
+ghost use mathlib.Core.Path.{_≡_};
+ghost use mathlib.Core.List.{List, [], _∷_, _++_};
+ghost use Prim.Native.Nat.{ℕ, _+_, _*_, _<_, _≤_};
+ghost use lib.ListN.{length, getD};
+ghost use Rattle.language.specs.Tokens.{Content};
+ghost use Rattle.language.specs.Sentences.{Expr, Stmt, Node, node, mostSteps, primary, address, named′, links, chainAt, slashes, exprAt, listAt, ended, importAt, letAt, stmtAt, program};
+ghost use Rattle.parse.specs.Parsing.{kindAt, literalKind, portAt, portAs, portTokOf, isNamed, argKind, valueFrom, Room, Rep, Holds, Pushes, Stands, withStmt, exprStmt, After, AfterExpr, MetExpr, MetArgs, MetStmt, MetAll, Ahead, AheadList};
+
+use wide::Wide;
+
+// What a part of the grammar came to: the next token, how many nodes there are then and the steps that are left; or a
+// refusal: its number, which kind of it, and its token.
+pub enum Parsed {
+    Done {
+        next: usize,
+        nodes: usize,
+        steps: usize,
+    },
+    Refused {
+        number: u64,
+        kind: u64,
+        at: usize,
+    },
+}
+
+// The same for a list of arguments, with the row of the last one plus 1, 0 where there is none.
+pub enum Listed {
+    Done {
+        next: usize,
+        nodes: usize,
+        last: usize,
+    },
+    Refused {
+        number: u64,
+        kind: u64,
+        at: usize,
+    },
+}
+
+// A token where a port is expected.
+pub enum PortTok {
+    DecLiteral(Wide),
+    Other,
+}
+
+pub enum PortIs {
+    Good,
+    TooLarge,
+    NotPort,
+}
+
+// How an argument begins: the kind of its node, and the token where its value starts.
+pub struct ArgHead {
+    pub kind: u64,
+    pub value: usize,
+}
+
+pub struct Parser {}
+
+impl Parser {
+    // How many steps one expression may have, and how many lists may be open at once.
+    pub const MOST_STEPS: usize = 64;
+    pub const MOST_LISTS: usize = 32;
+    // How many words a row of the node table has.
+    pub const ROW_WORDS: usize = 5;
+}
+
+// ---- tokens
+
+// The kind of a token: `Eof` past the last row.
+fn kind_at(toks: &[u64], at: usize) -> u64
+    requires { ⌜ at ≤ 4294967296 ⌝ }
+    ensures { λ r. ⌜ r ≡ kindAt (now (toks .entry)) at ⌝ }
+{
+    let i = 7 * at;
+    if i + 7 <= toks.len() {
+        return toks[i];
+    }
+    1
+}
+
+fn port_tok(toks: &[u64], at: usize) -> PortTok
+    requires { ⌜ at ≤ 4294967296 ⌝ }
+    ensures { λ r. ⌜ r ≡ portTokOf (kindAt (now (toks .entry)) at) (getD (now (toks .entry)) (7 * at + 5) 0) (getD (now (toks .entry)) (7 * at + 6) 0) ⌝ }
+{
+    if kind_at(toks, at) != 18 {
+        return PortTok::Other;
+    }
+    let i = 7 * at;
+    PortTok::DecLiteral(Wide {
+        hi: toks[i + 6],
+        lo: toks[i + 5],
+    })
+}
+
+// The port after `ip:`, which is decimal and must fit in 16 bits.
+fn port(toks: &[u64], at: usize) -> PortIs
+    requires { ⌜ at ≤ 4294967296 ⌝ }
+    ensures { λ r. ⌜ r ≡ portAs (portAt (now (toks .entry)) at) ⌝ }
+{
+    let tok = port_tok(toks, at);
+    let PortTok::DecLiteral(v) = tok else {
+        return PortIs::NotPort;
+    };
+    if v.hi == 0 {
+        if v.lo <= 65535 {
+            return PortIs::Good;
+        }
+    }
+    PortIs::TooLarge
+}
+
+// ---- nodes and answers
+
+// Writes a node after `count` others.
+fn push(
+    nodes: &mut [u64],
+    count: usize,
+    kind: u64,
+    tok: usize,
+    first: usize,
+    second: usize,
+    third: usize,
+)
+    requires { ⌜ count ≤ 4294967296 ⌝ }
+    ensures { λ _. ⌜ Pushes (now (nodes .entry)) (now (nodes .exit)) count (node kind tok first second third) ⌝ }
+{
+    let row = [kind, tok as u64, first as u64, second as u64, third as u64];
+    table::put_row(nodes, count, &row);
+}
+
+fn unexpected(at: usize) -> Parsed
+    ensures { λ r. ⌜ r ≡ Parsed.Refused 5 1 at ⌝ }
+{
+    Parsed::Refused {
+        number: 5,
+        kind: 1,
+        at,
+    }
+}
+
+// One step or one list more than there may be.
+fn too_deep(at: usize) -> Parsed
+    ensures { λ r. ⌜ r ≡ Parsed.Refused 7 0 at ⌝ }
+{
+    Parsed::Refused {
+        number: 7,
+        kind: 0,
+        at,
+    }
+}
+
+// ---- primaries
+
+// The names of a path from its first `::` on, and the path's node. The path's first name is the token `at`.
+fn module_path(toks: &[u64], nodes: &mut [u64], at: usize, count: usize, steps: usize) -> Parsed
+    requires { ⌜ Room (length (now toks)) at count ⌝ }
+    requires { ⌜ (kindAt (now toks) at ≡ 13) × (kindAt (now toks) (at + 1) ≡ 5) ⌝ }
+    ensures { λ r. ⌜ Ahead 1 (length (now (toks .entry))) at count steps r ⌝ }
+    ensures { λ r. ⌜ After (now (toks .entry)) (now (nodes .entry)) count (λ ts ns. MetExpr r (now (nodes .exit)) ns at (named′ ts at steps)) ⌝ }
+{
+    let mut next = at + 1;
+    let mut have = count;
+    let mut names: usize = 0;
+    while kind_at(toks, next) == 5 {
+        if kind_at(toks, next + 1) != 13 {
+            return unexpected(next + 1);
+        }
+        push(nodes, have, 1, next + 1, 0, 0, 0);
+        have += 1;
+        names += 1;
+        next += 2;
+    }
+    push(nodes, have, 5, at, names, 0, 0);
+    Parsed::Done {
+        next,
+        nodes: have + 1,
+        steps,
+    }
+}
+
+// An address, and its port where a `:` follows.
+fn address(toks: &[u64], nodes: &mut [u64], at: usize, count: usize, steps: usize) -> Parsed
+    requires { ⌜ Room (length (now toks)) at count ⌝ }
+    requires { ⌜ kindAt (now toks) at ≡ 15 ⌝ }
+    ensures { λ r. ⌜ Ahead 1 (length (now (toks .entry))) at count steps r ⌝ }
+    ensures { λ r. ⌜ After (now (toks .entry)) (now (nodes .entry)) count (λ ts ns. MetExpr r (now (nodes .exit)) ns at (address ts at steps)) ⌝ }
+{
+    if kind_at(toks, at + 1) != 6 {
+        push(nodes, count, 2, at, 0, 0, 0);
+        return Parsed::Done {
+            next: at + 1,
+            nodes: count + 1,
+            steps,
+        };
+    }
+    match port(toks, at + 2) {
+        PortIs::Good => {
+            push(nodes, count, 3, at, 0, 0, 0);
+            Parsed::Done {
+                next: at + 3,
+                nodes: count + 1,
+                steps,
+            }
+        }
+        PortIs::TooLarge => Parsed::Refused {
+            number: 5,
+            kind: 2,
+            at: at + 2,
+        },
+        PortIs::NotPort => unexpected(at + 2),
+    }
+}
+
+// A bool, a string or an integer.
+fn is_literal(kind: u64) -> bool
+    ensures { λ r. ⌜ r ≡ literalKind kind ⌝ }
+{
+    (kind == 14) | ((kind == 16) | ((kind == 17) | (kind == 18)))
+}
+
+// A literal, an address, a name or a path.
+fn primary(toks: &[u64], nodes: &mut [u64], at: usize, count: usize, steps: usize) -> Parsed
+    requires { ⌜ Room (length (now toks)) at count ⌝ }
+    ensures { λ r. ⌜ Ahead 1 (length (now (toks .entry))) at count steps r ⌝ }
+    ensures { λ r. ⌜ After (now (toks .entry)) (now (nodes .entry)) count (λ ts ns. MetExpr r (now (nodes .exit)) ns at (primary ts at steps)) ⌝ }
+{
+    let kind = kind_at(toks, at);
+    if is_literal(kind) {
+        push(nodes, count, 2, at, 0, 0, 0);
+        return Parsed::Done {
+            next: at + 1,
+            nodes: count + 1,
+            steps,
+        };
+    }
+    match kind {
+        15 => address(toks, nodes, at, count, steps),
+        13 => {
+            if kind_at(toks, at + 1) == 5 {
+                return module_path(toks, nodes, at, count, steps);
+            }
+            push(nodes, count, 4, at, 0, 0, 0);
+            Parsed::Done {
+                next: at + 1,
+                nodes: count + 1,
+                steps,
+            }
+        }
+        _ => unexpected(at),
+    }
+}
+
+// ---- expressions
+
+// An expression, where `left` more lists may be opened.
+fn expr(toks: &[u64], nodes: &mut [u64], at: usize, count: usize, left: usize) -> Parsed
+    requires { ⌜ Room (length (now toks)) at count ⌝ }
+    ensures { λ r. ⌜ Ahead 1 (length (now (toks .entry))) at count mostSteps r ⌝ }
+    ensures { λ r. ⌜ After (now (toks .entry)) (now (nodes .entry)) count (λ ts ns. MetExpr r (now (nodes .exit)) ns at (exprAt ts left at)) ⌝ }
+{
+    match chain(toks, nodes, at, count, left, Parser::MOST_STEPS) {
+        Parsed::Done {
+            next,
+            nodes: n,
+            steps,
+        } => slashes(toks, nodes, next, n, left, steps, at),
+        Parsed::Refused {
+            number,
+            kind,
+            at: a,
+        } => Parsed::Refused {
+            number,
+            kind,
+            at: a,
+        },
+    }
+}
+
+// What follows the first operand: `/` and an operand, again and again. It groups to the left, so the last node so far is
+// the left operand of the next `/`. The expression starts at the token `first`.
+fn slashes(
+    toks: &[u64],
+    nodes: &mut [u64],
+    start: usize,
+    count: usize,
+    left: usize,
+    steps: usize,
+    first: usize,
+) -> Parsed
+    requires { ⌜ Room (length (now toks)) start count × (1 ≤ count) ⌝ }
+    ensures { λ r. ⌜ Ahead 0 (length (now (toks .entry))) start count steps r ⌝ }
+    ensures { λ r. ⌜ AfterExpr (now (toks .entry)) (now (nodes .entry)) count first (λ ts ns e. (k : ℕ) → steps < k → MetExpr r (now (nodes .exit)) ns first (slashes ts (chainAt ts left) k e start steps)) ⌝ }
+{
+    let mut at = start;
+    let mut have = count;
+    let mut more = steps;
+    while kind_at(toks, at) == 10 {
+        if more == 0 {
+            return too_deep(at);
+        }
+        match chain(toks, nodes, at + 1, have, left, more - 1) {
+            Parsed::Done {
+                next,
+                nodes: m,
+                steps: s,
+            } => {
+                push(nodes, m, 7, first, have - 1, m - 1, 0);
+                at = next;
+                have = m + 1;
+                more = s;
+            }
+            Parsed::Refused {
+                number,
+                kind,
+                at: a,
+            } => {
+                return Parsed::Refused {
+                    number,
+                    kind,
+                    at: a,
+                };
+            }
+        }
+    }
+    Parsed::Done {
+        next: at,
+        nodes: have,
+        steps: more,
+    }
+}
+
+// One operand of `/`.
+fn chain(
+    toks: &[u64],
+    nodes: &mut [u64],
+    at: usize,
+    count: usize,
+    left: usize,
+    steps: usize,
+) -> Parsed
+    requires { ⌜ Room (length (now toks)) at count ⌝ }
+    ensures { λ r. ⌜ Ahead 1 (length (now (toks .entry))) at count steps r ⌝ }
+    ensures { λ r. ⌜ After (now (toks .entry)) (now (nodes .entry)) count (λ ts ns. MetExpr r (now (nodes .exit)) ns at (chainAt ts left steps at)) ⌝ }
+{
+    match primary(toks, nodes, at, count, steps) {
+        Parsed::Done {
+            next,
+            nodes: n,
+            steps: s,
+        } => links(toks, nodes, next, n, left, steps, at),
+        Parsed::Refused {
+            number,
+            kind,
+            at: a,
+        } => Parsed::Refused {
+            number,
+            kind,
+            at: a,
+        },
+    }
+}
+
+// The calls and members after a primary, which bind tightest: each is a step, and has the last node so far as its callee
+// or its object.
+fn links(
+    toks: &[u64],
+    nodes: &mut [u64],
+    start: usize,
+    count: usize,
+    left: usize,
+    steps: usize,
+    first: usize,
+) -> Parsed
+    requires { ⌜ Room (length (now toks)) start count × (1 ≤ count) ⌝ }
+    ensures { λ r. ⌜ Ahead 0 (length (now (toks .entry))) start count steps r ⌝ }
+    ensures { λ r. ⌜ AfterExpr (now (toks .entry)) (now (nodes .entry)) count first (λ ts ns e. MetExpr r (now (nodes .exit)) ns first (links ts (listAt ts left) steps e start)) ⌝ }
+{
+    let mut at = start;
+    let mut have = count;
+    let mut more = steps;
+    loop {
+        let t = kind_at(toks, at);
+        if t == 2 {
+            if more == 0 {
+                return too_deep(at);
+            }
+            match list(toks, nodes, at, have, left) {
+                Listed::Done {
+                    next,
+                    nodes: m,
+                    last,
+                } => {
+                    push(nodes, m, 8, first, have - 1, last, at);
+                    at = next;
+                    have = m + 1;
+                    more -= 1;
+                }
+                Listed::Refused {
+                    number,
+                    kind,
+                    at: a,
+                } => {
+                    return Parsed::Refused {
+                        number,
+                        kind,
+                        at: a,
+                    };
+                }
+            }
+        } else if t == 4 {
+            if more == 0 {
+                return too_deep(at);
+            }
+            if kind_at(toks, at + 1) != 13 {
+                return unexpected(at + 1);
+            }
+            push(nodes, have, 6, first, have - 1, at + 1, 0);
+            at += 2;
+            have += 1;
+            more -= 1;
+        } else {
+            return Parsed::Done {
+                next: at,
+                nodes: have,
+                steps: more,
+            };
+        }
+    }
+}
+
+// ---- arguments
+
+// A bare name before `:` names its argument.
+fn arg_head(toks: &[u64], at: usize) -> ArgHead
+    requires { ⌜ (7 * at ≤ length (now toks)) × (length (now toks) ≤ 458759) ⌝ }
+    ensures { λ r. ⌜ (r .kind ≡ argKind (isNamed (now (toks .entry)) at)) × (r .value ≡ valueFrom (isNamed (now (toks .entry)) at) at) ⌝ }
+    ensures { λ r. ⌜ (at ≤ r .value) × (7 * r .value ≤ length (now (toks .entry))) ⌝ }
+{
+    if kind_at(toks, at) == 13 {
+        if kind_at(toks, at + 1) == 6 {
+            return ArgHead {
+                kind: 10,
+                value: at + 2,
+            };
+        }
+    }
+    ArgHead { kind: 9, value: at }
+}
+
+// The arguments from the `(` at `start` to its `)`. Each names the argument before it by its row plus 1.
+fn list(toks: &[u64], nodes: &mut [u64], start: usize, count: usize, left: usize) -> Listed
+    requires { ⌜ Room (length (now toks)) start count × (kindAt (now toks) start ≡ 2) ⌝ }
+    ensures { λ r. ⌜ AheadList (length (now (toks .entry))) start count r ⌝ }
+    ensures { λ r. ⌜ After (now (toks .entry)) (now (nodes .entry)) count (λ ts ns. MetArgs r (now (nodes .exit)) ns (listAt ts left start)) ⌝ }
+{
+    if left == 0 {
+        return Listed::Refused {
+            number: 7,
+            kind: 0,
+            at: start,
+        };
+    }
+    let mut at = start + 1;
+    let mut have = count;
+    let mut last: usize = 0;
+    while kind_at(toks, at) != 3 {
+        let head = arg_head(toks, at);
+        match expr(toks, nodes, head.value, have, left - 1) {
+            Parsed::Done {
+                next,
+                nodes: m,
+                steps: s,
+            } => {
+                push(nodes, m, head.kind, at, m - 1, last, 0);
+                have = m + 1;
+                last = have;
+                let t = kind_at(toks, next);
+                if t == 9 {
+                    at = next + 1;
+                } else if t == 3 {
+                    return Listed::Done {
+                        next: next + 1,
+                        nodes: have,
+                        last,
+                    };
+                } else {
+                    return Listed::Refused {
+                        number: 5,
+                        kind: 1,
+                        at: next,
+                    };
+                }
+            }
+            Parsed::Refused {
+                number,
+                kind,
+                at: a,
+            } => {
+                return Listed::Refused {
+                    number,
+                    kind,
+                    at: a,
+                };
+            }
+        }
+    }
+    Listed::Done {
+        next: at + 1,
+        nodes: have,
+        last,
+    }
+}
+
+// ---- statements
+
+// The `;` after a statement, and the statement's node.
+fn end_stmt(
+    toks: &[u64],
+    nodes: &mut [u64],
+    at: usize,
+    count: usize,
+    kind: u64,
+    tok: usize,
+    first: usize,
+) -> Parsed
+    requires { ⌜ Room (length (now toks)) at count ⌝ }
+    ensures { λ r. ⌜ Ahead 1 (length (now (toks .entry))) at count 0 r ⌝ }
+    ensures { λ r. ⌜ After (now (toks .entry)) (now (nodes .entry)) count (λ ts ms. (ns : List Node) (s : Stmt) → ms ++ node kind tok first 0 0 ∷ [] ≡ withStmt ns s → MetStmt r (now (nodes .exit)) ns (ended ts s at)) ⌝ }
+{
+    if kind_at(toks, at) != 7 {
+        return unexpected(at);
+    }
+    push(nodes, count, kind, tok, first, 0, 0);
+    Parsed::Done {
+        next: at + 1,
+        nodes: count + 1,
+        steps: 0,
+    }
+}
+
+// `import` name `;`
+fn import_stmt(toks: &[u64], nodes: &mut [u64], at: usize, count: usize) -> Parsed
+    requires { ⌜ Room (length (now toks)) at count × (kindAt (now toks) at ≡ 11) ⌝ }
+    ensures { λ r. ⌜ Ahead 1 (length (now (toks .entry))) at count 0 r ⌝ }
+    ensures { λ r. ⌜ After (now (toks .entry)) (now (nodes .entry)) count (λ ts ns. MetStmt r (now (nodes .exit)) ns (importAt ts at)) ⌝ }
+{
+    if kind_at(toks, at + 1) != 13 {
+        return unexpected(at + 1);
+    }
+    end_stmt(toks, nodes, at + 2, count, 11, at + 1, 0)
+}
+
+// `let` name `=` expression `;`
+fn let_stmt(toks: &[u64], nodes: &mut [u64], at: usize, count: usize) -> Parsed
+    requires { ⌜ Room (length (now toks)) at count × (kindAt (now toks) at ≡ 12) ⌝ }
+    ensures { λ r. ⌜ Ahead 1 (length (now (toks .entry))) at count 0 r ⌝ }
+    ensures { λ r. ⌜ After (now (toks .entry)) (now (nodes .entry)) count (λ ts ns. MetStmt r (now (nodes .exit)) ns (letAt ts at)) ⌝ }
+{
+    if kind_at(toks, at + 1) != 13 {
+        return unexpected(at + 1);
+    }
+    if kind_at(toks, at + 2) != 8 {
+        return unexpected(at + 2);
+    }
+    match expr(toks, nodes, at + 3, count, Parser::MOST_LISTS) {
+        Parsed::Done {
+            next,
+            nodes: n,
+            steps: s,
+        } => end_stmt(toks, nodes, next, n, 12, at + 1, n - 1),
+        Parsed::Refused {
+            number,
+            kind,
+            at: a,
+        } => Parsed::Refused {
+            number,
+            kind,
+            at: a,
+        },
+    }
+}
+
+// expression `;`
+fn expr_stmt(toks: &[u64], nodes: &mut [u64], at: usize, count: usize) -> Parsed
+    requires { ⌜ Room (length (now toks)) at count ⌝ }
+    ensures { λ r. ⌜ Ahead 1 (length (now (toks .entry))) at count 0 r ⌝ }
+    ensures { λ r. ⌜ After (now (toks .entry)) (now (nodes .entry)) count (λ ts ns. MetStmt r (now (nodes .exit)) ns (exprStmt ts at)) ⌝ }
+{
+    match expr(toks, nodes, at, count, Parser::MOST_LISTS) {
+        Parsed::Done {
+            next,
+            nodes: n,
+            steps: s,
+        } => end_stmt(toks, nodes, next, n, 13, at, n - 1),
+        Parsed::Refused {
+            number,
+            kind,
+            at: a,
+        } => Parsed::Refused {
+            number,
+            kind,
+            at: a,
+        },
+    }
+}
+
+fn stmt(toks: &[u64], nodes: &mut [u64], at: usize, count: usize) -> Parsed
+    requires { ⌜ Room (length (now toks)) at count ⌝ }
+    ensures { λ r. ⌜ Ahead 1 (length (now (toks .entry))) at count 0 r ⌝ }
+    ensures { λ r. ⌜ After (now (toks .entry)) (now (nodes .entry)) count (λ ts ns. MetStmt r (now (nodes .exit)) ns (stmtAt ts at)) ⌝ }
+{
+    match kind_at(toks, at) {
+        11 => import_stmt(toks, nodes, at, count),
+        12 => let_stmt(toks, nodes, at, count),
+        _ => expr_stmt(toks, nodes, at, count),
+    }
+}
+
+// The statements of a whole program. The node table starts out as zeros.
+pub fn program(toks: &[u64], nodes: &mut [u64]) -> Parsed
+    requires { ⌜ length (now toks) ≤ 458759 ⌝ }
+    ensures { λ r. ⌜ Ahead 0 (length (now (toks .entry))) 0 0 0 r ⌝ }
+    ensures { λ r. ⌜ ((ts : List Content) → Rep (now (toks .entry)) ts → Holds (now (nodes .entry)) [] → MetAll r (now (nodes .exit)) (program ts)) ⌝ }
+{
+    let mut at: usize = 0;
+    let mut have: usize = 0;
+    while kind_at(toks, at) != 1 {
+        match stmt(toks, nodes, at, have) {
+            Parsed::Done {
+                next,
+                nodes: n,
+                steps: s,
+            } => {
+                at = next;
+                have = n;
+            }
+            Parsed::Refused {
+                number,
+                kind,
+                at: a,
+            } => {
+                return Parsed::Refused {
+                    number,
+                    kind,
+                    at: a,
+                };
+            }
+        }
+    }
+    Parsed::Done {
+        next: at,
+        nodes: have,
+        steps: 0,
+    }
+}
