@@ -24,7 +24,7 @@ stored t t′ count k a b c d e = record {
   one = λ ns l h.
       let next = put-next nodeRow nodeWidth row-long (omega arith) (length t) ns (node k a b c d) in
       let q : t′ ≡ tabled nodeRow nodeWidth (length t) (ns ++ node k a b c d ∷ []) =
-          e ∙ ap (λ (x : List ℕ). putRow x count (k ∷ a ∷ b ∷ c ∷ d ∷ [])) (h .rows) ∙ (rw l at next) in
+      e ∙ ap (λ (x : List ℕ). putRow x count (k ∷ a ∷ b ∷ c ∷ d ∷ [])) (h .rows) ∙ (rw l at next) in
       record { rows = tabled-own nodeRow nodeWidth (length t) (length t′) (ns ++ node k a b c d ∷ []) q refl };
 }
 

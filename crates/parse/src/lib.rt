@@ -9,36 +9,21 @@ ghost use lib.ListN.{length, getD};
 ghost use Rattle.language.specs.Tokens.{Content};
 ghost use Rattle.language.specs.Sentences.{Expr, Stmt, Node, node, mostSteps, primary, address, named′, links, chainAt, slashes, exprAt, listAt, ended, importAt, letAt, stmtAt, program};
 ghost use Rattle.parse.specs.Parsing.{kindAt, literalKind, portAt, portAs, portTokOf, isNamed, argKind, valueFrom, Room, Rep, Holds, Pushes, Stands, withStmt, exprStmt, After, AfterExpr, MetExpr, MetArgs, MetStmt, MetAll, Ahead, AheadList};
-
 use wide::Wide;
 
-// What a part of the grammar came to: the next token, how many nodes there are then and the steps that are left; or a
-// refusal: its number, which kind of it, and its token.
+// What a part of the grammar came to.
 pub enum Parsed {
-    Done {
-        next: usize,
-        nodes: usize,
-        steps: usize,
-    },
-    Refused {
-        number: u64,
-        kind: u64,
-        at: usize,
-    },
+    // the next token, how many nodes there are then, and the steps that are left
+    Done(usize, usize, usize),
+    // a refusal: its number, which kind of it, and its token
+    Refused(u64, u64, usize),
 }
 
-// The same for a list of arguments, with the row of the last one plus 1, 0 where there is none.
+// The same of a list of arguments.
 pub enum Listed {
-    Done {
-        next: usize,
-        nodes: usize,
-        last: usize,
-    },
-    Refused {
-        number: u64,
-        kind: u64,
-        at: usize,
-    },
+    // the next token, how many nodes there are then, and the row of the last argument plus 1, 0 where there is none
+    Done(usize, usize, usize),
+    Refused(u64, u64, usize),
 }
 
 // A token where a port is expected.
@@ -59,11 +44,20 @@ pub struct ArgHead {
     pub value: usize,
 }
 
-pub struct Parser {}
+// The expression that is being parsed.
+pub struct Parser {
+    // its first token
+    pub first: usize,
+    // how many lists may still be opened
+    pub lists: usize,
+    // how many steps are left
+    pub steps: usize,
+}
 
 impl Parser {
     // How many steps one expression may have, and how many lists may be open at once.
     pub const MOST_STEPS: usize = 64;
+
     pub const MOST_LISTS: usize = 32;
     // How many words a row of the node table has.
     pub const ROW_WORDS: usize = 5;
@@ -136,22 +130,14 @@ fn push(
 fn unexpected(at: usize) -> Parsed
     ensures { λ r. ⌜ r ≡ Parsed.Refused 5 1 at ⌝ }
 {
-    Parsed::Refused {
-        number: 5,
-        kind: 1,
-        at,
-    }
+    Parsed::Refused(5, 1, at)
 }
 
 // One step or one list more than there may be.
 fn too_deep(at: usize) -> Parsed
     ensures { λ r. ⌜ r ≡ Parsed.Refused 7 0 at ⌝ }
 {
-    Parsed::Refused {
-        number: 7,
-        kind: 0,
-        at,
-    }
+    Parsed::Refused(7, 0, at)
 }
 
 // ---- primaries
@@ -176,11 +162,7 @@ fn module_path(toks: &[u64], nodes: &mut [u64], at: usize, count: usize, steps: 
         next += 2;
     }
     push(nodes, have, 5, at, names, 0, 0);
-    Parsed::Done {
-        next,
-        nodes: have + 1,
-        steps,
-    }
+    Parsed::Done(next, have + 1, steps)
 }
 
 // An address, and its port where a `:` follows.
@@ -192,26 +174,14 @@ fn address(toks: &[u64], nodes: &mut [u64], at: usize, count: usize, steps: usiz
 {
     if kind_at(toks, at + 1) != 6 {
         push(nodes, count, 2, at, 0, 0, 0);
-        return Parsed::Done {
-            next: at + 1,
-            nodes: count + 1,
-            steps,
-        };
+        return Parsed::Done(at + 1, count + 1, steps);
     }
     match port(toks, at + 2) {
         PortIs::Good => {
             push(nodes, count, 3, at, 0, 0, 0);
-            Parsed::Done {
-                next: at + 3,
-                nodes: count + 1,
-                steps,
-            }
+            Parsed::Done(at + 3, count + 1, steps)
         }
-        PortIs::TooLarge => Parsed::Refused {
-            number: 5,
-            kind: 2,
-            at: at + 2,
-        },
+        PortIs::TooLarge => Parsed::Refused(5, 2, at + 2),
         PortIs::NotPort => unexpected(at + 2),
     }
 }
@@ -232,11 +202,7 @@ fn primary(toks: &[u64], nodes: &mut [u64], at: usize, count: usize, steps: usiz
     let kind = kind_at(toks, at);
     if is_literal(kind) {
         push(nodes, count, 2, at, 0, 0, 0);
-        return Parsed::Done {
-            next: at + 1,
-            nodes: count + 1,
-            steps,
-        };
+        return Parsed::Done(at + 1, count + 1, steps);
     }
     match kind {
         15 => address(toks, nodes, at, count, steps),
@@ -245,11 +211,7 @@ fn primary(toks: &[u64], nodes: &mut [u64], at: usize, count: usize, steps: usiz
                 return module_path(toks, nodes, at, count, steps);
             }
             push(nodes, count, 4, at, 0, 0, 0);
-            Parsed::Done {
-                next: at + 1,
-                nodes: count + 1,
-                steps,
-            }
+            Parsed::Done(at + 1, count + 1, steps)
         }
         _ => unexpected(at),
     }
@@ -264,74 +226,43 @@ fn expr(toks: &[u64], nodes: &mut [u64], at: usize, count: usize, left: usize) -
     ensures { λ r. ⌜ After (now (toks .entry)) (now (nodes .entry)) count (λ ts ns. MetExpr r (now (nodes .exit)) ns at (exprAt ts left at)) ⌝ }
 {
     match chain(toks, nodes, at, count, left, Parser::MOST_STEPS) {
-        Parsed::Done {
-            next,
-            nodes: n,
-            steps,
-        } => slashes(toks, nodes, next, n, left, steps, at),
-        Parsed::Refused {
-            number,
-            kind,
-            at: a,
-        } => Parsed::Refused {
-            number,
-            kind,
-            at: a,
-        },
+        Parsed::Done(next, n, steps) => {
+            let p = Parser {
+                first: at,
+                lists: left,
+                steps,
+            };
+            slashes(toks, nodes, p, next, n)
+        }
+        Parsed::Refused(number, kind, a) => Parsed::Refused(number, kind, a),
     }
 }
 
 // What follows the first operand: `/` and an operand, again and again. It groups to the left, so the last node so far is
-// the left operand of the next `/`. The expression starts at the token `first`.
-fn slashes(
-    toks: &[u64],
-    nodes: &mut [u64],
-    start: usize,
-    count: usize,
-    left: usize,
-    steps: usize,
-    first: usize,
-) -> Parsed
+// the left operand of the next `/`.
+fn slashes(toks: &[u64], nodes: &mut [u64], p: Parser, start: usize, count: usize) -> Parsed
     requires { ⌜ Room (length (now toks)) start count × (1 ≤ count) ⌝ }
-    ensures { λ r. ⌜ Ahead 0 (length (now (toks .entry))) start count steps r ⌝ }
-    ensures { λ r. ⌜ AfterExpr (now (toks .entry)) (now (nodes .entry)) count first (λ ts ns e. (k : ℕ) → steps < k → MetExpr r (now (nodes .exit)) ns first (slashes ts (chainAt ts left) k e start steps)) ⌝ }
+    ensures { λ r. ⌜ Ahead 0 (length (now (toks .entry))) start count (p .steps) r ⌝ }
+    ensures { λ r. ⌜ AfterExpr (now (toks .entry)) (now (nodes .entry)) count (p .first) (λ ts ns e. (k : ℕ) → p .steps < k → MetExpr r (now (nodes .exit)) ns (p .first) (slashes ts (chainAt ts (p .lists)) k e start (p .steps))) ⌝ }
 {
     let mut at = start;
     let mut have = count;
-    let mut more = steps;
+    let mut more = p.steps;
     while kind_at(toks, at) == 10 {
         if more == 0 {
             return too_deep(at);
         }
-        match chain(toks, nodes, at + 1, have, left, more - 1) {
-            Parsed::Done {
-                next,
-                nodes: m,
-                steps: s,
-            } => {
-                push(nodes, m, 7, first, have - 1, m - 1, 0);
+        match chain(toks, nodes, at + 1, have, p.lists, more - 1) {
+            Parsed::Done(next, m, s) => {
+                push(nodes, m, 7, p.first, have - 1, m - 1, 0);
                 at = next;
                 have = m + 1;
                 more = s;
             }
-            Parsed::Refused {
-                number,
-                kind,
-                at: a,
-            } => {
-                return Parsed::Refused {
-                    number,
-                    kind,
-                    at: a,
-                };
-            }
+            Parsed::Refused(number, kind, a) => return Parsed::Refused(number, kind, a),
         }
     }
-    Parsed::Done {
-        next: at,
-        nodes: have,
-        steps: more,
-    }
+    Parsed::Done(at, have, more)
 }
 
 // One operand of `/`.
@@ -348,69 +279,42 @@ fn chain(
     ensures { λ r. ⌜ After (now (toks .entry)) (now (nodes .entry)) count (λ ts ns. MetExpr r (now (nodes .exit)) ns at (chainAt ts left steps at)) ⌝ }
 {
     match primary(toks, nodes, at, count, steps) {
-        Parsed::Done {
-            next,
-            nodes: n,
-            steps: s,
-        } => links(toks, nodes, next, n, left, steps, at),
-        Parsed::Refused {
-            number,
-            kind,
-            at: a,
-        } => Parsed::Refused {
-            number,
-            kind,
-            at: a,
-        },
+        Parsed::Done(next, n, _) => {
+            let p = Parser {
+                first: at,
+                lists: left,
+                steps,
+            };
+            links(toks, nodes, p, next, n)
+        }
+        Parsed::Refused(number, kind, a) => Parsed::Refused(number, kind, a),
     }
 }
 
 // The calls and members after a primary, which bind tightest: each is a step, and has the last node so far as its callee
 // or its object.
-fn links(
-    toks: &[u64],
-    nodes: &mut [u64],
-    start: usize,
-    count: usize,
-    left: usize,
-    steps: usize,
-    first: usize,
-) -> Parsed
+fn links(toks: &[u64], nodes: &mut [u64], p: Parser, start: usize, count: usize) -> Parsed
     requires { ⌜ Room (length (now toks)) start count × (1 ≤ count) ⌝ }
-    ensures { λ r. ⌜ Ahead 0 (length (now (toks .entry))) start count steps r ⌝ }
-    ensures { λ r. ⌜ AfterExpr (now (toks .entry)) (now (nodes .entry)) count first (λ ts ns e. MetExpr r (now (nodes .exit)) ns first (links ts (listAt ts left) steps e start)) ⌝ }
+    ensures { λ r. ⌜ Ahead 0 (length (now (toks .entry))) start count (p .steps) r ⌝ }
+    ensures { λ r. ⌜ AfterExpr (now (toks .entry)) (now (nodes .entry)) count (p .first) (λ ts ns e. MetExpr r (now (nodes .exit)) ns (p .first) (links ts (listAt ts (p .lists)) (p .steps) e start)) ⌝ }
 {
     let mut at = start;
     let mut have = count;
-    let mut more = steps;
+    let mut more = p.steps;
     loop {
         let t = kind_at(toks, at);
         if t == 2 {
             if more == 0 {
                 return too_deep(at);
             }
-            match list(toks, nodes, at, have, left) {
-                Listed::Done {
-                    next,
-                    nodes: m,
-                    last,
-                } => {
-                    push(nodes, m, 8, first, have - 1, last, at);
+            match list(toks, nodes, at, have, p.lists) {
+                Listed::Done(next, m, last) => {
+                    push(nodes, m, 8, p.first, have - 1, last, at);
                     at = next;
                     have = m + 1;
                     more -= 1;
                 }
-                Listed::Refused {
-                    number,
-                    kind,
-                    at: a,
-                } => {
-                    return Parsed::Refused {
-                        number,
-                        kind,
-                        at: a,
-                    };
-                }
+                Listed::Refused(number, kind, a) => return Parsed::Refused(number, kind, a),
             }
         } else if t == 4 {
             if more == 0 {
@@ -419,16 +323,12 @@ fn links(
             if kind_at(toks, at + 1) != 13 {
                 return unexpected(at + 1);
             }
-            push(nodes, have, 6, first, have - 1, at + 1, 0);
+            push(nodes, have, 6, p.first, have - 1, at + 1, 0);
             at += 2;
             have += 1;
             more -= 1;
         } else {
-            return Parsed::Done {
-                next: at,
-                nodes: have,
-                steps: more,
-            };
+            return Parsed::Done(at, have, more);
         }
     }
 }
@@ -459,11 +359,7 @@ fn list(toks: &[u64], nodes: &mut [u64], start: usize, count: usize, left: usize
     ensures { λ r. ⌜ After (now (toks .entry)) (now (nodes .entry)) count (λ ts ns. MetArgs r (now (nodes .exit)) ns (listAt ts left start)) ⌝ }
 {
     if left == 0 {
-        return Listed::Refused {
-            number: 7,
-            kind: 0,
-            at: start,
-        };
+        return Listed::Refused(7, 0, start);
     }
     let mut at = start + 1;
     let mut have = count;
@@ -471,11 +367,7 @@ fn list(toks: &[u64], nodes: &mut [u64], start: usize, count: usize, left: usize
     while kind_at(toks, at) != 3 {
         let head = arg_head(toks, at);
         match expr(toks, nodes, head.value, have, left - 1) {
-            Parsed::Done {
-                next,
-                nodes: m,
-                steps: s,
-            } => {
+            Parsed::Done(next, m, _) => {
                 push(nodes, m, head.kind, at, m - 1, last, 0);
                 have = m + 1;
                 last = have;
@@ -483,37 +375,15 @@ fn list(toks: &[u64], nodes: &mut [u64], start: usize, count: usize, left: usize
                 if t == 9 {
                     at = next + 1;
                 } else if t == 3 {
-                    return Listed::Done {
-                        next: next + 1,
-                        nodes: have,
-                        last,
-                    };
+                    return Listed::Done(next + 1, have, last);
                 } else {
-                    return Listed::Refused {
-                        number: 5,
-                        kind: 1,
-                        at: next,
-                    };
+                    return Listed::Refused(5, 1, next);
                 }
             }
-            Parsed::Refused {
-                number,
-                kind,
-                at: a,
-            } => {
-                return Listed::Refused {
-                    number,
-                    kind,
-                    at: a,
-                };
-            }
+            Parsed::Refused(number, kind, a) => return Listed::Refused(number, kind, a),
         }
     }
-    Listed::Done {
-        next: at + 1,
-        nodes: have,
-        last,
-    }
+    Listed::Done(at + 1, have, last)
 }
 
 // ---- statements
@@ -536,11 +406,7 @@ fn end_stmt(
         return unexpected(at);
     }
     push(nodes, count, kind, tok, first, 0, 0);
-    Parsed::Done {
-        next: at + 1,
-        nodes: count + 1,
-        steps: 0,
-    }
+    Parsed::Done(at + 1, count + 1, 0)
 }
 
 // `import` name `;`
@@ -568,20 +434,8 @@ fn let_stmt(toks: &[u64], nodes: &mut [u64], at: usize, count: usize) -> Parsed
         return unexpected(at + 2);
     }
     match expr(toks, nodes, at + 3, count, Parser::MOST_LISTS) {
-        Parsed::Done {
-            next,
-            nodes: n,
-            steps: s,
-        } => end_stmt(toks, nodes, next, n, 12, at + 1, n - 1),
-        Parsed::Refused {
-            number,
-            kind,
-            at: a,
-        } => Parsed::Refused {
-            number,
-            kind,
-            at: a,
-        },
+        Parsed::Done(next, n, _) => end_stmt(toks, nodes, next, n, 12, at + 1, n - 1),
+        Parsed::Refused(number, kind, a) => Parsed::Refused(number, kind, a),
     }
 }
 
@@ -592,20 +446,8 @@ fn expr_stmt(toks: &[u64], nodes: &mut [u64], at: usize, count: usize) -> Parsed
     ensures { λ r. ⌜ After (now (toks .entry)) (now (nodes .entry)) count (λ ts ns. MetStmt r (now (nodes .exit)) ns (exprStmt ts at)) ⌝ }
 {
     match expr(toks, nodes, at, count, Parser::MOST_LISTS) {
-        Parsed::Done {
-            next,
-            nodes: n,
-            steps: s,
-        } => end_stmt(toks, nodes, next, n, 13, at, n - 1),
-        Parsed::Refused {
-            number,
-            kind,
-            at: a,
-        } => Parsed::Refused {
-            number,
-            kind,
-            at: a,
-        },
+        Parsed::Done(next, n, _) => end_stmt(toks, nodes, next, n, 13, at, n - 1),
+        Parsed::Refused(number, kind, a) => Parsed::Refused(number, kind, a),
     }
 }
 
@@ -631,30 +473,12 @@ pub fn program(toks: &[u64], nodes: &mut [u64]) -> Parsed
     let mut have: usize = 0;
     while kind_at(toks, at) != 1 {
         match stmt(toks, nodes, at, have) {
-            Parsed::Done {
-                next,
-                nodes: n,
-                steps: s,
-            } => {
+            Parsed::Done(next, n, _) => {
                 at = next;
                 have = n;
             }
-            Parsed::Refused {
-                number,
-                kind,
-                at: a,
-            } => {
-                return Parsed::Refused {
-                    number,
-                    kind,
-                    at: a,
-                };
-            }
+            Parsed::Refused(number, kind, a) => return Parsed::Refused(number, kind, a),
         }
     }
-    Parsed::Done {
-        next: at,
-        nodes: have,
-        steps: 0,
-    }
+    Parsed::Done(at, have, 0)
 }

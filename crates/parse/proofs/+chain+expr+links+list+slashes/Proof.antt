@@ -44,13 +44,13 @@ abbrev μ-expr : Measures 2 expr-kinds.ps ℕ
 μ-expr κs a = 5 * a .1 .1 .1 .1 .0 + 4
 
 abbrev μ-links : Measures 2 links-kinds.ps ℕ
-μ-links κs a = 5 * a .1 .1 .1 .1 .0 + 1
+μ-links κs a = 5 * a .1 .1 .0 .lists + 1
 
 abbrev μ-list : Measures 2 list-kinds.ps ℕ
 μ-list κs a = 5 * a .1 .1 .1 .1 .0
 
 abbrev μ-slashes : Measures 2 slashes-kinds.ps ℕ
-μ-slashes κs a = 5 * a .1 .1 .1 .1 .0 + 3
+μ-slashes κs a = 5 * a .1 .1 .0 .lists + 3
 
 abbrev chain-at : ℕ → In 2 chain-kinds.ps
 chain-at t = and 2 chain-kinds.ps (is 2 chain-kinds.ps μ-chain t) chain.Pre
@@ -116,9 +116,10 @@ chain-returns : (t : ℕ) → chain-lts.Need-returns (chain-cs t) (chain-at t) c
 chain-returns t c =
     let e = c .before .before .before .before .before .next .given .1 in
     let o = c .before .before .before .before .before .before .before .before .before .primary .ensures in
-    let f = ahead e (o .0) in
-    (ahead-more (f .0) (omega arith) (f .3) (omega arith) (c .before .before .links .ensures .0),
-    λ ts ns rep l h. let d = done e (o .1 ts ns rep l h) in met-by (chain-go ts _ _ _ _ _ (d .0) (d .1)) (c .before .before .links .ensures .1 ts ns (d .0) rep (d .2)))
+    let f = ahead e (o .0) in (
+      ahead-more (f .0) (omega arith) (f .3) (omega arith) (c .before .before .links .ensures .0),
+      λ ts ns rep l h. let d = done e (o .1 ts ns rep l h) in met-by (chain-go ts _ _ _ _ _ (d .0) (d .1)) (c .before .before .links .ensures .1 ts ns (d .0) rep (d .2)),
+    )
 
 chain-same-length-2 : (t : ℕ) → chain-lts.Need-same-length-2 (chain-cs t) (chain-at t) chain.Post
 chain-same-length-2 t c = search needs
@@ -147,9 +148,10 @@ expr-returns : (t : ℕ) → expr-lts.Need-returns (expr-cs t) (expr-at t) expr.
 expr-returns t c =
     let e = c .before .before .before .before .before .next .given .1 in
     let o = c .before .before .before .before .before .before .before .before .before .chain .ensures in
-    let f = ahead e (o .0) in
-    (ahead-more (f .0) (omega arith) (f .3) (f .4) (c .before .before .slashes .ensures .0),
-    λ ts ns rep l h. let d = done e (o .1 ts ns rep l h) in met-by (expr-go ts _ _ _ _ (d .0) (d .1)) (c .before .before .slashes .ensures .1 ts ns (d .0) rep (d .2) 65 (omega arith)))
+    let f = ahead e (o .0) in (
+      ahead-more (f .0) (omega arith) (f .3) (f .4) (c .before .before .slashes .ensures .0),
+      λ ts ns rep l h. let d = done e (o .1 ts ns rep l h) in met-by (expr-go ts _ _ _ _ (d .0) (d .1)) (c .before .before .slashes .ensures .1 ts ns (d .0) rep (d .2) 65 (omega arith)),
+    )
 
 expr-same-length-2 : (t : ℕ) → expr-lts.Need-same-length-2 (expr-cs t) (expr-at t) expr.Post
 expr-same-length-2 t c = search needs
@@ -160,19 +162,19 @@ expr-returns-2 t c =
     (ahead-no refl (ahead-place e (c .before .before .before .before .before .chain .ensures .0)), λ ts ns rep l h. met-no refl (expr-no ts _ _ _ _ _ (refused e (c .before .before .before .before .before .chain .ensures .1 ts ns rep l h))))
 
 abbrev links-Inv-loop : links-lts.InvT-loop
-links-Inv-loop toks nodes₀ start count left steps first at₀ have₀ more₀ nodes at have more =
-    (start ≤ at) × (7 * at ≤ length toks) × (count ≤ have) × (have + 2 * start ≤ count + 2 * at) × (more ≤ steps) × (length nodes ≡ length nodes₀)
-    × AfterExpr toks nodes₀ count first (λ ts ns e. (f : Expr) × Stands nodes ns f have first
-    × (grammar.links ts (listAt ts left) steps e start ≡ grammar.links ts (listAt ts left) more f at))
+links-Inv-loop toks nodes₀ p start count at₀ have₀ more₀ nodes at have more =
+    (start ≤ at) × (7 * at ≤ length toks) × (count ≤ have) × (have + 2 * start ≤ count + 2 * at) × (more ≤ p .steps) × (length nodes ≡ length nodes₀)
+    × AfterExpr toks nodes₀ count (p .first) (λ ts ns e. (f : Expr) × Stands nodes ns f have (p .first)
+    × (grammar.links ts (listAt ts (p .lists)) (p .steps) e start ≡ grammar.links ts (listAt ts (p .lists)) more f at))
 
 abbrev links-μ-loop : links-lts.MeasureT-loop
-links-μ-loop toks nodes₀ start count left steps first at₀ have₀ more₀ nodes at have more = more
+links-μ-loop toks nodes₀ p start count at₀ have₀ more₀ nodes at have more = more
 
 links-loop-holds : (t : ℕ) → links-lts.Need-loop-holds (links-cs t) (links-at t) links.Post links-Inv-loop links-μ-loop
 links-loop-holds t c = (omega arith, omega arith, omega arith, omega arith, omega arith, refl, λ ts ns e rep s. (e, s, refl))
 
 links-kind-at-requires : (t : ℕ) → links-lts.Need-kind-at-requires (links-cs t) (links-at t) links.Post links-Inv-loop links-μ-loop
-links-kind-at-requires t c κs = search needs
+links-kind-at-requires t c κs = omega arith
 
 links-too-deep-requires : (t : ℕ) → links-lts.Need-too-deep-requires (links-cs t) (links-at t) links.Post links-Inv-loop links-μ-loop
 links-too-deep-requires t c κs = search needs
@@ -181,9 +183,11 @@ links-same-length : (t : ℕ) → links-lts.Need-same-length (links-cs t) (links
 links-same-length t c = c .before .before .before .before .loop .inv .5
 
 links-returns : (t : ℕ) → links-lts.Need-returns (links-cs t) (links-at t) links.Post links-Inv-loop links-μ-loop
-links-returns t c =
-    (ahead-no (c .too-deep .ensures) (omega arith), λ ts ns e rep s. let g = c .before .before .before .before .loop .inv .6 ts ns e rep s in
-        met-no (c .too-deep .ensures) (g .2 ∙ links-call-7 rep _ (g .0) _ _ (c .before .if2 .taken) (seen (c .before .before .before .kind-at .ensures) (c .before .before .if1 .taken))))
+links-returns t c = (
+  ahead-no (c .too-deep .ensures) (omega arith),
+  λ ts ns e rep s. let g = c .before .before .before .before .loop .inv .6 ts ns e rep s in
+      met-no (c .too-deep .ensures) (g .2 ∙ links-call-7 rep _ (g .0) _ _ (c .before .if2 .taken) (seen (c .before .before .before .kind-at .ensures) (c .before .before .if1 .taken))),
+)
 
 links-list-requires : (t : ℕ) → links-lts.Need-list-requires (links-cs t) (links-at t) links.Post links-Inv-loop links-μ-loop
 links-list-requires t c κs = omega (arith, seen (c .before .before .before .kind-at .ensures) (c .before .before .if1 .taken))
@@ -192,7 +196,7 @@ links-enum-known-next : (t : ℕ) → links-lts.Need-enum-known-next (links-cs t
 links-enum-known-next t c = search needs
 
 links-sub-push : (t : ℕ) → links-lts.Need-sub-push (links-cs t) (links-at t) links.Post links-Inv-loop links-μ-loop
-links-sub-push t c = search needs
+links-sub-push t c = omega arith
 
 links-push-requires : (t : ℕ) → links-lts.Need-push-requires (links-cs t) (links-at t) links.Post links-Inv-loop links-μ-loop
 links-push-requires t c κs = omega (arith, ahead-list (c .before .before .next .given .1) (c .before .before .before .before .before .before .list .ensures .0))
@@ -201,20 +205,26 @@ links-add-have : (t : ℕ) → links-lts.Need-add-have (links-cs t) (links-at t)
 links-add-have t c = omega (arith, ahead-list (c .before .before .before .before .before .next .given .1) (c .before .before .before .before .before .before .before .before .before .list .ensures .0))
 
 links-sub-more : (t : ℕ) → links-lts.Need-sub-more (links-cs t) (links-at t) links.Post links-Inv-loop links-μ-loop
-links-sub-more t c = search needs
+links-sub-more t c = omega arith
 
 links-loop-less : (t : ℕ) → links-lts.Need-loop-less (links-cs t) (links-at t) links.Post links-Inv-loop links-μ-loop
-links-loop-less t c = search needs
+links-loop-less t c = omega arith
 
 links-loop-again : (t : ℕ) → links-lts.Need-loop-again (links-cs t) (links-at t) links.Post links-Inv-loop links-μ-loop
 links-loop-again t c =
     let e = c .before .before .before .before .before .next .given .1 in
     let o = c .before .before .before .before .before .before .before .before .before .list .ensures in
-    let f = ahead-list e (o .0) in
-    (omega arith, omega arith, omega arith, omega arith, omega arith, omega (arith, c .before .before .push .kept .0, c .before .before .before .before .before .before .before .before .before .list .kept .1 .0),
-    λ ts ns e₀ rep s. let g = c .before .before .before .before .before .before .before .before .before .before .before .before .before .before .loop .inv .6 ts ns e₀ rep s in
-        let d = list-done e (o .1 ts (withExpr ns (g .0)) rep (g .1 .long) (g .1 .held)) in
-        (grammar.call (g .0) (c .before .before .before .before .before .before .before .before .before .before .before .before .before .before .loop .at) (d .0), call-pushed (g .1) (d .3) (c .before .before .push .ensures), g .2 ∙ links-call rep _ (g .0) _ _ (d .1) _ (d .0) (c .before .before .before .before .before .before .before .before .before .before .before .if2 .left) (seen (c .before .before .before .before .before .before .before .before .before .before .before .before .before .kind-at .ensures) (c .before .before .before .before .before .before .before .before .before .before .before .before .if1 .taken)) (d .2)))
+    let f = ahead-list e (o .0) in (
+      omega arith,
+      omega arith,
+      omega arith,
+      omega arith,
+      omega arith,
+      omega (arith, c .before .before .push .kept .0, c .before .before .before .before .before .before .before .before .before .list .kept .1 .0),
+      λ ts ns e₀ rep s. let g = c .before .before .before .before .before .before .before .before .before .before .before .before .before .before .loop .inv .6 ts ns e₀ rep s in
+          let d = list-done e (o .1 ts (withExpr ns (g .0)) rep (g .1 .long) (g .1 .held)) in
+          (grammar.call (g .0) (c .before .before .before .before .before .before .before .before .before .before .before .before .before .before .loop .at) (d .0), call-pushed (g .1) (d .3) (c .before .before .push .ensures), g .2 ∙ links-call rep _ (g .0) _ _ (d .1) _ (d .0) (c .before .before .before .before .before .before .before .before .before .before .before .if2 .left) (seen (c .before .before .before .before .before .before .before .before .before .before .before .before .before .kind-at .ensures) (c .before .before .before .before .before .before .before .before .before .before .before .before .if1 .taken)) (d .2)),
+    )
 
 links-enum-known-number : (t : ℕ) → links-lts.Need-enum-known-number (links-cs t) (links-at t) links.Post links-Inv-loop links-μ-loop
 links-enum-known-number t c = search needs
@@ -224,9 +234,11 @@ links-same-length-2 t c = omega (arith, c .before .before .before .before .befor
 
 links-returns-2 : (t : ℕ) → links-lts.Need-returns-2 (links-cs t) (links-at t) links.Post links-Inv-loop links-μ-loop
 links-returns-2 t c =
-    let e = c .before .number .given .1 in
-    (ahead-no refl (ahead-list-place e (c .before .before .before .before .before .list .ensures .0)), λ ts ns e₀ rep s. let g = c .before .before .before .before .before .before .before .before .before .before .loop .inv .6 ts ns e₀ rep s in
-        met-no refl (g .2 ∙ links-no rep _ (g .0) _ _ _ _ _ (c .before .before .before .before .before .before .before .if2 .left) (seen (c .before .before .before .before .before .before .before .before .before .kind-at .ensures) (c .before .before .before .before .before .before .before .before .if1 .taken)) (list-refused e (c .before .before .before .before .before .list .ensures .1 ts (withExpr ns (g .0)) rep (g .1 .long) (g .1 .held)))))
+    let e = c .before .number .given .1 in (
+      ahead-no refl (ahead-list-place e (c .before .before .before .before .before .list .ensures .0)),
+      λ ts ns e₀ rep s. let g = c .before .before .before .before .before .before .before .before .before .before .loop .inv .6 ts ns e₀ rep s in
+          met-no refl (g .2 ∙ links-no rep _ (g .0) _ _ _ _ _ (c .before .before .before .before .before .before .before .if2 .left) (seen (c .before .before .before .before .before .before .before .before .before .kind-at .ensures) (c .before .before .before .before .before .before .before .before .if1 .taken)) (list-refused e (c .before .before .before .before .before .list .ensures .1 ts (withExpr ns (g .0)) rep (g .1 .long) (g .1 .held)))),
+    )
 
 links-too-deep-requires-2 : (t : ℕ) → links-lts.Need-too-deep-requires-2 (links-cs t) (links-at t) links.Post links-Inv-loop links-μ-loop
 links-too-deep-requires-2 t c κs = search needs
@@ -235,18 +247,20 @@ links-same-length-3 : (t : ℕ) → links-lts.Need-same-length-3 (links-cs t) (l
 links-same-length-3 t c = c .before .before .before .before .before .loop .inv .5
 
 links-returns-3 : (t : ℕ) → links-lts.Need-returns-3 (links-cs t) (links-at t) links.Post links-Inv-loop links-μ-loop
-links-returns-3 t c =
-    (ahead-no (c .too-deep2 .ensures) (omega arith), λ ts ns e rep s. let g = c .before .before .before .before .before .loop .inv .6 ts ns e rep s in
-        met-no (c .too-deep2 .ensures) (g .2 ∙ links-dot-7 rep _ (g .0) _ _ (c .before .if4 .taken) (seen (c .before .before .before .before .kind-at .ensures) (c .before .before .if3 .taken))))
+links-returns-3 t c = (
+  ahead-no (c .too-deep2 .ensures) (omega arith),
+  λ ts ns e rep s. let g = c .before .before .before .before .before .loop .inv .6 ts ns e rep s in
+      met-no (c .too-deep2 .ensures) (g .2 ∙ links-dot-7 rep _ (g .0) _ _ (c .before .if4 .taken) (seen (c .before .before .before .before .kind-at .ensures) (c .before .before .if3 .taken))),
+)
 
 links-add-kind-at : (t : ℕ) → links-lts.Need-add-kind-at (links-cs t) (links-at t) links.Post links-Inv-loop links-μ-loop
-links-add-kind-at t c = search needs
+links-add-kind-at t c = omega arith
 
 links-kind-at-requires-2 : (t : ℕ) → links-lts.Need-kind-at-requires-2 (links-cs t) (links-at t) links.Post links-Inv-loop links-μ-loop
-links-kind-at-requires-2 t c κs = search needs
+links-kind-at-requires-2 t c κs = omega arith
 
 links-add-unexpected : (t : ℕ) → links-lts.Need-add-unexpected (links-cs t) (links-at t) links.Post links-Inv-loop links-μ-loop
-links-add-unexpected t c = search needs
+links-add-unexpected t c = omega arith
 
 links-unexpected-requires : (t : ℕ) → links-lts.Need-unexpected-requires (links-cs t) (links-at t) links.Post links-Inv-loop links-μ-loop
 links-unexpected-requires t c κs = search needs
@@ -255,46 +269,56 @@ links-same-length-4 : (t : ℕ) → links-lts.Need-same-length-4 (links-cs t) (l
 links-same-length-4 t c = c .before .before .before .before .before .before .before .loop .inv .5
 
 links-returns-4 : (t : ℕ) → links-lts.Need-returns-4 (links-cs t) (links-at t) links.Post links-Inv-loop links-μ-loop
-links-returns-4 t c =
-    (ahead-no (c .unexpected .ensures) (omega arith), λ ts ns e rep s. let g = c .before .before .before .before .before .before .before .loop .inv .6 ts ns e rep s in
-        met-no (c .unexpected .ensures) (g .2 ∙ links-dot-5 rep _ (g .0) _ _ (c .before .before .before .if4 .left) (seen (c .before .before .before .before .before .before .kind-at .ensures) (c .before .before .before .before .if3 .taken)) (unseen (c .before .before .kind-at2 .ensures) (c .before .if5 .taken))))
+links-returns-4 t c = (
+  ahead-no (c .unexpected .ensures) (omega arith),
+  λ ts ns e rep s. let g = c .before .before .before .before .before .before .before .loop .inv .6 ts ns e rep s in
+      met-no (c .unexpected .ensures) (g .2 ∙ links-dot-5 rep _ (g .0) _ _ (c .before .before .before .if4 .left) (seen (c .before .before .before .before .before .before .kind-at .ensures) (c .before .before .before .before .if3 .taken)) (unseen (c .before .before .kind-at2 .ensures) (c .before .if5 .taken))),
+)
 
 links-sub-push-2 : (t : ℕ) → links-lts.Need-sub-push-2 (links-cs t) (links-at t) links.Post links-Inv-loop links-μ-loop
-links-sub-push-2 t c = search needs
+links-sub-push-2 t c = omega arith
 
 links-add-push : (t : ℕ) → links-lts.Need-add-push (links-cs t) (links-at t) links.Post links-Inv-loop links-μ-loop
-links-add-push t c = search needs
+links-add-push t c = omega arith
 
 links-push-requires-2 : (t : ℕ) → links-lts.Need-push-requires-2 (links-cs t) (links-at t) links.Post links-Inv-loop links-μ-loop
-links-push-requires-2 t c κs = search needs
+links-push-requires-2 t c κs = omega arith
 
 links-add-at : (t : ℕ) → links-lts.Need-add-at (links-cs t) (links-at t) links.Post links-Inv-loop links-μ-loop
-links-add-at t c = search needs
+links-add-at t c = omega arith
 
 links-add-have-2 : (t : ℕ) → links-lts.Need-add-have-2 (links-cs t) (links-at t) links.Post links-Inv-loop links-μ-loop
-links-add-have-2 t c = search needs
+links-add-have-2 t c = omega arith
 
 links-sub-more-2 : (t : ℕ) → links-lts.Need-sub-more-2 (links-cs t) (links-at t) links.Post links-Inv-loop links-μ-loop
-links-sub-more-2 t c = search needs
+links-sub-more-2 t c = omega arith
 
 links-loop-less-2 : (t : ℕ) → links-lts.Need-loop-less-2 (links-cs t) (links-at t) links.Post links-Inv-loop links-μ-loop
-links-loop-less-2 t c = search needs
+links-loop-less-2 t c = omega arith
 
 links-loop-again-2 : (t : ℕ) → links-lts.Need-loop-again-2 (links-cs t) (links-at t) links.Post links-Inv-loop links-μ-loop
 links-loop-again-2 t c =
     let is13 = seen (c .before .before .before .before .before .kind-at2 .ensures) (c .before .before .before .before .if5 .left) in
-    let i = inside (c .before .before .before .before .before .before .before .before .before .before .before .before .before .args .toks .now) (c .before .before .before .before .before .before .before .before .before .before .loop .at + 1) 11 is13 in
-    (omega arith, omega arith, omega arith, omega arith, omega arith, omega (arith, c .before .before .push2 .kept .0),
-    λ ts ns e rep s. let g = c .before .before .before .before .before .before .before .before .before .before .loop .inv .6 ts ns e rep s in
-        (grammar.member (g .0) (c .before .before .before .before .before .before .before .before .before .before .loop .at + 1), member-pushed (g .1) (c .before .before .push2 .ensures), g .2 ∙ links-dot rep _ (g .0) _ _ (c .before .before .before .before .before .before .if4 .left) (seen (c .before .before .before .before .before .before .before .before .before .kind-at .ensures) (c .before .before .before .before .before .before .before .if3 .taken)) is13))
+    let i = inside (c .before .before .before .before .before .before .before .before .before .before .before .before .before .args .toks .now) (c .before .before .before .before .before .before .before .before .before .before .loop .at + 1) 11 is13 in (
+      omega arith,
+      omega arith,
+      omega arith,
+      omega arith,
+      omega arith,
+      omega (arith, c .before .before .push2 .kept .0),
+      λ ts ns e rep s. let g = c .before .before .before .before .before .before .before .before .before .before .loop .inv .6 ts ns e rep s in
+          (grammar.member (g .0) (c .before .before .before .before .before .before .before .before .before .before .loop .at + 1), member-pushed (g .1) (c .before .before .push2 .ensures), g .2 ∙ links-dot rep _ (g .0) _ _ (c .before .before .before .before .before .before .if4 .left) (seen (c .before .before .before .before .before .before .before .before .before .kind-at .ensures) (c .before .before .before .before .before .before .before .if3 .taken)) is13),
+    )
 
 links-same-length-5 : (t : ℕ) → links-lts.Need-same-length-5 (links-cs t) (links-at t) links.Post links-Inv-loop links-μ-loop
 links-same-length-5 t c = c .before .before .before .loop .inv .5
 
 links-returns-5 : (t : ℕ) → links-lts.Need-returns-5 (links-cs t) (links-at t) links.Post links-Inv-loop links-μ-loop
-links-returns-5 t c =
-    (omega arith, λ ts ns e rep s. let g = c .before .before .before .loop .inv .6 ts ns e rep s in
-        met-ok refl (g .2 ∙ links-stop rep _ (g .0) _ _ (unseen (c .before .before .kind-at .ensures) (c .before .if1 .left)) (unseen (c .before .before .kind-at .ensures) (c .if3 .left))) (g .1))
+links-returns-5 t c = (
+  omega arith,
+  λ ts ns e rep s. let g = c .before .before .before .loop .inv .6 ts ns e rep s in
+      met-ok refl (g .2 ∙ links-stop rep _ (g .0) _ _ (unseen (c .before .before .kind-at .ensures) (c .before .if1 .left)) (unseen (c .before .before .kind-at .ensures) (c .if3 .left))) (g .1),
+)
 
 abbrev list-Inv-loop : list-lts.InvT-loop
 list-Inv-loop toks nodes₀ start count left at₀ have₀ last₀ nodes at have last =
@@ -309,25 +333,31 @@ list-returns : (t : ℕ) → list-lts.Need-returns (list-cs t) (list-at t) list.
 list-returns t c = (omega arith, λ ts ns rep l h. list-no (list-shut ts _ _ (c .if1 .taken)))
 
 list-add-at : (t : ℕ) → list-lts.Need-add-at (list-cs t) (list-at t) list.Post list-Inv-loop list-μ-loop
-list-add-at t c = search needs
+list-add-at t c = omega arith
 
 list-loop-holds : (t : ℕ) → list-lts.Need-loop-holds (list-cs t) (list-at t) list.Post list-Inv-loop list-μ-loop
 list-loop-holds t c =
-    let i = inside (c .before .before .before .args .toks .now) (c .before .before .before .args .start) 0 (c .before .before .before .pre .1 .1) in
-    (omega arith, omega arith, omega arith, omega arith, omega arith, refl,
-    λ ts ns rep l h. (grammar.none-given, suc (length ts), none-listed l h, omega arith, list-open ts _ _ (c .if1 .left)))
+    let i = inside (c .before .before .before .args .toks .now) (c .before .before .before .args .start) 0 (c .before .before .before .pre .1 .1) in (
+      omega arith,
+      omega arith,
+      omega arith,
+      omega arith,
+      omega arith,
+      refl,
+      λ ts ns rep l h. (grammar.none-given, suc (length ts), none-listed l h, omega arith, list-open ts _ _ (c .if1 .left)),
+    )
 
 list-kind-at-requires : (t : ℕ) → list-lts.Need-kind-at-requires (list-cs t) (list-at t) list.Post list-Inv-loop list-μ-loop
-list-kind-at-requires t c κs = search needs
+list-kind-at-requires t c κs = omega arith
 
 list-arg-head-requires : (t : ℕ) → list-lts.Need-arg-head-requires (list-cs t) (list-at t) list.Post list-Inv-loop list-μ-loop
-list-arg-head-requires t c κs = search needs
+list-arg-head-requires t c κs = omega arith
 
 list-sub-expr : (t : ℕ) → list-lts.Need-sub-expr (list-cs t) (list-at t) list.Post list-Inv-loop list-μ-loop
-list-sub-expr t c = search needs
+list-sub-expr t c = omega arith
 
 list-expr-requires : (t : ℕ) → list-lts.Need-expr-requires (list-cs t) (list-at t) list.Post list-Inv-loop list-μ-loop
-list-expr-requires t c κs = search needs
+list-expr-requires t c κs = omega arith
 
 list-enum-known-next : (t : ℕ) → list-lts.Need-enum-known-next (list-cs t) (list-at t) list.Post list-Inv-loop list-μ-loop
 list-enum-known-next t c = search needs
@@ -356,15 +386,21 @@ list-loop-again t c =
     let o = c .before .before .before .before .before .before .before .before .before .before .before .expr .ensures in
     let f = ahead e (o .0) in
     let is9 = seen (c .before .kind-at2 .ensures) (c .if3 .taken) in
-    let i = inside (c .before .before .before .before .before .before .before .before .before .before .before .before .before .before .before .before .before .before .before .before .args .toks .now) (c .before .before .before .before .before .before .before .next .given .0 .0) 7 is9 in
-    (omega arith, omega arith, omega arith, omega arith, omega arith, omega (arith, c .before .before .before .before .push .kept .0, c .before .before .before .before .before .before .before .before .before .before .before .expr .kept .1 .0),
-    λ ts ns rep l h. let g = c .before .before .before .before .before .before .before .before .before .before .before .before .before .before .before .before .loop .inv .6 ts ns rep l h in
-        let d = done e (o .1 ts (withArgs ns (g .0)) rep (g .2 .long) (g .2 .held)) in
-        let m = args-more rep (exprAt ts (c .before .before .before .before .before .before .before .before .before .before .before .before .before .before .before .before .before .before .before .before .args .left - 1)) (g .0) (c .before .before .before .before .before .before .before .before .before .before .before .before .before .before .before .before .loop .at) _ (g .1) (c .before .before .before .before .before .before .before .before .before .before .before .before .before .arg-head .ensures .0 .1) (c .before .before .before .before .before .before .before .before .before .before .before .before .before .before .before .before .loop .inv .1) (g .3) (unseen (c .before .before .before .before .before .before .before .before .before .before .before .before .before .before .before .kind-at .ensures) (c .before .before .before .before .before .before .before .before .before .before .before .before .before .before .if2 .taken)) (d .0) _ _ (d .1) is9 (omega arith) in
-        (withArg (isNamed (c .before .before .before .before .before .before .before .before .before .before .before .before .before .before .before .before .before .before .before .before .args .toks .now) (c .before .before .before .before .before .before .before .before .before .before .before .before .before .before .before .before .loop .at)) (g .0) (c .before .before .before .before .before .before .before .before .before .before .before .before .before .before .before .before .loop .at) (d .0), m .0, arg-pushed (isNamed (c .before .before .before .before .before .before .before .before .before .before .before .before .before .before .before .before .before .before .before .before .args .toks .now) (c .before .before .before .before .before .before .before .before .before .before .before .before .before .before .before .before .loop .at)) (c .before .before .before .before .before .before .before .before .before .before .before .before .before .before .before .before .loop .at) (g .2) (d .2) (c .before .before .before .before .before .before .before .before .before .before .before .before .before .arg-head .ensures .0 .1) (c .before .before .before .before .before .before .before .before .before .before .before .before .before .arg-head .ensures .0 .0) (c .before .before .before .before .push .ensures), m .1, g .4 ∙ m .2))
+    let i = inside (c .before .before .before .before .before .before .before .before .before .before .before .before .before .before .before .before .before .before .before .before .args .toks .now) (c .before .before .before .before .before .before .before .next .given .0 .0) 7 is9 in (
+      omega arith,
+      omega arith,
+      omega arith,
+      omega arith,
+      omega arith,
+      omega (arith, c .before .before .before .before .push .kept .0, c .before .before .before .before .before .before .before .before .before .before .before .expr .kept .1 .0),
+      λ ts ns rep l h. let g = c .before .before .before .before .before .before .before .before .before .before .before .before .before .before .before .before .loop .inv .6 ts ns rep l h in
+          let d = done e (o .1 ts (withArgs ns (g .0)) rep (g .2 .long) (g .2 .held)) in
+          let m = args-more rep (exprAt ts (c .before .before .before .before .before .before .before .before .before .before .before .before .before .before .before .before .before .before .before .before .args .left - 1)) (g .0) (c .before .before .before .before .before .before .before .before .before .before .before .before .before .before .before .before .loop .at) _ (g .1) (c .before .before .before .before .before .before .before .before .before .before .before .before .before .arg-head .ensures .0 .1) (c .before .before .before .before .before .before .before .before .before .before .before .before .before .before .before .before .loop .inv .1) (g .3) (unseen (c .before .before .before .before .before .before .before .before .before .before .before .before .before .before .before .kind-at .ensures) (c .before .before .before .before .before .before .before .before .before .before .before .before .before .before .if2 .taken)) (d .0) _ _ (d .1) is9 (omega arith) in
+          (withArg (isNamed (c .before .before .before .before .before .before .before .before .before .before .before .before .before .before .before .before .before .before .before .before .args .toks .now) (c .before .before .before .before .before .before .before .before .before .before .before .before .before .before .before .before .loop .at)) (g .0) (c .before .before .before .before .before .before .before .before .before .before .before .before .before .before .before .before .loop .at) (d .0), m .0, arg-pushed (isNamed (c .before .before .before .before .before .before .before .before .before .before .before .before .before .before .before .before .before .before .before .before .args .toks .now) (c .before .before .before .before .before .before .before .before .before .before .before .before .before .before .before .before .loop .at)) (c .before .before .before .before .before .before .before .before .before .before .before .before .before .before .before .before .loop .at) (g .2) (d .2) (c .before .before .before .before .before .before .before .before .before .before .before .before .before .arg-head .ensures .0 .1) (c .before .before .before .before .before .before .before .before .before .before .before .before .before .arg-head .ensures .0 .0) (c .before .before .before .before .push .ensures), m .1, g .4 ∙ m .2),
+    )
 
-list-add-t30 : (t : ℕ) → list-lts.Need-add-t30 (list-cs t) (list-at t) list.Post list-Inv-loop list-μ-loop
-list-add-t30 t c = omega (arith, ahead (c .before .before .before .before .before .before .before .before .next .given .1) (c .before .before .before .before .before .before .before .before .before .before .before .before .expr .ensures .0))
+list-add-t29 : (t : ℕ) → list-lts.Need-add-t29 (list-cs t) (list-at t) list.Post list-Inv-loop list-μ-loop
+list-add-t29 t c = omega (arith, ahead (c .before .before .before .before .before .before .before .before .next .given .1) (c .before .before .before .before .before .before .before .before .before .before .before .before .expr .ensures .0))
 
 list-same-length : (t : ℕ) → list-lts.Need-same-length (list-cs t) (list-at t) list.Post list-Inv-loop list-μ-loop
 list-same-length t c = omega (arith, c .before .before .before .before .before .push .kept .0, c .before .before .before .before .before .before .before .before .before .before .before .before .expr .kept .1 .0, c .before .before .before .before .before .before .before .before .before .before .before .before .before .before .before .before .before .loop .inv .5)
@@ -375,10 +411,12 @@ list-returns-2 t c =
     let o = c .before .before .before .before .before .before .before .before .before .before .before .before .expr .ensures in
     let f = ahead e (o .0) in
     let is3 = seen (c .before .before .kind-at2 .ensures) (c .if4 .taken) in
-    let i = inside (c .before .before .before .before .before .before .before .before .before .before .before .before .before .before .before .before .before .before .before .before .before .args .toks .now) (c .before .before .before .before .before .before .before .before .next .given .0 .0) 1 is3 in
-    (omega arith, λ ts ns rep l h. let g = c .before .before .before .before .before .before .before .before .before .before .before .before .before .before .before .before .before .loop .inv .6 ts ns rep l h in
-        let d = done e (o .1 ts (withArgs ns (g .0)) rep (g .2 .long) (g .2 .held)) in
-        list-ok (g .4 ∙ args-last rep _ (g .0) _ _ (g .1) (c .before .before .before .before .before .before .before .before .before .before .before .before .before .before .arg-head .ensures .0 .1) (c .before .before .before .before .before .before .before .before .before .before .before .before .before .before .before .before .before .loop .inv .1) (g .3) (unseen (c .before .before .before .before .before .before .before .before .before .before .before .before .before .before .before .before .kind-at .ensures) (c .before .before .before .before .before .before .before .before .before .before .before .before .before .before .before .if2 .taken)) (d .0) _ _ (d .1) is3) (arg-pushed (isNamed (c .before .before .before .before .before .before .before .before .before .before .before .before .before .before .before .before .before .before .before .before .before .args .toks .now) (c .before .before .before .before .before .before .before .before .before .before .before .before .before .before .before .before .before .loop .at)) (c .before .before .before .before .before .before .before .before .before .before .before .before .before .before .before .before .before .loop .at) (g .2) (d .2) (c .before .before .before .before .before .before .before .before .before .before .before .before .before .before .arg-head .ensures .0 .1) (c .before .before .before .before .before .before .before .before .before .before .before .before .before .before .arg-head .ensures .0 .0) (c .before .before .before .before .before .push .ensures)))
+    let i = inside (c .before .before .before .before .before .before .before .before .before .before .before .before .before .before .before .before .before .before .before .before .before .args .toks .now) (c .before .before .before .before .before .before .before .before .next .given .0 .0) 1 is3 in (
+      omega arith,
+      λ ts ns rep l h. let g = c .before .before .before .before .before .before .before .before .before .before .before .before .before .before .before .before .before .loop .inv .6 ts ns rep l h in
+          let d = done e (o .1 ts (withArgs ns (g .0)) rep (g .2 .long) (g .2 .held)) in
+          list-ok (g .4 ∙ args-last rep _ (g .0) _ _ (g .1) (c .before .before .before .before .before .before .before .before .before .before .before .before .before .before .arg-head .ensures .0 .1) (c .before .before .before .before .before .before .before .before .before .before .before .before .before .before .before .before .before .loop .inv .1) (g .3) (unseen (c .before .before .before .before .before .before .before .before .before .before .before .before .before .before .before .before .kind-at .ensures) (c .before .before .before .before .before .before .before .before .before .before .before .before .before .before .before .if2 .taken)) (d .0) _ _ (d .1) is3) (arg-pushed (isNamed (c .before .before .before .before .before .before .before .before .before .before .before .before .before .before .before .before .before .before .before .before .before .args .toks .now) (c .before .before .before .before .before .before .before .before .before .before .before .before .before .before .before .before .before .loop .at)) (c .before .before .before .before .before .before .before .before .before .before .before .before .before .before .before .before .before .loop .at) (g .2) (d .2) (c .before .before .before .before .before .before .before .before .before .before .before .before .before .before .arg-head .ensures .0 .1) (c .before .before .before .before .before .before .before .before .before .before .before .before .before .before .arg-head .ensures .0 .0) (c .before .before .before .before .before .push .ensures)),
+    )
 
 list-same-length-2 : (t : ℕ) → list-lts.Need-same-length-2 (list-cs t) (list-at t) list.Post list-Inv-loop list-μ-loop
 list-same-length-2 t c = omega (arith, c .before .before .before .before .before .push .kept .0, c .before .before .before .before .before .before .before .before .before .before .before .before .expr .kept .1 .0, c .before .before .before .before .before .before .before .before .before .before .before .before .before .before .before .before .before .loop .inv .5)
@@ -387,10 +425,12 @@ list-returns-3 : (t : ℕ) → list-lts.Need-returns-3 (list-cs t) (list-at t) l
 list-returns-3 t c =
     let e = c .before .before .before .before .before .before .before .before .next .given .1 in
     let o = c .before .before .before .before .before .before .before .before .before .before .before .before .expr .ensures in
-    let f = ahead e (o .0) in
-    (omega arith, λ ts ns rep l h. let g = c .before .before .before .before .before .before .before .before .before .before .before .before .before .before .before .before .before .loop .inv .6 ts ns rep l h in
-        let d = done e (o .1 ts (withArgs ns (g .0)) rep (g .2 .long) (g .2 .held)) in
-        list-no (g .4 ∙ args-bad rep _ (g .0) _ _ (g .1) (c .before .before .before .before .before .before .before .before .before .before .before .before .before .before .arg-head .ensures .0 .1) (c .before .before .before .before .before .before .before .before .before .before .before .before .before .before .before .before .before .loop .inv .1) (g .3) (unseen (c .before .before .before .before .before .before .before .before .before .before .before .before .before .before .before .before .kind-at .ensures) (c .before .before .before .before .before .before .before .before .before .before .before .before .before .before .before .if2 .taken)) (d .0) _ _ (d .1) (unseen (c .before .before .kind-at2 .ensures) (c .before .if3 .left)) (unseen (c .before .before .kind-at2 .ensures) (c .if4 .left))))
+    let f = ahead e (o .0) in (
+      omega arith,
+      λ ts ns rep l h. let g = c .before .before .before .before .before .before .before .before .before .before .before .before .before .before .before .before .before .loop .inv .6 ts ns rep l h in
+          let d = done e (o .1 ts (withArgs ns (g .0)) rep (g .2 .long) (g .2 .held)) in
+          list-no (g .4 ∙ args-bad rep _ (g .0) _ _ (g .1) (c .before .before .before .before .before .before .before .before .before .before .before .before .before .before .arg-head .ensures .0 .1) (c .before .before .before .before .before .before .before .before .before .before .before .before .before .before .before .before .before .loop .inv .1) (g .3) (unseen (c .before .before .before .before .before .before .before .before .before .before .before .before .before .before .before .before .kind-at .ensures) (c .before .before .before .before .before .before .before .before .before .before .before .before .before .before .before .if2 .taken)) (d .0) _ _ (d .1) (unseen (c .before .before .kind-at2 .ensures) (c .before .if3 .left)) (unseen (c .before .before .kind-at2 .ensures) (c .if4 .left))),
+    )
 
 list-enum-known-number : (t : ℕ) → list-lts.Need-enum-known-number (list-cs t) (list-at t) list.Post list-Inv-loop list-μ-loop
 list-enum-known-number t c = search needs
@@ -400,12 +440,14 @@ list-same-length-3 t c = omega (arith, c .before .before .before .before .before
 
 list-returns-4 : (t : ℕ) → list-lts.Need-returns-4 (list-cs t) (list-at t) list.Post list-Inv-loop list-μ-loop
 list-returns-4 t c =
-    let e = c .before .number .given .1 in
-    (record { on = ahead-place e (c .before .before .before .before .before .expr .ensures .0) }, λ ts ns rep l h. let g = c .before .before .before .before .before .before .before .before .before .before .loop .inv .6 ts ns rep l h in
-        list-no (g .4 ∙ args-no rep _ (g .0) _ _ (g .1) (c .before .before .before .before .before .before .before .arg-head .ensures .0 .1) (c .before .before .before .before .before .before .before .before .before .before .loop .inv .1) (g .3) (unseen (c .before .before .before .before .before .before .before .before .before .kind-at .ensures) (c .before .before .before .before .before .before .before .before .if2 .taken)) _ _ _ (refused e (c .before .before .before .before .before .expr .ensures .1 ts (withArgs ns (g .0)) rep (g .2 .long) (g .2 .held)))))
+    let e = c .before .number .given .1 in (
+      record { on = ahead-place e (c .before .before .before .before .before .expr .ensures .0) },
+      λ ts ns rep l h. let g = c .before .before .before .before .before .before .before .before .before .before .loop .inv .6 ts ns rep l h in
+          list-no (g .4 ∙ args-no rep _ (g .0) _ _ (g .1) (c .before .before .before .before .before .before .before .arg-head .ensures .0 .1) (c .before .before .before .before .before .before .before .before .before .before .loop .inv .1) (g .3) (unseen (c .before .before .before .before .before .before .before .before .before .kind-at .ensures) (c .before .before .before .before .before .before .before .before .if2 .taken)) _ _ _ (refused e (c .before .before .before .before .before .expr .ensures .1 ts (withArgs ns (g .0)) rep (g .2 .long) (g .2 .held)))),
+    )
 
-list-add-t31 : (t : ℕ) → list-lts.Need-add-t31 (list-cs t) (list-at t) list.Post list-Inv-loop list-μ-loop
-list-add-t31 t c = omega (arith, inside (c .before .before .before .before .before .before .args .toks .now) (c .before .before .loop .at) 1 (seen (c .before .kind-at .ensures) (c .if2 .left)))
+list-add-t30 : (t : ℕ) → list-lts.Need-add-t30 (list-cs t) (list-at t) list.Post list-Inv-loop list-μ-loop
+list-add-t30 t c = omega (arith, inside (c .before .before .before .before .before .before .args .toks .now) (c .before .before .loop .at) 1 (seen (c .before .kind-at .ensures) (c .if2 .left)))
 
 list-same-length-4 : (t : ℕ) → list-lts.Need-same-length-4 (list-cs t) (list-at t) list.Post list-Inv-loop list-μ-loop
 list-same-length-4 t c = c .before .before .loop .inv .5
@@ -413,24 +455,26 @@ list-same-length-4 t c = c .before .before .loop .inv .5
 list-returns-5 : (t : ℕ) → list-lts.Need-returns-5 (list-cs t) (list-at t) list.Post list-Inv-loop list-μ-loop
 list-returns-5 t c =
     let is3 = seen (c .before .kind-at .ensures) (c .if2 .left) in
-    let i = inside (c .before .before .before .before .before .before .args .toks .now) (c .before .before .loop .at) 1 is3 in
-    (omega arith, λ ts ns rep l h. let g = c .before .before .loop .inv .6 ts ns rep l h in
-        list-ok (g .4 ∙ args-end rep _ (g .0) _ (g .1) (g .3) is3) (g .2))
+    let i = inside (c .before .before .before .before .before .before .args .toks .now) (c .before .before .loop .at) 1 is3 in (
+      omega arith,
+      λ ts ns rep l h. let g = c .before .before .loop .inv .6 ts ns rep l h in
+          list-ok (g .4 ∙ args-end rep _ (g .0) _ (g .1) (g .3) is3) (g .2),
+    )
 
 abbrev slashes-Inv-loop : slashes-lts.InvT-loop
-slashes-Inv-loop toks nodes₀ start count left steps first at₀ have₀ more₀ nodes at have more =
-    (start ≤ at) × (7 * at ≤ length toks) × (count ≤ have) × (have + 2 * start ≤ count + 2 * at) × (more ≤ steps) × (length nodes ≡ length nodes₀)
-    × AfterExpr toks nodes₀ count first (λ ts ns e. (k : ℕ) → steps < k → (f : Expr) × (k′ : ℕ) × Stands nodes ns f have first × (more < k′)
-    × (grammar.slashes ts (chainAt ts left) k e start steps ≡ grammar.slashes ts (chainAt ts left) k′ f at more))
+slashes-Inv-loop toks nodes₀ p start count at₀ have₀ more₀ nodes at have more =
+    (start ≤ at) × (7 * at ≤ length toks) × (count ≤ have) × (have + 2 * start ≤ count + 2 * at) × (more ≤ p .steps) × (length nodes ≡ length nodes₀)
+    × AfterExpr toks nodes₀ count (p .first) (λ ts ns e. (k : ℕ) → p .steps < k → (f : Expr) × (k′ : ℕ) × Stands nodes ns f have (p .first) × (more < k′)
+    × (grammar.slashes ts (chainAt ts (p .lists)) k e start (p .steps) ≡ grammar.slashes ts (chainAt ts (p .lists)) k′ f at more))
 
 abbrev slashes-μ-loop : slashes-lts.MeasureT-loop
-slashes-μ-loop toks nodes₀ start count left steps first at₀ have₀ more₀ nodes at have more = more
+slashes-μ-loop toks nodes₀ p start count at₀ have₀ more₀ nodes at have more = more
 
 slashes-loop-holds : (t : ℕ) → slashes-lts.Need-loop-holds (slashes-cs t) (slashes-at t) slashes.Post slashes-Inv-loop slashes-μ-loop
 slashes-loop-holds t c = (omega arith, omega arith, omega arith, omega arith, omega arith, refl, λ ts ns e rep s k lt. (e, k, s, lt, refl))
 
 slashes-kind-at-requires : (t : ℕ) → slashes-lts.Need-kind-at-requires (slashes-cs t) (slashes-at t) slashes.Post slashes-Inv-loop slashes-μ-loop
-slashes-kind-at-requires t c κs = search needs
+slashes-kind-at-requires t c κs = omega arith
 
 slashes-too-deep-requires : (t : ℕ) → slashes-lts.Need-too-deep-requires (slashes-cs t) (slashes-at t) slashes.Post slashes-Inv-loop slashes-μ-loop
 slashes-too-deep-requires t c κs = search needs
@@ -439,15 +483,17 @@ slashes-same-length : (t : ℕ) → slashes-lts.Need-same-length (slashes-cs t) 
 slashes-same-length t c = c .before .before .before .before .loop .inv .5
 
 slashes-returns : (t : ℕ) → slashes-lts.Need-returns (slashes-cs t) (slashes-at t) slashes.Post slashes-Inv-loop slashes-μ-loop
-slashes-returns t c =
-    (ahead-no (c .too-deep .ensures) (omega arith), λ ts ns e rep s k lt. let g = c .before .before .before .before .loop .inv .6 ts ns e rep s k lt in
-        met-no (c .too-deep .ensures) (g .4 ∙ slashes-7 rep _ (g .0) _ (g .1) _ (g .3) (c .before .if2 .taken) (seen (c .before .before .before .kind-at .ensures) (c .before .before .if1 .taken))))
+slashes-returns t c = (
+  ahead-no (c .too-deep .ensures) (omega arith),
+  λ ts ns e rep s k lt. let g = c .before .before .before .before .loop .inv .6 ts ns e rep s k lt in
+      met-no (c .too-deep .ensures) (g .4 ∙ slashes-7 rep _ (g .0) _ (g .1) _ (g .3) (c .before .if2 .taken) (seen (c .before .before .before .kind-at .ensures) (c .before .before .if1 .taken))),
+)
 
 slashes-add-chain : (t : ℕ) → slashes-lts.Need-add-chain (slashes-cs t) (slashes-at t) slashes.Post slashes-Inv-loop slashes-μ-loop
 slashes-add-chain t c = omega (arith, inside (c .before .before .before .before .before .before .before .args .toks .now) (c .before .before .before .before .loop .at) 8 (seen (c .before .before .before .kind-at .ensures) (c .before .before .if1 .taken)))
 
 slashes-sub-chain : (t : ℕ) → slashes-lts.Need-sub-chain (slashes-cs t) (slashes-at t) slashes.Post slashes-Inv-loop slashes-μ-loop
-slashes-sub-chain t c = search needs
+slashes-sub-chain t c = omega arith
 
 slashes-chain-requires : (t : ℕ) → slashes-lts.Need-chain-requires (slashes-cs t) (slashes-at t) slashes.Post slashes-Inv-loop slashes-μ-loop
 slashes-chain-requires t c κs = omega (arith, inside (c .before .before .before .before .before .before .before .args .toks .now) (c .before .before .before .before .loop .at) 8 (seen (c .before .before .before .kind-at .ensures) (c .before .before .if1 .taken)))
@@ -456,7 +502,7 @@ slashes-enum-known-next : (t : ℕ) → slashes-lts.Need-enum-known-next (slashe
 slashes-enum-known-next t c = search needs
 
 slashes-sub-push : (t : ℕ) → slashes-lts.Need-sub-push (slashes-cs t) (slashes-at t) slashes.Post slashes-Inv-loop slashes-μ-loop
-slashes-sub-push t c = search needs
+slashes-sub-push t c = omega arith
 
 slashes-sub-push-2 : (t : ℕ) → slashes-lts.Need-sub-push-2 (slashes-cs t) (slashes-at t) slashes.Post slashes-Inv-loop slashes-μ-loop
 slashes-sub-push-2 t c = omega (arith, ahead (c .before .before .next .given .1) (c .before .before .before .before .before .before .chain .ensures .0))
@@ -474,12 +520,18 @@ slashes-loop-again : (t : ℕ) → slashes-lts.Need-loop-again (slashes-cs t) (s
 slashes-loop-again t c =
     let e = c .before .before .before .before .before .next .given .1 in
     let o = c .before .before .before .before .before .before .before .before .before .chain .ensures in
-    let f = ahead e (o .0) in
-    (omega arith, omega arith, omega arith, omega arith, omega arith, omega (arith, c .before .before .push .kept .0, c .before .before .before .before .before .before .before .before .before .chain .kept .1 .0),
-    λ ts ns e₀ rep s k lt. let g = c .before .before .before .before .before .before .before .before .before .before .before .before .before .before .loop .inv .6 ts ns e₀ rep s k lt in
-        let d = done e (o .1 ts (withExpr ns (g .0)) rep (g .2 .long) (g .2 .held)) in
-        let m = slashes-go rep (chainAt ts (c .before .before .before .before .before .before .before .before .before .before .before .before .before .before .before .before .before .args .left)) (g .0) (c .before .before .before .before .before .before .before .before .before .before .before .before .before .before .loop .at) (g .1) (c .before .before .before .before .before .before .before .before .before .before .before .before .before .before .loop .more) _ _ (d .0) (g .3) (c .before .before .before .before .before .before .before .before .before .before .before .if2 .left) (seen (c .before .before .before .before .before .before .before .before .before .before .before .before .before .kind-at .ensures) (c .before .before .before .before .before .before .before .before .before .before .before .before .if1 .taken)) (d .1) (f .4) in
-        (grammar.slash′ (g .0) (d .0), m .0, slash-pushed (g .2) (d .2) (c .before .before .push .ensures), m .1, g .4 ∙ m .2))
+    let f = ahead e (o .0) in (
+      omega arith,
+      omega arith,
+      omega arith,
+      omega arith,
+      omega arith,
+      omega (arith, c .before .before .push .kept .0, c .before .before .before .before .before .before .before .before .before .chain .kept .1 .0),
+      λ ts ns e₀ rep s k lt. let g = c .before .before .before .before .before .before .before .before .before .before .before .before .before .before .loop .inv .6 ts ns e₀ rep s k lt in
+          let d = done e (o .1 ts (withExpr ns (g .0)) rep (g .2 .long) (g .2 .held)) in
+          let m = slashes-go rep (chainAt ts (c .before .before .before .before .before .before .before .before .before .before .before .before .before .before .before .before .before .args .p .lists)) (g .0) (c .before .before .before .before .before .before .before .before .before .before .before .before .before .before .loop .at) (g .1) (c .before .before .before .before .before .before .before .before .before .before .before .before .before .before .loop .more) _ _ (d .0) (g .3) (c .before .before .before .before .before .before .before .before .before .before .before .if2 .left) (seen (c .before .before .before .before .before .before .before .before .before .before .before .before .before .kind-at .ensures) (c .before .before .before .before .before .before .before .before .before .before .before .before .if1 .taken)) (d .1) (f .4) in
+          (grammar.slash′ (g .0) (d .0), m .0, slash-pushed (g .2) (d .2) (c .before .before .push .ensures), m .1, g .4 ∙ m .2),
+    )
 
 slashes-enum-known-number : (t : ℕ) → slashes-lts.Need-enum-known-number (slashes-cs t) (slashes-at t) slashes.Post slashes-Inv-loop slashes-μ-loop
 slashes-enum-known-number t c = search needs
@@ -489,17 +541,21 @@ slashes-same-length-2 t c = omega (arith, c .before .before .before .before .bef
 
 slashes-returns-2 : (t : ℕ) → slashes-lts.Need-returns-2 (slashes-cs t) (slashes-at t) slashes.Post slashes-Inv-loop slashes-μ-loop
 slashes-returns-2 t c =
-    let e = c .before .number .given .1 in
-    (ahead-no refl (ahead-place e (c .before .before .before .before .before .chain .ensures .0)), λ ts ns e₀ rep s k lt. let g = c .before .before .before .before .before .before .before .before .before .before .loop .inv .6 ts ns e₀ rep s k lt in
-        met-no refl (g .4 ∙ slashes-no rep _ (g .0) _ (g .1) _ _ _ _ (g .3) (c .before .before .before .before .before .before .before .if2 .left) (seen (c .before .before .before .before .before .before .before .before .before .kind-at .ensures) (c .before .before .before .before .before .before .before .before .if1 .taken)) (refused e (c .before .before .before .before .before .chain .ensures .1 ts (withExpr ns (g .0)) rep (g .2 .long) (g .2 .held)))))
+    let e = c .before .number .given .1 in (
+      ahead-no refl (ahead-place e (c .before .before .before .before .before .chain .ensures .0)),
+      λ ts ns e₀ rep s k lt. let g = c .before .before .before .before .before .before .before .before .before .before .loop .inv .6 ts ns e₀ rep s k lt in
+          met-no refl (g .4 ∙ slashes-no rep _ (g .0) _ (g .1) _ _ _ _ (g .3) (c .before .before .before .before .before .before .before .if2 .left) (seen (c .before .before .before .before .before .before .before .before .before .kind-at .ensures) (c .before .before .before .before .before .before .before .before .if1 .taken)) (refused e (c .before .before .before .before .before .chain .ensures .1 ts (withExpr ns (g .0)) rep (g .2 .long) (g .2 .held)))),
+    )
 
 slashes-same-length-3 : (t : ℕ) → slashes-lts.Need-same-length-3 (slashes-cs t) (slashes-at t) slashes.Post slashes-Inv-loop slashes-μ-loop
 slashes-same-length-3 t c = c .before .before .loop .inv .5
 
 slashes-returns-3 : (t : ℕ) → slashes-lts.Need-returns-3 (slashes-cs t) (slashes-at t) slashes.Post slashes-Inv-loop slashes-μ-loop
-slashes-returns-3 t c =
-    (omega arith, λ ts ns e rep s k lt. let g = c .before .before .loop .inv .6 ts ns e rep s k lt in
-        met-ok refl (g .4 ∙ slashes-stop rep _ (g .0) _ (g .1) _ (g .3) (unseen (c .before .kind-at .ensures) (c .if1 .left))) (g .2))
+slashes-returns-3 t c = (
+  omega arith,
+  λ ts ns e rep s k lt. let g = c .before .before .loop .inv .6 ts ns e rep s k lt in
+      met-ok refl (g .4 ∙ slashes-stop rep _ (g .0) _ (g .1) _ (g .3) (unseen (c .before .kind-at .ensures) (c .if1 .left))) (g .2),
+)
 
 pub +chain+expr+links+list+slashes-spec : {M : Type 1} → statement M
-+chain+expr+links+list+slashes-spec = close μ-chain μ-expr μ-links μ-list μ-slashes (λ t. chain-lts.spec (chain-cs t) (chain-at t) chain.Post (chain-primary-requires t) (chain-enum-known-next t) (chain-links-requires t) (chain-enum-known-number t) (chain-same-length t) (chain-returns t) (chain-same-length-2 t) (chain-returns-2 t)) (λ t. expr-lts.spec (expr-cs t) (expr-at t) expr.Post (expr-chain-requires t) (expr-enum-known-next t) (expr-slashes-requires t) (expr-enum-known-number t) (expr-same-length t) (expr-returns t) (expr-same-length-2 t) (expr-returns-2 t)) (λ t. links-lts.spec (links-cs t) (links-at t) links.Post links-Inv-loop links-μ-loop (links-loop-holds t) (links-kind-at-requires t) (links-too-deep-requires t) (links-same-length t) (links-returns t) (links-list-requires t) (links-enum-known-next t) (links-sub-push t) (links-push-requires t) (links-add-have t) (links-sub-more t) (links-loop-less t) (links-loop-again t) (links-enum-known-number t) (links-same-length-2 t) (links-returns-2 t) (links-too-deep-requires-2 t) (links-same-length-3 t) (links-returns-3 t) (links-add-kind-at t) (links-kind-at-requires-2 t) (links-add-unexpected t) (links-unexpected-requires t) (links-same-length-4 t) (links-returns-4 t) (links-sub-push-2 t) (links-add-push t) (links-push-requires-2 t) (links-add-at t) (links-add-have-2 t) (links-sub-more-2 t) (links-loop-less-2 t) (links-loop-again-2 t) (links-same-length-5 t) (links-returns-5 t)) (λ t. list-lts.spec (list-cs t) (list-at t) list.Post list-Inv-loop list-μ-loop (list-returns t) (list-add-at t) (list-loop-holds t) (list-kind-at-requires t) (list-arg-head-requires t) (list-sub-expr t) (list-expr-requires t) (list-enum-known-next t) (list-sub-push t) (list-push-requires t) (list-add-have t) (list-kind-at-requires-2 t) (list-add-at-2 t) (list-loop-less t) (list-loop-again t) (list-add-t30 t) (list-same-length t) (list-returns-2 t) (list-same-length-2 t) (list-returns-3 t) (list-enum-known-number t) (list-same-length-3 t) (list-returns-4 t) (list-add-t31 t) (list-same-length-4 t) (list-returns-5 t)) λ t. slashes-lts.spec (slashes-cs t) (slashes-at t) slashes.Post slashes-Inv-loop slashes-μ-loop (slashes-loop-holds t) (slashes-kind-at-requires t) (slashes-too-deep-requires t) (slashes-same-length t) (slashes-returns t) (slashes-add-chain t) (slashes-sub-chain t) (slashes-chain-requires t) (slashes-enum-known-next t) (slashes-sub-push t) (slashes-sub-push-2 t) (slashes-push-requires t) (slashes-add-have t) (slashes-loop-less t) (slashes-loop-again t) (slashes-enum-known-number t) (slashes-same-length-2 t) (slashes-returns-2 t) (slashes-same-length-3 t) (slashes-returns-3 t)
++chain+expr+links+list+slashes-spec = close μ-chain μ-expr μ-links μ-list μ-slashes (λ t. chain-lts.spec (chain-cs t) (chain-at t) chain.Post (chain-primary-requires t) (chain-enum-known-next t) (chain-links-requires t) (chain-enum-known-number t) (chain-same-length t) (chain-returns t) (chain-same-length-2 t) (chain-returns-2 t)) (λ t. expr-lts.spec (expr-cs t) (expr-at t) expr.Post (expr-chain-requires t) (expr-enum-known-next t) (expr-slashes-requires t) (expr-enum-known-number t) (expr-same-length t) (expr-returns t) (expr-same-length-2 t) (expr-returns-2 t)) (λ t. links-lts.spec (links-cs t) (links-at t) links.Post links-Inv-loop links-μ-loop (links-loop-holds t) (links-kind-at-requires t) (links-too-deep-requires t) (links-same-length t) (links-returns t) (links-list-requires t) (links-enum-known-next t) (links-sub-push t) (links-push-requires t) (links-add-have t) (links-sub-more t) (links-loop-less t) (links-loop-again t) (links-enum-known-number t) (links-same-length-2 t) (links-returns-2 t) (links-too-deep-requires-2 t) (links-same-length-3 t) (links-returns-3 t) (links-add-kind-at t) (links-kind-at-requires-2 t) (links-add-unexpected t) (links-unexpected-requires t) (links-same-length-4 t) (links-returns-4 t) (links-sub-push-2 t) (links-add-push t) (links-push-requires-2 t) (links-add-at t) (links-add-have-2 t) (links-sub-more-2 t) (links-loop-less-2 t) (links-loop-again-2 t) (links-same-length-5 t) (links-returns-5 t)) (λ t. list-lts.spec (list-cs t) (list-at t) list.Post list-Inv-loop list-μ-loop (list-returns t) (list-add-at t) (list-loop-holds t) (list-kind-at-requires t) (list-arg-head-requires t) (list-sub-expr t) (list-expr-requires t) (list-enum-known-next t) (list-sub-push t) (list-push-requires t) (list-add-have t) (list-kind-at-requires-2 t) (list-add-at-2 t) (list-loop-less t) (list-loop-again t) (list-add-t29 t) (list-same-length t) (list-returns-2 t) (list-same-length-2 t) (list-returns-3 t) (list-enum-known-number t) (list-same-length-3 t) (list-returns-4 t) (list-add-t30 t) (list-same-length-4 t) (list-returns-5 t)) λ t. slashes-lts.spec (slashes-cs t) (slashes-at t) slashes.Post slashes-Inv-loop slashes-μ-loop (slashes-loop-holds t) (slashes-kind-at-requires t) (slashes-too-deep-requires t) (slashes-same-length t) (slashes-returns t) (slashes-add-chain t) (slashes-sub-chain t) (slashes-chain-requires t) (slashes-enum-known-next t) (slashes-sub-push t) (slashes-sub-push-2 t) (slashes-push-requires t) (slashes-add-have t) (slashes-loop-less t) (slashes-loop-again t) (slashes-enum-known-number t) (slashes-same-length-2 t) (slashes-returns-2 t) (slashes-same-length-3 t) (slashes-returns-3 t)

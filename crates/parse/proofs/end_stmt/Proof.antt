@@ -37,9 +37,10 @@ same-length c = search needs
 
 returns-2 : tie.Need-returns-2
 returns-2 c =
-    let is7 = seen (c .before .before .before .before .before .kind-at .ensures) (c .before .before .before .before .if1 .left) in
-    (omega (arith, inside (c .before .before .before .before .before .before .before .before .args .toks .now) (c .before .before .before .before .before .before .before .before .args .at) 5 is7),
-    λ ts ms rep l h ns s e. let g = grown (c .before .before .push .ensures) l h e in stmt-ok refl (ended-ok rep s _ is7) (g .0) (g .1))
+    let is7 = seen (c .before .before .before .before .before .kind-at .ensures) (c .before .before .before .before .if1 .left) in (
+      omega (arith, inside (c .before .before .before .before .before .before .before .before .args .toks .now) (c .before .before .before .before .before .before .before .before .args .at) 5 is7),
+      λ ts ms rep l h ns s e. let g = grown (c .before .before .push .ensures) l h e in stmt-ok refl (ended-ok rep s _ is7) (g .0) (g .1),
+    )
 
 pub end-stmt-spec : {M : Type 1} → statement M
 end-stmt-spec =

@@ -35,10 +35,11 @@ returns : tie.Need-returns
 returns c =
     let e = c .before .before .before .before .before .next .given .1 in
     let o = c .before .before .before .before .before .before .before .before .before .expr .ensures in
-    let f = ahead e (o .0) in
-    (ahead-more (f .0) (omega arith) (f .3) (omega arith) (c .before .before .end-stmt .ensures .0),
-    λ ts ns rep l h. let d = done e (o .1 ts ns rep l h) in
-        stmt-by (stmt-go ts _ _ _ (d .0) (d .1)) (c .before .before .end-stmt .ensures .1 ts (withExpr ns (d .0)) rep (d .2 .long) (d .2 .held) ns (expr′ (d .0)) (expr-node (d .2))))
+    let f = ahead e (o .0) in (
+      ahead-more (f .0) (omega arith) (f .3) (omega arith) (c .before .before .end-stmt .ensures .0),
+      λ ts ns rep l h. let d = done e (o .1 ts ns rep l h) in
+          stmt-by (stmt-go ts _ _ _ (d .0) (d .1)) (c .before .before .end-stmt .ensures .1 ts (withExpr ns (d .0)) rep (d .2 .long) (d .2 .held) ns (expr′ (d .0)) (expr-node (d .2))),
+    )
 
 same-length-2 : tie.Need-same-length-2
 same-length-2 c = search needs

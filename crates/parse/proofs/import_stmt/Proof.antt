@@ -43,9 +43,10 @@ same-length : tie.Need-same-length
 same-length c = search needs
 
 returns-2 : tie.Need-returns-2
-returns-2 c =
-    (ahead-more (omega arith) (omega arith) (omega arith) (omega arith) (c .before .before .end-stmt .ensures .0),
-    λ ts ns rep l h. stmt-by (import-name rep _ (seen (c .before .before .before .before .before .kind-at .ensures) (c .before .before .before .before .if1 .left))) (c .before .before .end-stmt .ensures .1 ts ns rep l h ns (import′ _) refl))
+returns-2 c = (
+  ahead-more (omega arith) (omega arith) (omega arith) (omega arith) (c .before .before .end-stmt .ensures .0),
+  λ ts ns rep l h. stmt-by (import-name rep _ (seen (c .before .before .before .before .before .kind-at .ensures) (c .before .before .before .before .if1 .left))) (c .before .before .end-stmt .ensures .1 ts ns rep l h ns (import′ _) refl),
+)
 
 pub import-stmt-spec : {M : Type 1} → statement M
 import-stmt-spec =

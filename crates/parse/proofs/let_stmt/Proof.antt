@@ -77,10 +77,11 @@ returns-3 : tie.Need-returns-3
 returns-3 c =
     let e = c .before .before .before .before .before .next .given .1 in
     let o = c .before .before .before .before .before .before .before .before .before .expr .ensures in
-    let f = ahead e (o .0) in
-    (ahead-more (omega arith) (omega arith) (omega arith) (omega arith) (c .before .before .end-stmt .ensures .0),
-    λ ts ns rep l h. let d = done e (o .1 ts ns rep l h) in
-        stmt-by (let-go rep _ (seen (c .before .before .before .before .before .before .before .before .before .before .before .before .before .before .kind-at .ensures) (c .before .before .before .before .before .before .before .before .before .before .before .before .before .if1 .left)) (seen (c .before .before .before .before .before .before .before .before .before .before .before .before .kind-at2 .ensures) (c .before .before .before .before .before .before .before .before .before .before .before .if2 .left)) (d .0) _ _ (d .1)) (c .before .before .end-stmt .ensures .1 ts (withExpr ns (d .0)) rep (d .2 .long) (d .2 .held) ns (let′ _ (d .0)) (let-node (d .2) _)))
+    let f = ahead e (o .0) in (
+      ahead-more (omega arith) (omega arith) (omega arith) (omega arith) (c .before .before .end-stmt .ensures .0),
+      λ ts ns rep l h. let d = done e (o .1 ts ns rep l h) in
+          stmt-by (let-go rep _ (seen (c .before .before .before .before .before .before .before .before .before .before .before .before .before .before .kind-at .ensures) (c .before .before .before .before .before .before .before .before .before .before .before .before .before .if1 .left)) (seen (c .before .before .before .before .before .before .before .before .before .before .before .before .kind-at2 .ensures) (c .before .before .before .before .before .before .before .before .before .before .before .if2 .left)) (d .0) _ _ (d .1)) (c .before .before .end-stmt .ensures .1 ts (withExpr ns (d .0)) rep (d .2 .long) (d .2 .held) ns (let′ _ (d .0)) (let-node (d .2) _)),
+    )
 
 same-length-2 : tie.Need-same-length-2
 same-length-2 c = search needs

@@ -53,10 +53,11 @@ same-length : tie.Need-same-length Inv-loop μ-loop
 same-length c = c .before .before .before .before .before .loop .inv .3
 
 returns : tie.Need-returns Inv-loop μ-loop
-returns c =
-    (ahead-no (c .unexpected .ensures) (omega arith),
-    λ ts ns rep l h. let g = c .before .before .before .before .before .loop .inv .4 ts ns rep l h in
-        met-no (c .unexpected .ensures) (g .2 ∙ path-bad rep _ _ _ _ (g .0) (g .1) (seen (c .before .before .before .before .kind-at .ensures) (c .before .before .before .if1 .taken)) (unseen (c .before .before .kind-at2 .ensures) (c .before .if2 .taken))))
+returns c = (
+  ahead-no (c .unexpected .ensures) (omega arith),
+  λ ts ns rep l h. let g = c .before .before .before .before .before .loop .inv .4 ts ns rep l h in
+      met-no (c .unexpected .ensures) (g .2 ∙ path-bad rep _ _ _ _ (g .0) (g .1) (seen (c .before .before .before .before .kind-at .ensures) (c .before .before .before .if1 .taken)) (unseen (c .before .before .kind-at2 .ensures) (c .before .if2 .taken))),
+)
 
 add-push : tie.Need-add-push Inv-loop μ-loop
 add-push c = omega arith
@@ -79,11 +80,15 @@ loop-less c = omega (arith, inside (c .before .before .before .before .before .b
 loop-again : tie.Need-loop-again Inv-loop μ-loop
 loop-again c =
     let is13 = seen (c .before .before .before .before .before .kind-at2 .ensures) (c .before .before .before .before .if2 .left) in
-    let i = inside (c .before .before .before .before .before .before .before .before .before .before .before .args .toks .now) (c .before .before .before .before .before .before .before .before .loop .next + 1) 11 is13 in
-    (omega arith, omega arith, omega arith, omega (arith, c .before .before .push .kept .0),
-    λ ts ns rep l h. let g = c .before .before .before .before .before .before .before .before .loop .inv .4 ts ns rep l h in
-        let m = path-more rep (c .before .before .before .before .before .before .before .before .before .before .before .args .at) (c .before .before .before .before .before .before .before .before .before .before .before .args .steps) (c .before .before .before .before .before .before .before .before .loop .names) (c .before .before .before .before .before .before .before .before .loop .next) (g .0) (g .1) (seen (c .before .before .before .before .before .before .before .kind-at .ensures) (c .before .before .before .before .before .before .if1 .taken)) is13 in
-        (m .0, m .1, g .2 ∙ m .2, name-pushed (g .3) (omega arith) (c .before .before .push .ensures)))
+    let i = inside (c .before .before .before .before .before .before .before .before .before .before .before .args .toks .now) (c .before .before .before .before .before .before .before .before .loop .next + 1) 11 is13 in (
+      omega arith,
+      omega arith,
+      omega arith,
+      omega (arith, c .before .before .push .kept .0),
+      λ ts ns rep l h. let g = c .before .before .before .before .before .before .before .before .loop .inv .4 ts ns rep l h in
+          let m = path-more rep (c .before .before .before .before .before .before .before .before .before .before .before .args .at) (c .before .before .before .before .before .before .before .before .before .before .before .args .steps) (c .before .before .before .before .before .before .before .before .loop .names) (c .before .before .before .before .before .before .before .before .loop .next) (g .0) (g .1) (seen (c .before .before .before .before .before .before .before .kind-at .ensures) (c .before .before .before .before .before .before .if1 .taken)) is13 in
+          (m .0, m .1, g .2 ∙ m .2, name-pushed (g .3) (omega arith) (c .before .before .push .ensures)),
+    )
 
 push-requires-2 : tie.Need-push-requires-2 Inv-loop μ-loop
 push-requires-2 c κs = omega arith
@@ -95,10 +100,11 @@ same-length-2 : tie.Need-same-length-2 Inv-loop μ-loop
 same-length-2 c = omega (arith, c .before .before .push2 .kept .0, c .before .before .before .before .before .before .loop .inv .3)
 
 returns-2 : tie.Need-returns-2 Inv-loop μ-loop
-returns-2 c =
-    (omega arith,
-    λ ts ns rep l h. let g = c .before .before .before .before .before .before .loop .inv .4 ts ns rep l h in
-        met-ok refl (g .2 ∙ path-stop rep _ _ _ _ (g .0) (c .before .before .before .before .before .before .loop .inv .2) (g .1) (unseen (c .before .before .before .before .before .kind-at .ensures) (c .before .before .before .before .if1 .left))) (path-pushed (g .3) (c .before .before .push2 .ensures)))
+returns-2 c = (
+  omega arith,
+  λ ts ns rep l h. let g = c .before .before .before .before .before .before .loop .inv .4 ts ns rep l h in
+      met-ok refl (g .2 ∙ path-stop rep _ _ _ _ (g .0) (c .before .before .before .before .before .before .loop .inv .2) (g .1) (unseen (c .before .before .before .before .before .kind-at .ensures) (c .before .before .before .before .if1 .left))) (path-pushed (g .3) (c .before .before .push2 .ensures)),
+)
 
 pub module-path-spec : {M : Type 1} → statement M
 module-path-spec =

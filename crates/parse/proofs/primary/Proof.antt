@@ -81,14 +81,16 @@ same-length-4 c = search needs
 
 returns-4 : tie.Need-returns-4
 returns-4 c =
-    let is13 = seen (c .before .before .before .before .before .before .before .before .before .kind-at .ensures) (c .before .before .before .before .before .before .match .keys2) in
-    (omega (arith, inside (c .before .before .before .before .before .before .before .before .before .before .before .before .args .toks .now) (c .before .before .before .before .before .before .before .before .before .before .before .before .args .at) 11 is13),
-    λ ts ns rep l h. met-ok refl (primary-local rep _ _ is13 (unseen (c .before .before .before .before .before .kind-at2 .ensures) (c .before .before .before .before .if2 .left))) (leaf-pushed (local _) l h refl refl (c .before .before .push2 .ensures)))
+    let is13 = seen (c .before .before .before .before .before .before .before .before .before .kind-at .ensures) (c .before .before .before .before .before .before .match .keys2) in (
+      omega (arith, inside (c .before .before .before .before .before .before .before .before .before .before .before .before .args .toks .now) (c .before .before .before .before .before .before .before .before .before .before .before .before .args .at) 11 is13),
+      λ ts ns rep l h. met-ok refl (primary-local rep _ _ is13 (unseen (c .before .before .before .before .before .kind-at2 .ensures) (c .before .before .before .before .if2 .left))) (leaf-pushed (local _) l h refl refl (c .before .before .push2 .ensures)),
+    )
 
 returns-5 : tie.Need-returns-5
-returns-5 c =
-    (ahead-no (c .unexpected .ensures) (omega arith),
-    λ ts ns rep l h. met-no (c .unexpected .ensures) (primary-no rep _ _ (literal-seen (c .before .before .before .before .kind-at .ensures) (c .before .before .before .is-literal .ensures) (c .before .before .if1 .left)) (unseen (c .before .before .before .before .kind-at .ensures) (c .before .match .rest .0 .1)) (unseen (c .before .before .before .before .kind-at .ensures) (c .before .match .rest .1))))
+returns-5 c = (
+  ahead-no (c .unexpected .ensures) (omega arith),
+  λ ts ns rep l h. met-no (c .unexpected .ensures) (primary-no rep _ _ (literal-seen (c .before .before .before .before .kind-at .ensures) (c .before .before .before .is-literal .ensures) (c .before .before .if1 .left)) (unseen (c .before .before .before .before .kind-at .ensures) (c .before .match .rest .0 .1)) (unseen (c .before .before .before .before .kind-at .ensures) (c .before .match .rest .1))),
+)
 
 pub primary-spec : {M : Type 1} → statement M
 primary-spec =

@@ -39,9 +39,10 @@ same-length-3 : tie.Need-same-length-3
 same-length-3 c = search needs
 
 returns-3 : tie.Need-returns-3
-returns-3 c =
-    (c .before .before .expr-stmt .ensures .0,
-    λ ts ns rep l h. stmt-by (stmt-expr rep _ (unseen (c .before .before .before .before .before .kind-at .ensures) (c .before .before .before .before .match .rest .0 .1)) (unseen (c .before .before .before .before .before .kind-at .ensures) (c .before .before .before .before .match .rest .1))) (c .before .before .expr-stmt .ensures .1 ts ns rep l h))
+returns-3 c = (
+  c .before .before .expr-stmt .ensures .0,
+  λ ts ns rep l h. stmt-by (stmt-expr rep _ (unseen (c .before .before .before .before .before .kind-at .ensures) (c .before .before .before .before .match .rest .0 .1)) (unseen (c .before .before .before .before .before .kind-at .ensures) (c .before .before .before .before .match .rest .1))) (c .before .before .expr-stmt .ensures .1 ts ns rep l h),
+)
 
 pub stmt-spec : {M : Type 1} → statement M
 stmt-spec =
