@@ -118,11 +118,11 @@ decimal-byte n d e done =
 pub hexadecimal-digit : (n d : ℕ) → d ≡ n % 16 → d < 16
 hexadecimal-digit n d e = omega arith
 
-pub below-ten : (d : ℕ) → d < 10 → (48 + d) % 256 ≡ spellDigit d
-below-ten d h = rw (lt-ltb d 10 h) (omega arith)
+pub below-ten : {v : ℕ} (d : ℕ) → d < 10 → v ≡ 48 + d → v ≡ spellDigit d
+below-ten d h e = rw (lt-ltb d 10 h) e
 
-pub from-ten : (d : ℕ) → 10 ≤ d → d < 16 → (87 + d) % 256 ≡ spellDigit d
-from-ten d h l = rw (le-ltb d 10 h) (omega arith)
+pub from-ten : {v : ℕ} (d : ℕ) → 10 ≤ d → v ≡ 87 + d → v ≡ spellDigit d
+from-ten d h e = rw (le-ltb d 10 h) e
 
 pub hexadecimal-byte : {v : ℕ} (d : ℕ) → v ≡ spellDigit d → (done : List ℕ) → spellDigits (d ∷ done) ≡ v ∷ spellDigits done
 hexadecimal-byte d e done = rw e

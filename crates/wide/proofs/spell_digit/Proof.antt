@@ -11,7 +11,7 @@ cast-result : tie.Need-cast-result
 cast-result c = search needs
 
 returns : tie.Need-returns
-returns c = below-ten _ (search needs)
+returns c = below-ten (c .before .args .d) (search needs) (search needs)
 
 add-result-2 : tie.Need-add-result-2
 add-result-2 c = search needs
@@ -20,7 +20,7 @@ cast-result-2 : tie.Need-cast-result-2
 cast-result-2 c = search needs
 
 returns-2 : tie.Need-returns-2
-returns-2 c = from-ten _ (search needs) (search needs)
+returns-2 c = from-ten (c .before .args .d) (search needs) (search needs)
 
 pub spell-digit-spec : {M : Type 1} → statement M
 spell-digit-spec =
