@@ -6,7 +6,7 @@ use crate::input::digit;
 pub enum Mode {
     Scan,
     Lex,
-    // the line is not understood
+    // the line is not understood, or has not as many numbers as the mode has tables
     Unknown,
 }
 
@@ -132,6 +132,14 @@ fn unknown() -> Header {
     }
 }
 
+// The mode, if the line has one number: so many tables each mode has.
+fn with_rooms(mode: Mode, rooms: Rooms) -> Mode {
+    if rooms.count == 1 {
+        return mode;
+    }
+    Mode::Unknown
+}
+
 // The first line of a text.
 pub fn read(text: &[u8]) -> Header {
     let stop = find(text, 0, b'\n');
@@ -140,9 +148,10 @@ pub fn read(text: &[u8]) -> Header {
     }
     let line = &text[0..stop];
     let end = find(line, 0, b' ');
+    let rooms = rooms_of(line, end);
     Header {
-        mode: mode_of(&line[0..end]),
-        rooms: rooms_of(line, end),
+        mode: with_rooms(mode_of(&line[0..end]), rooms),
+        rooms: rooms,
         next: stop + 1,
     }
 }

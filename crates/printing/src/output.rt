@@ -101,6 +101,13 @@ pub fn field(out: &mut [u8], at: usize, n: u64) -> usize {
     number(out, p, n)
 }
 
+// Two numbers, each with a blank after it.
+pub fn pair(out: &mut [u8], at: usize, a: u64, b: u64) -> usize {
+    let p = number(out, at, a);
+    let q = field(out, p, b);
+    byte(out, q, b' ')
+}
+
 // The word that starts at place `from` of a list of words with blanks between.
 pub fn word(out: &mut [u8], at: usize, words: &[u8], from: usize) -> usize {
     let mut p = at;

@@ -40,29 +40,20 @@ fn error_name(out: &mut [u8], at: usize, kind: u64) -> usize {
 
 fn boolean(out: &mut [u8], at: usize, n: u64) -> usize {
     if n == 0 {
-        return output::text(out, at, b" false");
+        return output::text(out, at, b"false");
     }
-    output::text(out, at, b" true")
+    output::text(out, at, b"true")
 }
 
-// The value that a token carries, after a blank. Not that of a string.
+// The value that a token carries. A string's is not shown here.
 fn show_value(source: &[u8], token: Token, out: &mut [u8], at: usize) -> usize {
     let value = token.value;
     let kind = token.kind;
     match kind {
-        13 => {
-            let p = output::byte(out, at, b' ');
-            output::text(out, p, span(source, token.start, token.end))
-        }
+        13 => output::text(out, at, span(source, token.start, token.end)),
         14 => boolean(out, at, value.lo),
-        15 => {
-            let p = output::byte(out, at, b' ');
-            output::quad(out, p, value.lo)
-        }
-        17 | 18 => {
-            let p = output::byte(out, at, b' ');
-            output::wide(out, p, value)
-        }
+        15 => output::quad(out, at, value.lo),
+        17 | 18 => output::wide(out, at, value),
         _ => at,
     }
 }
@@ -70,7 +61,11 @@ fn show_value(source: &[u8], token: Token, out: &mut [u8], at: usize) -> usize {
 // The name of a token, and its value unless it is a string.
 pub fn show(source: &[u8], token: Token, out: &mut [u8], at: usize) -> usize {
     let p = name(out, at, token.kind);
-    show_value(source, token, out, p)
+    if token.kind < 13 || token.kind == 16 {
+        return p;
+    }
+    let q = output::byte(out, p, b' ');
+    show_value(source, token, out, q)
 }
 
 // The name of an error, and the character for one that was not expected.

@@ -68,11 +68,9 @@ fn what(source: &[u8], t: Token, out: &mut [u8], at: usize) -> usize {
 }
 
 fn line_of(source: &[u8], row: Row, out: &mut [u8], at: usize) -> usize {
-    let a = output::number(out, at, row.line);
-    let b = output::field(out, a, row.column);
-    let c = output::byte(out, b, b' ');
-    let d = what(source, row.token, out, c);
-    output::byte(out, d, b'\n')
+    let a = output::pair(out, at, row.line, row.column);
+    let b = what(source, row.token, out, a);
+    output::byte(out, b, b'\n')
 }
 
 // The first `count` rows of the table.

@@ -27,13 +27,15 @@ fn run_in(chunk: &mut [u8], out: &mut [u8]) {
         at: head.next,
         end: end,
     };
+    let rooms = head.rooms;
+    let rows = rooms.rows;
     let mode = head.mode;
     match mode {
         Mode::Scan => {
-            one_table::scan(head.rooms, chunk, unread, out);
+            one_table::scan(rows[0], chunk, unread, out);
         }
         Mode::Lex => {
-            one_table::lex(head.rooms, chunk, unread, out);
+            one_table::lex(rows[0], chunk, unread, out);
         }
         Mode::Unknown => {
             output::bad_input(out, 0);

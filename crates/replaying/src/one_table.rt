@@ -3,7 +3,6 @@ ghost use Prim.Native.Nat.{_≤_};
 use crate::lex_mode;
 use crate::scan_mode;
 use printing::header::Mode;
-use printing::header::Rooms;
 use printing::input;
 use printing::input::Line;
 use printing::input::Unread;
@@ -56,14 +55,25 @@ fn answers(
     }
 }
 
+// The smaller of two numbers.
+fn least(a: usize, b: usize) -> usize
+    ensures { λ r. ⌜ r ≤ b ⌝ }
+{
+    if a < b { a } else { b }
+}
+
 // A number of rows, or one that no table here reaches.
 fn rows_of(rows: u64) -> usize
     ensures { λ r. ⌜ r ≤ 1000000 ⌝ }
 {
-    if rows < 1000000 { rows as usize } else { 1000000 }
+    if rows < 1000000 {
+        rows as usize
+    } else {
+        1000000
+    }
 }
 
-// Lends the rows that are asked for, or the whole table where it has no more.
+// Lends so many words, or the whole table where it has no more.
 fn run(
     mode: Mode,
     words: usize,
@@ -73,38 +83,41 @@ fn run(
     table: &mut [u64],
     out: &mut [u8],
 ) {
-    if words <= table.len() {
-        answers(mode, chunk, unread, source, &mut table[0..words], out);
-    } else {
-        answers(mode, chunk, unread, source, table, out);
-    }
+    let end = least(words, table.len());
+    answers(mode, chunk, unread, source, &mut table[0..end], out);
 }
 
 // A source's buffer is longer than any source that is taken, so that one which is too long is still too long there. Each
 // mode has a function of its own, so that only the table in use is on the stack.
 
-pub fn scan(rooms: Rooms, chunk: &mut [u8], unread: Unread, out: &mut [u8]) {
-    if rooms.count != 1 {
-        output::bad_input(out, 0);
-        return;
-    }
-    let rows = rooms.rows;
-    let words = rows_of(rows[0]) * 6;
+pub fn scan(rows: u64, chunk: &mut [u8], unread: Unread, out: &mut [u8]) {
+    let words = rows_of(rows) * 6;
     let mut source = [0u8; 65600];
     // 65,536 rows
     let mut table = [0u64; 393216];
-    run(Mode::Scan, words, chunk, unread, &mut source, &mut table, out);
+    run(
+        Mode::Scan,
+        words,
+        chunk,
+        unread,
+        &mut source,
+        &mut table,
+        out,
+    );
 }
 
-pub fn lex(rooms: Rooms, chunk: &mut [u8], unread: Unread, out: &mut [u8]) {
-    if rooms.count != 1 {
-        output::bad_input(out, 0);
-        return;
-    }
-    let rows = rooms.rows;
-    let words = rows_of(rows[0]) * 7;
+pub fn lex(rows: u64, chunk: &mut [u8], unread: Unread, out: &mut [u8]) {
+    let words = rows_of(rows) * 7;
     let mut source = [0u8; 65600];
     // 65,537 rows, for the end is a token too
     let mut table = [0u64; 458759];
-    run(Mode::Lex, words, chunk, unread, &mut source, &mut table, out);
+    run(
+        Mode::Lex,
+        words,
+        chunk,
+        unread,
+        &mut source,
+        &mut table,
+        out,
+    );
 }

@@ -56,11 +56,9 @@ fn what(source: &[u8], row: Row, out: &mut [u8], at: usize) -> usize {
 
 fn lexeme(source: &[u8], row: Row, out: &mut [u8], at: usize) -> usize {
     let t = row.token;
-    let a = output::number(out, at, t.start as u64);
-    let b = output::field(out, a, t.end as u64);
-    let c = output::byte(out, b, b' ');
-    let d = what(source, row, out, c);
-    output::byte(out, d, b'\n')
+    let a = output::pair(out, at, t.start as u64, t.end as u64);
+    let b = what(source, row, out, a);
+    output::byte(out, b, b'\n')
 }
 
 // The first `count` rows of the table.
