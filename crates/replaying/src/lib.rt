@@ -3,13 +3,15 @@
 // The first line says what to run and how many rows each lent table has, as `scan 4096`. Each line after it is a source
 // in hex. An answer ends with a line `--`. Where the input is none of this, one line says `bad input` and nothing
 // follows.
-mod header;
-mod input;
-mod output;
+mod lex_mode;
+mod one_table;
 mod scan_mode;
+mod verdict;
 
-use header::Mode;
-use input::Unread;
+use printing::header;
+use printing::header::Mode;
+use printing::input::Unread;
+use printing::output;
 
 pub fn run() {
     let mut chunk = [0u8; 262144];
@@ -25,10 +27,15 @@ fn run_in(chunk: &mut [u8], out: &mut [u8]) {
         at: head.next,
         end: end,
     };
+    let rooms = head.rooms;
+    let rows = rooms.rows;
     let mode = head.mode;
     match mode {
         Mode::Scan => {
-            scan_mode::run(head.rooms, chunk, unread, out);
+            one_table::scan(rows[0], chunk, unread, out);
+        }
+        Mode::Lex => {
+            one_table::lex(rows[0], chunk, unread, out);
         }
         Mode::Unknown => {
             output::bad_input(out, 0);

@@ -1,0 +1,157 @@
+// The first line of the input: a mode, and the rows of each table that it lends.
+ghost use Prim.Native.Nat.{_≤_};
+ghost use lib.ListN.{length};
+use crate::input::digit;
+
+pub enum Mode {
+    Scan,
+    Lex,
+    // the line is not understood, or has not as many numbers as the mode has tables
+    Unknown,
+}
+
+// The numbers of the line, in their order, and how many there are: 5 where the line is not understood.
+pub struct Rooms {
+    pub rows: [u64; 4],
+    pub count: usize,
+}
+
+// `next` is where the line after the first one starts.
+pub struct Header {
+    pub mode: Mode,
+    pub rooms: Rooms,
+    pub next: usize,
+}
+
+enum Number {
+    Is(u64),
+    Not,
+}
+
+// The place of the first byte `b` from `from` on, or the text's length.
+fn find(text: &[u8], from: usize, b: u8) -> usize
+    requires { ⌜ from ≤ length (now text) ⌝ }
+    ensures { λ r. ⌜ (from ≤ r) × (r ≤ length (now (text .entry))) ⌝ }
+{
+    let mut i = from;
+    while i < text.len() {
+        if text[i] == b {
+            return i;
+        }
+        i += 1;
+    }
+    i
+}
+
+fn same(text: &[u8], key: &[u8]) -> bool {
+    if text.len() != key.len() {
+        return false;
+    }
+    let mut i = 0;
+    while i < key.len() {
+        if text[i] != key[i] {
+            return false;
+        }
+        i += 1;
+    }
+    true
+}
+
+fn mode_of(name: &[u8]) -> Mode {
+    if same(name, b"scan") {
+        return Mode::Scan;
+    }
+    if same(name, b"lex") {
+        return Mode::Lex;
+    }
+    Mode::Unknown
+}
+
+// A number of rows that no array here reaches counts as this one.
+fn cut(n: u64) -> u64
+    ensures { λ r. ⌜ r ≤ 1000000 ⌝ }
+{
+    if 1000000 < n { 1000000 } else { n }
+}
+
+fn number_of(text: &[u8]) -> Number {
+    if text.len() == 0 {
+        return Number::Not;
+    }
+    let mut n: u64 = 0;
+    let mut i = 0;
+    while i < text.len() {
+        let d = digit(text[i]);
+        if 9 < d {
+            return Number::Not;
+        }
+        n = cut(n * 10 + d as u64);
+        i += 1;
+    }
+    Number::Is(n)
+}
+
+// The numbers from `from` on, each after a blank.
+fn rooms_of(line: &[u8], from: usize) -> Rooms
+    requires { ⌜ from ≤ length (now line) ⌝ }
+{
+    let mut rows = [0u64; 4];
+    let mut count: usize = 0;
+    let mut at = from;
+    while at < line.len() {
+        let start = at + 1;
+        let end = find(line, start, b' ');
+        let Number::Is(n) = number_of(&line[start..end]) else {
+            return no_rooms();
+        };
+        if 3 < count {
+            return no_rooms();
+        }
+        rows[count] = n;
+        count += 1;
+        at = end;
+    }
+    Rooms {
+        rows: rows,
+        count: count,
+    }
+}
+
+fn no_rooms() -> Rooms {
+    Rooms {
+        rows: [0; 4],
+        count: 5,
+    }
+}
+
+fn unknown() -> Header {
+    Header {
+        mode: Mode::Unknown,
+        rooms: no_rooms(),
+        next: 0,
+    }
+}
+
+// The mode, if the line has one number: so many tables each mode has.
+fn with_rooms(mode: Mode, rooms: Rooms) -> Mode {
+    if rooms.count == 1 {
+        return mode;
+    }
+    Mode::Unknown
+}
+
+// The first line of a text.
+pub fn read(text: &[u8]) -> Header {
+    let stop = find(text, 0, b'\n');
+    if text.len() <= stop {
+        return unknown();
+    }
+    let line = &text[0..stop];
+    let end = find(line, 0, b' ');
+    let rooms = rooms_of(line, end);
+    Header {
+        mode: with_rooms(mode_of(&line[0..end]), rooms),
+        rooms: rooms,
+        next: stop + 1,
+    }
+}

@@ -1,0 +1,6 @@
+// What the programs that print answers share: the first line of the input, sources read as lines of hex, and text for
+// standard output.
+pub mod header;
+pub mod input;
+pub mod output;
+pub mod token;

@@ -1,0 +1,78 @@
+// Tokens and lexical errors, by the numbers that tables hold for them.
+use crate::output;
+use wide::Wide;
+
+// What is shown of a token: its kind, where it starts and ends in the source, and its value.
+pub struct Token {
+    pub kind: u64,
+    pub start: usize,
+    pub end: usize,
+    pub value: Wide,
+}
+
+// The bytes of a span.
+fn span(source: &[u8], start: usize, end: usize) -> &[u8] {
+    if start <= end && end <= source.len() {
+        return &source[start..end];
+    }
+    &source[0..0]
+}
+
+// The names of the kinds of token, 15 bytes for each number from 0 on.
+fn name(out: &mut [u8], at: usize, kind: u64) -> usize {
+    let names =
+        b"-              Eof            LParen         RParen         Dot            DoubleColon    Colon          SemiColon      Equals         Comma          Slash          ImportKeyword  LetKeyword     Identifier     BooleanLiteral IPv4Literal    StringLiteral  HexLiteral     DecLiteral     ";
+    if kind < 19 {
+        return output::word(out, at, names, kind as usize * 15);
+    }
+    at
+}
+
+// The names of the kinds of error, 19 bytes for each number from 0 on.
+fn error_name(out: &mut [u8], at: usize, kind: u64) -> usize {
+    let names =
+        b"-                  UnexpectedChar     UnterminatedString IntOutOfRange      IntLeadingZero     IntInvalidSuffix   IPv4Literal        ";
+    if kind < 7 {
+        return output::word(out, at, names, kind as usize * 19);
+    }
+    at
+}
+
+fn boolean(out: &mut [u8], at: usize, n: u64) -> usize {
+    if n == 0 {
+        return output::text(out, at, b"false");
+    }
+    output::text(out, at, b"true")
+}
+
+// The value that a token carries. A string's is not shown here.
+fn show_value(source: &[u8], token: Token, out: &mut [u8], at: usize) -> usize {
+    let value = token.value;
+    let kind = token.kind;
+    match kind {
+        13 => output::text(out, at, span(source, token.start, token.end)),
+        14 => boolean(out, at, value.lo),
+        15 => output::quad(out, at, value.lo),
+        17 | 18 => output::wide(out, at, value),
+        _ => at,
+    }
+}
+
+// The name of a token, and its value unless it is a string.
+pub fn show(source: &[u8], token: Token, out: &mut [u8], at: usize) -> usize {
+    let p = name(out, at, token.kind);
+    if token.kind < 13 || token.kind == 16 {
+        return p;
+    }
+    let q = output::byte(out, p, b' ');
+    show_value(source, token, out, q)
+}
+
+// The name of an error, and the character for one that was not expected.
+pub fn show_error(out: &mut [u8], at: usize, kind: u64, character: u64) -> usize {
+    let p = error_name(out, at, kind);
+    if kind == 1 {
+        return output::field(out, p, character);
+    }
+    p
+}
