@@ -1,7 +1,7 @@
 -- What the code's answers mean: from an answer that meets an outcome to the outcome, and back; and how far the code went.
-use mathlib.Core.Path.{_≡_, refl, sym, ap, _∙_}
-use mathlib.Core.List.{List, [], _∷_, _++_}
-use Prim.Native.Nat.{ℕ, _+_, _*_, _≤_, _<_}
+use mathlib.Core.Path.{_≡_, refl}
+use mathlib.Core.List.{List}
+use Prim.Native.Nat.{ℕ, _+_, _*_, _≤_}
 use native.Mathlib.Omega.{arith}
 use lib.ListN.{length}
 use Rattle.language.specs.Sentences.{Expr, Args, Stmt, Out, ok, no, Node, nodesFrom}
@@ -11,6 +11,10 @@ use Rattle.parse.specs.declared.Parsed.the-variants.{Done, Refused}
 use Rattle.parse.specs.declared.Listed.{Listed}
 use Rattle.parse.specs.declared.Listed.the-variants as listed
 
+-- two constructors are never equal
+pub never : {A : Type 0} → _≡_ {A = ℕ} 0 1 → A
+never e = absurd (omega (arith, e))
+
 -- ---- expressions
 
 standing : {t : List ℕ} {ns : List Node} {e : Expr} {m n first : ℕ} → m ≡ n → Stands t ns e m first → Stands t ns e n first
@@ -19,10 +23,10 @@ standing q h = rw q at h
 module _ {r : Parsed} {t : List ℕ} {ns : List Node} {first : ℕ} where
   pub done : {o : Out Expr} {next n s : ℕ} → r ≡ Done next n s → MetExpr r t ns first o → (e : Expr) × (o ≡ ok e next s) × Stands t ns e n first
   done {o = ok e at x} {n = n} q h = let d = h .met in let p : r ≡ Done at (d .0) x = d .1 in let same : d .0 ≡ n = cc in (e, (cc), standing same (d .2))
-  done {o = no m k a} q h = let p = h .met in let z : _≡_ {A = ℕ} 0 1 = cc in absurd (omega arith)
+  done {o = no m k a} q h = let p = h .met in never (cc)
 
   pub refused : {o : Out Expr} {n k a : ℕ} → r ≡ Refused n k a → MetExpr r t ns first o → o ≡ no n k a
-  refused {o = ok e at s} q h = let p = h .met .1 in let z : _≡_ {A = ℕ} 0 1 = cc in absurd (omega arith)
+  refused {o = ok e at s} q h = let p = h .met .1 in never (cc)
   refused {o = no m j b} q h = let p = h .met in cc
 
   pub met-ok : {o : Out Expr} {e : Expr} {at n s : ℕ} → r ≡ Done at n s → o ≡ ok e at s → Stands t ns e n first → MetExpr r t ns first o
@@ -48,10 +52,10 @@ module _ {r : Listed} {t : List ℕ} {ns : List Node} where
       let same : d .0 ≡ n = cc in
       let end : d .1 ≡ last = cc in
       (g, x, (cc), listing same end (d .3))
-  list-done {o = no m k a} q h = let p = h .met in let z : _≡_ {A = ℕ} 0 1 = cc in absurd (omega arith)
+  list-done {o = no m k a} q h = let p = h .met in never (cc)
 
   pub list-refused : {o : Out Args} {n k a : ℕ} → r ≡ listed.Refused n k a → MetArgs r t ns o → o ≡ no n k a
-  list-refused {o = ok e at s} q h = let p = h .met .2 in let z : _≡_ {A = ℕ} 0 1 = cc in absurd (omega arith)
+  list-refused {o = ok e at s} q h = let p = h .met .2 in never (cc)
   list-refused {o = no m j b} q h = let p = h .met in cc
 
 pub list-ok : {t : List ℕ} {ns : List Node} {o : Out Args} {g : Args} {at n last s : ℕ} → o ≡ ok g at s → Lists t ns g n last → MetArgs (listed.Done at n last) t ns o
@@ -74,10 +78,10 @@ module _ {r : Parsed} {t : List ℕ} {ns : List Node} where
 
   pub stmt-done : {o : Out Stmt} {next n s : ℕ} → r ≡ Done next n s → MetStmt r t ns o → (x : Stmt) × (y : ℕ) × (o ≡ ok x next y) × (length (withStmt ns x) ≡ n) × Holds t (withStmt ns x)
   stmt-done {o = ok x at y} q h = let p = h .met .0 in (x, y, (cc), (cc), h .met .1)
-  stmt-done {o = no m k a} q h = let p = h .met in let z : _≡_ {A = ℕ} 0 1 = cc in absurd (omega arith)
+  stmt-done {o = no m k a} q h = let p = h .met in never (cc)
 
   pub stmt-refused : {o : Out Stmt} {n k a : ℕ} → r ≡ Refused n k a → MetStmt r t ns o → o ≡ no n k a
-  stmt-refused {o = ok e at s} q h = let p = h .met .0 in let z : _≡_ {A = ℕ} 0 1 = cc in absurd (omega arith)
+  stmt-refused {o = ok e at s} q h = let p = h .met .0 in never (cc)
   stmt-refused {o = no m j b} q h = let p = h .met in cc
 
 pub all-ok : {t : List ℕ} {o : Out (List Stmt)} {ss : List Stmt} {at n s : ℕ} → o ≡ ok ss at s → length (nodesFrom 0 ss) ≡ n → Holds t (nodesFrom 0 ss) → MetAll (Done at n 0) t o

@@ -3,3 +3,4 @@ pub mod Nodes
 pub mod Answers
 pub mod Looks
 pub mod Steps
+pub mod Rows

@@ -1,23 +1,21 @@
 -- What the code sees of a token: its kind, whether it is a port, whether it names an argument.
 use mathlib.Core.Path.{_≡_, refl, sym, ap, _∙_}
-use mathlib.Core.Bool.{Bool, true, false, _&&_}
-use mathlib.Core.Logic.{_⊎_, inl, inr}
+use mathlib.Core.Bool.{Bool, true, false}
 use mathlib.Core.List.{List}
-use Prim.Native.Nat.{ℕ, zero, suc, _+_, _*_, _≤_, _<_}
+use Prim.Native.Nat.{ℕ, suc, _+_, _*_, _≤_, _<_}
 use native.Mathlib.Omega.{arith}
 use native.Mathlib.Decide.{decLe}
-use borrow.Author.Tests.{eq-eqb, ne-eqb, le-leb, lt-leb, eqb-true, eqb-false}
-use denote.Enum.Declared.{tagOf}
+use borrow.Author.Tests.{eq-eqb, ne-eqb, le-leb, lt-leb}
 use lib.Dec.{eqb}
 use lib.ListN.{length, getD}
 use Rattle.wide.specs.declared.Wide.{Wide}
 use Rattle.language.specs.Tables.{contentKind}
 use Rattle.language.specs.Tokens.{Content, eof}
-use Rattle.language.specs.Sentences.{Port, port, tooLarge, notPort, portOf}
+use Rattle.language.specs.Sentences.{Port, port, tooLarge, notPort}
 use Rattle.parse.specs.Parsing.{kindAt, literalKind, portAs, portTokOf, portOfTok, portAt, isNamed, argKind, valueFrom, Rep}
+use Rattle.parse.proofs.Answers.{never}
 use Rattle.parse.specs.declared.PortTok.{PortTok}
 use Rattle.parse.specs.declared.PortTok.the-variants.{DecLiteral, Other}
-use Rattle.parse.specs.declared.PortIs.{PortIs}
 use Rattle.parse.specs.declared.PortIs.the-variants.{Good, TooLarge, NotPort}
 
 -- ---- kinds
@@ -64,7 +62,7 @@ pub literal-seen : {r b : Bool} {k n : ℕ} → k ≡ n → r ≡ literalKind k 
 literal-seen e p q = rw e at (sym p ∙ q)
 
 pub literal-inside : (toks : List ℕ) (at : ℕ) → literalKind (kindAt toks at) ≡ true → 7 * at + 7 ≤ length toks
-literal-inside toks at e = row-of toks at (λ one. let z : false ≡ true = rw one at e in let y : _≡_ {A = ℕ} 0 1 = cc in omega arith)
+literal-inside toks at e = row-of toks at (λ one. let z : false ≡ true = rw one at e in never (cc))
 
 -- ---- ports
 
@@ -101,23 +99,23 @@ module _ (t : PortTok) (toks : List ℕ) (at : ℕ) (e : t ≡ portTokOf (kindAt
 -- what the code's answer says of the port
 pub is-good : (p : Port) → Good ≡ portAs p → p ≡ port
 is-good port e = refl
-is-good tooLarge e = let z : _≡_ {A = ℕ} 0 1 = cc in absurd (omega arith)
-is-good notPort e = let z : _≡_ {A = ℕ} 0 1 = cc in absurd (omega arith)
+is-good tooLarge e = never (cc)
+is-good notPort e = never (cc)
 
 pub is-large : (p : Port) → TooLarge ≡ portAs p → p ≡ tooLarge
-is-large port e = let z : _≡_ {A = ℕ} 0 1 = cc in absurd (omega arith)
+is-large port e = never (cc)
 is-large tooLarge e = refl
-is-large notPort e = let z : _≡_ {A = ℕ} 0 1 = cc in absurd (omega arith)
+is-large notPort e = never (cc)
 
 pub is-not : (p : Port) → NotPort ≡ portAs p → p ≡ notPort
-is-not port e = let z : _≡_ {A = ℕ} 0 1 = cc in absurd (omega arith)
-is-not tooLarge e = let z : _≡_ {A = ℕ} 0 1 = cc in absurd (omega arith)
+is-not port e = never (cc)
+is-not tooLarge e = never (cc)
 is-not notPort e = refl
 
 -- a port has a row
 pub port-inside : (toks : List ℕ) (at : ℕ) → portAt toks at ≡ port → 7 * at + 7 ≤ length toks
 unfolding portAt portTokOf portOfTok
-port-inside toks at e = row-of toks at (λ one. let z : notPort ≡ port = rw one at e in let y : _≡_ {A = ℕ} 0 1 = cc in absurd (omega arith))
+port-inside toks at e = row-of toks at (λ one. let z : notPort ≡ port = rw one at e in never (cc))
 
 -- ---- the names of arguments
 

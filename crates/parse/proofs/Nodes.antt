@@ -2,13 +2,13 @@
 use mathlib.Core.Path.{_≡_, refl, sym, ap, _∙_}
 use mathlib.Core.Bool.{Bool, true, false}
 use mathlib.Core.List.{List, [], _∷_, _++_, append-assoc, append-nil}
-use Prim.Native.Nat.{ℕ, zero, suc, _+_, _-_, _*_, _≤_, _<_}
+use Prim.Native.Nat.{ℕ, zero, suc, _+_, _-_, _*_}
 use native.Mathlib.Numerals.{add-one}
 use native.Mathlib.Omega.{arith}
 use lib.ListN.{length, length-append}
 use Rattle.table.specs.Table.{tabled, putRow}
 use Rattle.table.proofs.Laws.{put-next, tabled-own}
-use Rattle.language.specs.Sentences.{Expr, literal, sock4, local, path, member, call, slash′, Args, none-given, given, named, Stmt, import′, let′, expr′, firstOf, Node, node, nameNodes, exprSize, argsSize, lastOf, exprNodes, argNodes, stmtNodes, nodesFrom, nodeRow, nodeWidth}
+use Rattle.language.specs.Sentences.{Expr, literal, sock4, local, path, member, call, slash′, Args, none-given, given, named, Stmt, let′, expr′, firstOf, Node, node, nameNodes, exprSize, argsSize, lastOf, exprNodes, argNodes, stmtNodes, nodesFrom, nodeRow, nodeWidth}
 use Rattle.parse.specs.Parsing.{argKind, valueFrom, withArg, Holds, Pushes, withExpr, withArgs, withStmt, Stands, Lists}
 
 -- ---- one node more
@@ -62,6 +62,16 @@ with-args ns g = simp length-append (omega (arith, args-long (length ns) g))
 
 -- ---- trees that grow
 
+-- the nodes of one argument more, and its row
+arg-nodes : (ns : List Node) (g : Args) (e : Expr) (b : Bool) (at : ℕ) → firstOf e ≡ valueFrom b at
+    → withExpr (withArgs ns g) e ++ node (argKind b) at (length ns + argsSize g + exprSize e - 1) (lastOf (length ns) g) 0 ∷ [] ≡ withArgs ns (withArg b g at e)
+arg-nodes ns g e true at f = rw (with-args ns g) (simp append-assoc)
+arg-nodes ns g e false at f = rw (with-args ns g, f) (simp append-assoc)
+
+arg-last : (k : ℕ) (g : Args) (e : Expr) (b : Bool) (at : ℕ) → lastOf k (withArg b g at e) ≡ k + (argsSize g + exprSize e + 1)
+arg-last k g e true at = refl
+arg-last k g e false at = refl
+
 module _ {t t′ : List ℕ} where
   -- a tree of one node
   pub leaf-pushed : {ns : List Node} {count first : ℕ} {n : Node} (e : Expr) → length ns ≡ count → Holds t ns → n ∷ [] ≡ exprNodes (length ns) e → firstOf e ≡ first
@@ -99,23 +109,15 @@ module _ {t t′ : List ℕ} where
         let g = grown p (s′ .long) (s′ .held) same in
         record { long = g .0; held = g .1; starts = s .starts }
 
-  -- an argument came after those before it
+  -- the argument came after those before it
   pub arg-pushed : {t₀ : List ℕ} {ns : List Node} {g : Args} {have last m v k : ℕ} {e : Expr} (b : Bool) (at : ℕ) → Lists t₀ ns g have last → Stands t (withArgs ns g) e m v
       → v ≡ valueFrom b at → k ≡ argKind b → Pushes t t′ m (node k at (m - 1) last 0) → Lists t′ ns (withArg b g at e) (m + 1) (m + 1)
-  arg-pushed {ns = ns} {g} {have} {last} {m} {v} {k} {e} true at s s′ ev ek p =
-      let w = with-args ns g in
-      let row : m - 1 ≡ length ns + argsSize g + exprSize e - 1 = omega (arith, s′ .long, with-expr (withArgs ns g) e) in
-      let end : m + 1 ≡ length ns + (argsSize g + exprSize e + 1) = omega (arith, s′ .long, with-expr (withArgs ns g) e) in
-      let same : withExpr (withArgs ns g) e ++ node k at (m - 1) last 0 ∷ [] ≡ withArgs ns (named g at e) = rw (ek, row, w, s .ends) (simp append-assoc) in
+  arg-pushed {ns = ns} {g} {have} {last} {m} {v} {k} {e} b at s s′ ev ek p =
+      let long : m ≡ length ns + argsSize g + exprSize e = sym (s′ .long) ∙ with-expr (withArgs ns g) e ∙ ap (λ (n : ℕ). n + exprSize e) (with-args ns g) in
+      let same : withExpr (withArgs ns g) e ++ node k at (m - 1) last 0 ∷ [] ≡ withArgs ns (withArg b g at e) = rw (long, ek, ← s .ends) (arg-nodes ns g e b at (s′ .starts ∙ ev)) in
       let q = grown p (s′ .long) (s′ .held) same in
-      record { long = q .0; held = q .1; ends = sym end }
-  arg-pushed {ns = ns} {g} {have} {last} {m} {v} {k} {e} false at s s′ ev ek p =
-      let w = with-args ns g in
-      let row : m - 1 ≡ length ns + argsSize g + exprSize e - 1 = omega (arith, s′ .long, with-expr (withArgs ns g) e) in
-      let end : m + 1 ≡ length ns + (argsSize g + exprSize e + 1) = omega (arith, s′ .long, with-expr (withArgs ns g) e) in
-      let same : withExpr (withArgs ns g) e ++ node k at (m - 1) last 0 ∷ [] ≡ withArgs ns (given g e) = rw (ek, row, w, s .ends, s′ .starts, ev) (simp append-assoc) in
-      let q = grown p (s′ .long) (s′ .held) same in
-      record { long = q .0; held = q .1; ends = sym end }
+      let end : length ns + (argsSize g + exprSize e + 1) ≡ m + 1 = omega arith in
+      record { long = q .0; held = q .1; ends = arg-last (length ns) g e b at ∙ end }
 
 -- no argument yet
 pub none-listed : {t : List ℕ} {ns : List Node} {count : ℕ} → length ns ≡ count → Holds t ns → Lists t ns none-given count 0

@@ -1,19 +1,18 @@
 -- One law for each step of the grammar: what the definition gives from what the code saw and from what its parts give.
-use mathlib.Core.Path.{_≡_, refl, sym, ap, _∙_}
+use mathlib.Core.Path.{_≡_, refl, sym, _∙_}
 use mathlib.Core.Bool.{Bool, true, false, _&&_}
 use mathlib.Core.List.{List, [], _∷_, _++_}
 use Prim.Native.Nat.{ℕ, zero, suc, _+_, _-_, _*_, _≤_, _<_}
 use native.Mathlib.Omega.{arith}
 use native.Mathlib.Numerals.{sub-one}
-use borrow.Author.Tests.{eq-eqb, ne-eqb, eqb-true, eqb-false}
 use lib.Dec.{eqb}
 use lib.ListN.{length, getD}
 use Rattle.language.specs.Choice.{if′}
 use Rattle.language.specs.Tables.{contentKind}
 use Rattle.language.specs.Tokens.{Content, eof}
-use Rattle.language.specs.Sentences.{Expr, literal, sock4, local, path, member, call, slash′, Args, none-given, given, named, Stmt, import′, let′, expr′, Port, port, tooLarge, notPort, portOf, Out, ok, no, andThen, mostSteps, mostLists, is, namesFrom, address, named′, primary, links, chainOf, slashes, exprOf, argOf, argsOf, listAt, chainAt, exprAt, ended, importAt, letAt, stmtAt, stmtsFrom, program}
+use Rattle.language.specs.Sentences.{Expr, literal, sock4, local, path, member, call, slash′, Args, none-given, given, named, Stmt, import′, let′, expr′, port, tooLarge, notPort, Out, ok, no, andThen, mostSteps, mostLists, namesFrom, address, named′, primary, links, chainOf, slashes, exprOf, argOf, argsOf, listAt, exprAt, ended, importAt, letAt, stmtAt, stmtsFrom, program}
 use Rattle.parse.specs.Parsing.{kindAt, literalKind, portAt, isNamed, valueFrom, withArg, exprStmt, Rep}
-use Rattle.parse.proofs.Looks.{inside, row-of, kind-is, is-true, is-false}
+use Rattle.parse.proofs.Looks.{inside, kind-is, is-true, is-false}
 
 -- a path whose names after the first are still to be read, n of them read
 abbrev pub pathFrom : List Content → ℕ → ℕ → ℕ → ℕ → ℕ → Out Expr
@@ -161,38 +160,32 @@ module _ {toks : List ℕ} {ts : List Content} (rep : Rep toks ts) where
     args-end (suc k) lt is3 = rw (is-true toks at rep 3 is3, argsOf)
 
     module _ (v k : ℕ) (ev : v ≡ valueFrom (isNamed toks at) at) (le : 7 * at ≤ length toks) (lt : length ts < at + k) (no3 : kindAt toks at ≡ 3 → ⊥) where
+      some : (k : ℕ) → length ts < at + k → (j : ℕ) × (k ≡ suc j)
+      some zero lt = absurd (omega (arith, rep .long))
+      some (suc j) lt = (j, refl)
+
       pub args-no : (n j a : ℕ) → p v ≡ no n j a → argsOf ts p k g at ≡ no n j a
       unfolding argsOf
-      args-no n j a q = first k lt
-        where
-          first : (k : ℕ) → length ts < at + k → argsOf ts p k g at ≡ no n j a
-          first zero lt = absurd (omega (arith, rep .long))
-          first (suc k) lt = rw (is-false toks at rep 3 no3, argsOf) (rw (arg-is p g at, ← ev, q) refl)
+      args-no n j a q = rw (some k lt .1) (rw (is-false toks at rep 3 no3, argsOf) (rw (arg-is p g at, ← ev, q) refl))
 
       module _ (e : Expr) (next x : ℕ) (q : p v ≡ ok e next x) where
         pub args-last : kindAt toks next ≡ 3 → argsOf ts p k g at ≡ ok (withArg (isNamed toks at) g at e) (next + 1) 0
         unfolding argsOf
-        args-last is3 = last k lt
-          where
-            last : (k : ℕ) → length ts < at + k → argsOf ts p k g at ≡ ok (withArg (isNamed toks at) g at e) (next + 1) 0
-            last zero lt = absurd (omega (arith, rep .long))
-            last (suc k) lt = let z = kind-is toks next rep 3 is3 in rw (is-false toks at rep 3 no3, argsOf) (rw (arg-is p g at, ← ev, q) (rw (z, andThen) refl))
+        args-last is3 =
+            let z = kind-is toks next rep 3 is3 in
+            rw (some k lt .1) (rw (is-false toks at rep 3 no3, argsOf) (rw (arg-is p g at, ← ev, q) (rw (z, andThen) refl)))
 
         pub args-bad : (kindAt toks next ≡ 9 → ⊥) → (kindAt toks next ≡ 3 → ⊥) → argsOf ts p k g at ≡ no 5 1 next
         unfolding argsOf
-        args-bad no9 nor3 = bad k lt
-          where
-            bad : (k : ℕ) → length ts < at + k → argsOf ts p k g at ≡ no 5 1 next
-            bad zero lt = absurd (omega (arith, rep .long))
-            bad (suc k) lt = rw (is-false toks at rep 3 no3, argsOf) (rw (arg-is p g at, ← ev, q) (rw (is-false toks next rep 9 no9, andThen) (rw (is-false toks next rep 3 nor3) refl)))
+        args-bad no9 nor3 =
+            rw (some k lt .1) (rw (is-false toks at rep 3 no3, argsOf) (rw (arg-is p g at, ← ev, q) (rw (is-false toks next rep 9 no9, andThen) (rw (is-false toks next rep 3 nor3) refl))))
+
+        go : (j : ℕ) → k ≡ suc j → kindAt toks next ≡ 9 → argsOf ts p k g at ≡ argsOf ts p j (withArg (isNamed toks at) g at e) (next + 1)
+        unfolding argsOf
+        go j f is9 = rw f (rw (is-false toks at rep 3 no3, argsOf) (rw (arg-is p g at, ← ev, q) (rw (is-true toks next rep 9 is9, andThen) refl)))
 
         pub args-more : kindAt toks next ≡ 9 → at < next → (k′ : ℕ) × (length ts < next + 1 + k′) × (argsOf ts p k g at ≡ argsOf ts p k′ (withArg (isNamed toks at) g at e) (next + 1))
-        unfolding argsOf
-        args-more is9 up = more k lt
-          where
-            more : (k : ℕ) → length ts < at + k → (k′ : ℕ) × (length ts < next + 1 + k′) × (argsOf ts p k g at ≡ argsOf ts p k′ (withArg (isNamed toks at) g at e) (next + 1))
-            more zero lt = absurd (omega (arith, rep .long))
-            more (suc k) lt = (k, omega arith, rw (is-false toks at rep 3 no3, argsOf) (rw (arg-is p g at, ← ev, q) (rw (is-true toks next rep 9 is9, andThen) refl)))
+        args-more is9 up = let f = some k lt in (f .0, omega (arith, f .1), go (f .0) (f .1) is9)
 
   -- ---- statements
   pub ended-ok : {A : Type 0} (a : A) (at : ℕ) → kindAt toks at ≡ 7 → ended ts a at ≡ ok a (at + 1) 0

@@ -1,16 +1,15 @@
 -- How the parser's tables and answers stand for contents and trees.
 use Prim.Native.Nat.{ℕ, _+_, _*_, _≤_}
 use mathlib.Core.Path.{_≡_}
-use mathlib.Core.Bool.{Bool, true, false, _&&_, _||_}
+use mathlib.Core.Bool.{Bool, _&&_, _||_}
 use mathlib.Core.List.{List, [], _∷_, _++_}
 use lib.Dec.{eqb, leb}
 use lib.ListN.{length, getD}
 use Rattle.table.specs.Table.{tabled}
-use Rattle.wide.specs.declared.Wide.{Wide}
 use Rattle.language.specs.Choice.{if′}
 use Rattle.language.specs.Tables.{contentKind}
 use Rattle.language.specs.Tokens.{Content, eof}
-use Rattle.language.specs.Sentences.{Expr, Args, given, named, Stmt, expr′, firstOf, Port, port, tooLarge, notPort, portOf, Out, ok, no, andThen, mostLists, exprAt, ended, Node, node, exprNodes, argNodes, lastOf, stmtNodes, nodes, nodeRow, nodeWidth}
+use Rattle.language.specs.Sentences.{Expr, Args, given, named, Stmt, expr′, firstOf, Port, port, tooLarge, notPort, portOf, Out, ok, no, andThen, mostLists, exprAt, ended, Node, exprNodes, argNodes, lastOf, stmtNodes, nodes, nodeRow, nodeWidth}
 use Rattle.parse.specs.declared.Parsed.{Parsed}
 use Rattle.parse.specs.declared.Parsed.the-variants.{Done, Refused}
 use Rattle.parse.specs.declared.Listed.{Listed}

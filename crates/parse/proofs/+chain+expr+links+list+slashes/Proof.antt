@@ -1,3 +1,6 @@
+-- The cycle of calls. Its measure is how many lists may still be opened, and within one list the order expr, slashes, chain,
+-- links, list. Each loop's invariant: how far it went, in numbers, and that what the definition gives from here on, after the
+-- tree so far, is what it gives from the start. `links` and `slashes` measure their steps, `list` what is left of the tokens.
 use Prim.Native.Nat.{ℕ, suc, _+_, _-_, _*_, _≤_, _<_}
 use mathlib.Core.Path.{_≡_, refl, _∙_}
 use lib.ListN.{length}
@@ -212,6 +215,7 @@ links-loop-less t c = omega arith
 
 links-loop-again : (t : ℕ) → links-lts.Need-loop-again (links-cs t) (links-at t) links.Post links-Inv-loop links-μ-loop
 links-loop-again t c =
+    let v = c .before .before .before .before .before .before .before .before .before .before .before .before .before .before .loop in
     let e = c .before .before .before .before .before .next .given .1 in
     let o = c .before .before .before .before .before .before .before .before .before .list .ensures in
     let f = ahead-list e (o .0) in (
@@ -221,9 +225,9 @@ links-loop-again t c =
       omega arith,
       omega arith,
       omega (arith, c .before .before .push .kept .0, c .before .before .before .before .before .before .before .before .before .list .kept .1 .0),
-      λ ts ns e₀ rep s. let g = c .before .before .before .before .before .before .before .before .before .before .before .before .before .before .loop .inv .6 ts ns e₀ rep s in
+      λ ts ns e₀ rep s. let g = v .inv .6 ts ns e₀ rep s in
           let d = list-done e (o .1 ts (withExpr ns (g .0)) rep (g .1 .long) (g .1 .held)) in
-          (grammar.call (g .0) (c .before .before .before .before .before .before .before .before .before .before .before .before .before .before .loop .at) (d .0), call-pushed (g .1) (d .3) (c .before .before .push .ensures), g .2 ∙ links-call rep _ (g .0) _ _ (d .1) _ (d .0) (c .before .before .before .before .before .before .before .before .before .before .before .if2 .left) (seen (c .before .before .before .before .before .before .before .before .before .before .before .before .before .kind-at .ensures) (c .before .before .before .before .before .before .before .before .before .before .before .before .if1 .taken)) (d .2)),
+          (grammar.call (g .0) (v .at) (d .0), call-pushed (g .1) (d .3) (c .before .before .push .ensures), g .2 ∙ links-call rep _ (g .0) _ _ (d .1) _ (d .0) (c .before .before .before .before .before .before .before .before .before .before .before .if2 .left) (seen (c .before .before .before .before .before .before .before .before .before .before .before .before .before .kind-at .ensures) (c .before .before .before .before .before .before .before .before .before .before .before .before .if1 .taken)) (d .2)),
     )
 
 links-enum-known-number : (t : ℕ) → links-lts.Need-enum-known-number (links-cs t) (links-at t) links.Post links-Inv-loop links-μ-loop
@@ -298,27 +302,29 @@ links-loop-less-2 t c = omega arith
 
 links-loop-again-2 : (t : ℕ) → links-lts.Need-loop-again-2 (links-cs t) (links-at t) links.Post links-Inv-loop links-μ-loop
 links-loop-again-2 t c =
+    let v = c .before .before .before .before .before .before .before .before .before .before .loop in
     let is13 = seen (c .before .before .before .before .before .kind-at2 .ensures) (c .before .before .before .before .if5 .left) in
-    let i = inside (c .before .before .before .before .before .before .before .before .before .before .before .before .before .args .toks .now) (c .before .before .before .before .before .before .before .before .before .before .loop .at + 1) 11 is13 in (
+    let i = inside (c .before .before .before .before .before .before .before .before .before .before .before .before .before .args .toks .now) (v .at + 1) 11 is13 in (
       omega arith,
       omega arith,
       omega arith,
       omega arith,
       omega arith,
       omega (arith, c .before .before .push2 .kept .0),
-      λ ts ns e rep s. let g = c .before .before .before .before .before .before .before .before .before .before .loop .inv .6 ts ns e rep s in
-          (grammar.member (g .0) (c .before .before .before .before .before .before .before .before .before .before .loop .at + 1), member-pushed (g .1) (c .before .before .push2 .ensures), g .2 ∙ links-dot rep _ (g .0) _ _ (c .before .before .before .before .before .before .if4 .left) (seen (c .before .before .before .before .before .before .before .before .before .kind-at .ensures) (c .before .before .before .before .before .before .before .if3 .taken)) is13),
+      λ ts ns e rep s. let g = v .inv .6 ts ns e rep s in
+          (grammar.member (g .0) (v .at + 1), member-pushed (g .1) (c .before .before .push2 .ensures), g .2 ∙ links-dot rep _ (g .0) _ _ (c .before .before .before .before .before .before .if4 .left) (seen (c .before .before .before .before .before .before .before .before .before .kind-at .ensures) (c .before .before .before .before .before .before .before .if3 .taken)) is13),
     )
 
 links-same-length-5 : (t : ℕ) → links-lts.Need-same-length-5 (links-cs t) (links-at t) links.Post links-Inv-loop links-μ-loop
 links-same-length-5 t c = c .before .before .before .loop .inv .5
 
 links-returns-5 : (t : ℕ) → links-lts.Need-returns-5 (links-cs t) (links-at t) links.Post links-Inv-loop links-μ-loop
-links-returns-5 t c = (
-  omega arith,
-  λ ts ns e rep s. let g = c .before .before .before .loop .inv .6 ts ns e rep s in
-      met-ok refl (g .2 ∙ links-stop rep _ (g .0) _ _ (unseen (c .before .before .kind-at .ensures) (c .before .if1 .left)) (unseen (c .before .before .kind-at .ensures) (c .if3 .left))) (g .1),
-)
+links-returns-5 t c =
+    let k1 = c .before .before .kind-at in (
+      omega arith,
+      λ ts ns e rep s. let g = c .before .before .before .loop .inv .6 ts ns e rep s in
+          met-ok refl (g .2 ∙ links-stop rep _ (g .0) _ _ (unseen (k1 .ensures) (c .before .if1 .left)) (unseen (k1 .ensures) (c .if3 .left))) (g .1),
+    )
 
 abbrev list-Inv-loop : list-lts.InvT-loop
 list-Inv-loop toks nodes₀ start count left at₀ have₀ last₀ nodes at have last =
@@ -337,7 +343,8 @@ list-add-at t c = omega arith
 
 list-loop-holds : (t : ℕ) → list-lts.Need-loop-holds (list-cs t) (list-at t) list.Post list-Inv-loop list-μ-loop
 list-loop-holds t c =
-    let i = inside (c .before .before .before .args .toks .now) (c .before .before .before .args .start) 0 (c .before .before .before .pre .1 .1) in (
+    let a = c .before .before .before .args in
+    let i = inside (a .toks .now) (a .start) 0 (c .before .before .before .pre .1 .1) in (
       omega arith,
       omega arith,
       omega arith,
@@ -382,21 +389,24 @@ list-loop-less t c = omega (arith, ahead (c .before .before .before .before .bef
 
 list-loop-again : (t : ℕ) → list-lts.Need-loop-again (list-cs t) (list-at t) list.Post list-Inv-loop list-μ-loop
 list-loop-again t c =
+    let a = c .before .before .before .before .before .before .before .before .before .before .before .before .before .before .before .before .before .before .before .before .args in
+    let v = c .before .before .before .before .before .before .before .before .before .before .before .before .before .before .before .before .loop in
+    let hd = c .before .before .before .before .before .before .before .before .before .before .before .before .before .arg-head in
     let e = c .before .before .before .before .before .before .before .next .given .1 in
     let o = c .before .before .before .before .before .before .before .before .before .before .before .expr .ensures in
     let f = ahead e (o .0) in
     let is9 = seen (c .before .kind-at2 .ensures) (c .if3 .taken) in
-    let i = inside (c .before .before .before .before .before .before .before .before .before .before .before .before .before .before .before .before .before .before .before .before .args .toks .now) (c .before .before .before .before .before .before .before .next .given .0 .0) 7 is9 in (
+    let i = inside (a .toks .now) (c .before .before .before .before .before .before .before .next .given .0 .0) 7 is9 in (
       omega arith,
       omega arith,
       omega arith,
       omega arith,
       omega arith,
       omega (arith, c .before .before .before .before .push .kept .0, c .before .before .before .before .before .before .before .before .before .before .before .expr .kept .1 .0),
-      λ ts ns rep l h. let g = c .before .before .before .before .before .before .before .before .before .before .before .before .before .before .before .before .loop .inv .6 ts ns rep l h in
+      λ ts ns rep l h. let g = v .inv .6 ts ns rep l h in
           let d = done e (o .1 ts (withArgs ns (g .0)) rep (g .2 .long) (g .2 .held)) in
-          let m = args-more rep (exprAt ts (c .before .before .before .before .before .before .before .before .before .before .before .before .before .before .before .before .before .before .before .before .args .left - 1)) (g .0) (c .before .before .before .before .before .before .before .before .before .before .before .before .before .before .before .before .loop .at) _ (g .1) (c .before .before .before .before .before .before .before .before .before .before .before .before .before .arg-head .ensures .0 .1) (c .before .before .before .before .before .before .before .before .before .before .before .before .before .before .before .before .loop .inv .1) (g .3) (unseen (c .before .before .before .before .before .before .before .before .before .before .before .before .before .before .before .kind-at .ensures) (c .before .before .before .before .before .before .before .before .before .before .before .before .before .before .if2 .taken)) (d .0) _ _ (d .1) is9 (omega arith) in
-          (withArg (isNamed (c .before .before .before .before .before .before .before .before .before .before .before .before .before .before .before .before .before .before .before .before .args .toks .now) (c .before .before .before .before .before .before .before .before .before .before .before .before .before .before .before .before .loop .at)) (g .0) (c .before .before .before .before .before .before .before .before .before .before .before .before .before .before .before .before .loop .at) (d .0), m .0, arg-pushed (isNamed (c .before .before .before .before .before .before .before .before .before .before .before .before .before .before .before .before .before .before .before .before .args .toks .now) (c .before .before .before .before .before .before .before .before .before .before .before .before .before .before .before .before .loop .at)) (c .before .before .before .before .before .before .before .before .before .before .before .before .before .before .before .before .loop .at) (g .2) (d .2) (c .before .before .before .before .before .before .before .before .before .before .before .before .before .arg-head .ensures .0 .1) (c .before .before .before .before .before .before .before .before .before .before .before .before .before .arg-head .ensures .0 .0) (c .before .before .before .before .push .ensures), m .1, g .4 ∙ m .2),
+          let m = args-more rep (exprAt ts (a .left - 1)) (g .0) (v .at) _ (g .1) (hd .ensures .0 .1) (v .inv .1) (g .3) (unseen (c .before .before .before .before .before .before .before .before .before .before .before .before .before .before .before .kind-at .ensures) (c .before .before .before .before .before .before .before .before .before .before .before .before .before .before .if2 .taken)) (d .0) _ _ (d .1) is9 (omega arith) in
+          (withArg (isNamed (a .toks .now) (v .at)) (g .0) (v .at) (d .0), m .0, arg-pushed (isNamed (a .toks .now) (v .at)) (v .at) (g .2) (d .2) (hd .ensures .0 .1) (hd .ensures .0 .0) (c .before .before .before .before .push .ensures), m .1, g .4 ∙ m .2),
     )
 
 list-add-t29 : (t : ℕ) → list-lts.Need-add-t29 (list-cs t) (list-at t) list.Post list-Inv-loop list-μ-loop
@@ -407,15 +417,18 @@ list-same-length t c = omega (arith, c .before .before .before .before .before .
 
 list-returns-2 : (t : ℕ) → list-lts.Need-returns-2 (list-cs t) (list-at t) list.Post list-Inv-loop list-μ-loop
 list-returns-2 t c =
+    let a = c .before .before .before .before .before .before .before .before .before .before .before .before .before .before .before .before .before .before .before .before .before .args in
+    let v = c .before .before .before .before .before .before .before .before .before .before .before .before .before .before .before .before .before .loop in
+    let hd = c .before .before .before .before .before .before .before .before .before .before .before .before .before .before .arg-head in
     let e = c .before .before .before .before .before .before .before .before .next .given .1 in
     let o = c .before .before .before .before .before .before .before .before .before .before .before .before .expr .ensures in
     let f = ahead e (o .0) in
     let is3 = seen (c .before .before .kind-at2 .ensures) (c .if4 .taken) in
-    let i = inside (c .before .before .before .before .before .before .before .before .before .before .before .before .before .before .before .before .before .before .before .before .before .args .toks .now) (c .before .before .before .before .before .before .before .before .next .given .0 .0) 1 is3 in (
+    let i = inside (a .toks .now) (c .before .before .before .before .before .before .before .before .next .given .0 .0) 1 is3 in (
       omega arith,
-      λ ts ns rep l h. let g = c .before .before .before .before .before .before .before .before .before .before .before .before .before .before .before .before .before .loop .inv .6 ts ns rep l h in
+      λ ts ns rep l h. let g = v .inv .6 ts ns rep l h in
           let d = done e (o .1 ts (withArgs ns (g .0)) rep (g .2 .long) (g .2 .held)) in
-          list-ok (g .4 ∙ args-last rep _ (g .0) _ _ (g .1) (c .before .before .before .before .before .before .before .before .before .before .before .before .before .before .arg-head .ensures .0 .1) (c .before .before .before .before .before .before .before .before .before .before .before .before .before .before .before .before .before .loop .inv .1) (g .3) (unseen (c .before .before .before .before .before .before .before .before .before .before .before .before .before .before .before .before .kind-at .ensures) (c .before .before .before .before .before .before .before .before .before .before .before .before .before .before .before .if2 .taken)) (d .0) _ _ (d .1) is3) (arg-pushed (isNamed (c .before .before .before .before .before .before .before .before .before .before .before .before .before .before .before .before .before .before .before .before .before .args .toks .now) (c .before .before .before .before .before .before .before .before .before .before .before .before .before .before .before .before .before .loop .at)) (c .before .before .before .before .before .before .before .before .before .before .before .before .before .before .before .before .before .loop .at) (g .2) (d .2) (c .before .before .before .before .before .before .before .before .before .before .before .before .before .before .arg-head .ensures .0 .1) (c .before .before .before .before .before .before .before .before .before .before .before .before .before .before .arg-head .ensures .0 .0) (c .before .before .before .before .before .push .ensures)),
+          list-ok (g .4 ∙ args-last rep _ (g .0) _ _ (g .1) (hd .ensures .0 .1) (v .inv .1) (g .3) (unseen (c .before .before .before .before .before .before .before .before .before .before .before .before .before .before .before .before .kind-at .ensures) (c .before .before .before .before .before .before .before .before .before .before .before .before .before .before .before .if2 .taken)) (d .0) _ _ (d .1) is3) (arg-pushed (isNamed (a .toks .now) (v .at)) (v .at) (g .2) (d .2) (hd .ensures .0 .1) (hd .ensures .0 .0) (c .before .before .before .before .before .push .ensures)),
     )
 
 list-same-length-2 : (t : ℕ) → list-lts.Need-same-length-2 (list-cs t) (list-at t) list.Post list-Inv-loop list-μ-loop
@@ -423,13 +436,15 @@ list-same-length-2 t c = omega (arith, c .before .before .before .before .before
 
 list-returns-3 : (t : ℕ) → list-lts.Need-returns-3 (list-cs t) (list-at t) list.Post list-Inv-loop list-μ-loop
 list-returns-3 t c =
+    let v = c .before .before .before .before .before .before .before .before .before .before .before .before .before .before .before .before .before .loop in
+    let k2 = c .before .before .kind-at2 in
     let e = c .before .before .before .before .before .before .before .before .next .given .1 in
     let o = c .before .before .before .before .before .before .before .before .before .before .before .before .expr .ensures in
     let f = ahead e (o .0) in (
       omega arith,
-      λ ts ns rep l h. let g = c .before .before .before .before .before .before .before .before .before .before .before .before .before .before .before .before .before .loop .inv .6 ts ns rep l h in
+      λ ts ns rep l h. let g = v .inv .6 ts ns rep l h in
           let d = done e (o .1 ts (withArgs ns (g .0)) rep (g .2 .long) (g .2 .held)) in
-          list-no (g .4 ∙ args-bad rep _ (g .0) _ _ (g .1) (c .before .before .before .before .before .before .before .before .before .before .before .before .before .before .arg-head .ensures .0 .1) (c .before .before .before .before .before .before .before .before .before .before .before .before .before .before .before .before .before .loop .inv .1) (g .3) (unseen (c .before .before .before .before .before .before .before .before .before .before .before .before .before .before .before .before .kind-at .ensures) (c .before .before .before .before .before .before .before .before .before .before .before .before .before .before .before .if2 .taken)) (d .0) _ _ (d .1) (unseen (c .before .before .kind-at2 .ensures) (c .before .if3 .left)) (unseen (c .before .before .kind-at2 .ensures) (c .if4 .left))),
+          list-no (g .4 ∙ args-bad rep _ (g .0) _ _ (g .1) (c .before .before .before .before .before .before .before .before .before .before .before .before .before .before .arg-head .ensures .0 .1) (v .inv .1) (g .3) (unseen (c .before .before .before .before .before .before .before .before .before .before .before .before .before .before .before .before .kind-at .ensures) (c .before .before .before .before .before .before .before .before .before .before .before .before .before .before .before .if2 .taken)) (d .0) _ _ (d .1) (unseen (k2 .ensures) (c .before .if3 .left)) (unseen (k2 .ensures) (c .if4 .left))),
     )
 
 list-enum-known-number : (t : ℕ) → list-lts.Need-enum-known-number (list-cs t) (list-at t) list.Post list-Inv-loop list-μ-loop
@@ -440,10 +455,11 @@ list-same-length-3 t c = omega (arith, c .before .before .before .before .before
 
 list-returns-4 : (t : ℕ) → list-lts.Need-returns-4 (list-cs t) (list-at t) list.Post list-Inv-loop list-μ-loop
 list-returns-4 t c =
+    let v = c .before .before .before .before .before .before .before .before .before .before .loop in
     let e = c .before .number .given .1 in (
       record { on = ahead-place e (c .before .before .before .before .before .expr .ensures .0) },
-      λ ts ns rep l h. let g = c .before .before .before .before .before .before .before .before .before .before .loop .inv .6 ts ns rep l h in
-          list-no (g .4 ∙ args-no rep _ (g .0) _ _ (g .1) (c .before .before .before .before .before .before .before .arg-head .ensures .0 .1) (c .before .before .before .before .before .before .before .before .before .before .loop .inv .1) (g .3) (unseen (c .before .before .before .before .before .before .before .before .before .kind-at .ensures) (c .before .before .before .before .before .before .before .before .if2 .taken)) _ _ _ (refused e (c .before .before .before .before .before .expr .ensures .1 ts (withArgs ns (g .0)) rep (g .2 .long) (g .2 .held)))),
+      λ ts ns rep l h. let g = v .inv .6 ts ns rep l h in
+          list-no (g .4 ∙ args-no rep _ (g .0) _ _ (g .1) (c .before .before .before .before .before .before .before .arg-head .ensures .0 .1) (v .inv .1) (g .3) (unseen (c .before .before .before .before .before .before .before .before .before .kind-at .ensures) (c .before .before .before .before .before .before .before .before .if2 .taken)) _ _ _ (refused e (c .before .before .before .before .before .expr .ensures .1 ts (withArgs ns (g .0)) rep (g .2 .long) (g .2 .held)))),
     )
 
 list-add-t30 : (t : ℕ) → list-lts.Need-add-t30 (list-cs t) (list-at t) list.Post list-Inv-loop list-μ-loop
@@ -454,10 +470,11 @@ list-same-length-4 t c = c .before .before .loop .inv .5
 
 list-returns-5 : (t : ℕ) → list-lts.Need-returns-5 (list-cs t) (list-at t) list.Post list-Inv-loop list-μ-loop
 list-returns-5 t c =
+    let v = c .before .before .loop in
     let is3 = seen (c .before .kind-at .ensures) (c .if2 .left) in
-    let i = inside (c .before .before .before .before .before .before .args .toks .now) (c .before .before .loop .at) 1 is3 in (
+    let i = inside (c .before .before .before .before .before .before .args .toks .now) (v .at) 1 is3 in (
       omega arith,
-      λ ts ns rep l h. let g = c .before .before .loop .inv .6 ts ns rep l h in
+      λ ts ns rep l h. let g = v .inv .6 ts ns rep l h in
           list-ok (g .4 ∙ args-end rep _ (g .0) _ (g .1) (g .3) is3) (g .2),
     )
 
@@ -518,6 +535,7 @@ slashes-loop-less t c = omega (arith, ahead (c .before .before .before .before .
 
 slashes-loop-again : (t : ℕ) → slashes-lts.Need-loop-again (slashes-cs t) (slashes-at t) slashes.Post slashes-Inv-loop slashes-μ-loop
 slashes-loop-again t c =
+    let v = c .before .before .before .before .before .before .before .before .before .before .before .before .before .before .loop in
     let e = c .before .before .before .before .before .next .given .1 in
     let o = c .before .before .before .before .before .before .before .before .before .chain .ensures in
     let f = ahead e (o .0) in (
@@ -527,9 +545,9 @@ slashes-loop-again t c =
       omega arith,
       omega arith,
       omega (arith, c .before .before .push .kept .0, c .before .before .before .before .before .before .before .before .before .chain .kept .1 .0),
-      λ ts ns e₀ rep s k lt. let g = c .before .before .before .before .before .before .before .before .before .before .before .before .before .before .loop .inv .6 ts ns e₀ rep s k lt in
+      λ ts ns e₀ rep s k lt. let g = v .inv .6 ts ns e₀ rep s k lt in
           let d = done e (o .1 ts (withExpr ns (g .0)) rep (g .2 .long) (g .2 .held)) in
-          let m = slashes-go rep (chainAt ts (c .before .before .before .before .before .before .before .before .before .before .before .before .before .before .before .before .before .args .p .lists)) (g .0) (c .before .before .before .before .before .before .before .before .before .before .before .before .before .before .loop .at) (g .1) (c .before .before .before .before .before .before .before .before .before .before .before .before .before .before .loop .more) _ _ (d .0) (g .3) (c .before .before .before .before .before .before .before .before .before .before .before .if2 .left) (seen (c .before .before .before .before .before .before .before .before .before .before .before .before .before .kind-at .ensures) (c .before .before .before .before .before .before .before .before .before .before .before .before .if1 .taken)) (d .1) (f .4) in
+          let m = slashes-go rep (chainAt ts (c .before .before .before .before .before .before .before .before .before .before .before .before .before .before .before .before .before .args .p .lists)) (g .0) (v .at) (g .1) (v .more) _ _ (d .0) (g .3) (c .before .before .before .before .before .before .before .before .before .before .before .if2 .left) (seen (c .before .before .before .before .before .before .before .before .before .before .before .before .before .kind-at .ensures) (c .before .before .before .before .before .before .before .before .before .before .before .before .if1 .taken)) (d .1) (f .4) in
           (grammar.slash′ (g .0) (d .0), m .0, slash-pushed (g .2) (d .2) (c .before .before .push .ensures), m .1, g .4 ∙ m .2),
     )
 
@@ -558,4 +576,10 @@ slashes-returns-3 t c = (
 )
 
 pub +chain+expr+links+list+slashes-spec : {M : Type 1} → statement M
-+chain+expr+links+list+slashes-spec = close μ-chain μ-expr μ-links μ-list μ-slashes (λ t. chain-lts.spec (chain-cs t) (chain-at t) chain.Post (chain-primary-requires t) (chain-enum-known-next t) (chain-links-requires t) (chain-enum-known-number t) (chain-same-length t) (chain-returns t) (chain-same-length-2 t) (chain-returns-2 t)) (λ t. expr-lts.spec (expr-cs t) (expr-at t) expr.Post (expr-chain-requires t) (expr-enum-known-next t) (expr-slashes-requires t) (expr-enum-known-number t) (expr-same-length t) (expr-returns t) (expr-same-length-2 t) (expr-returns-2 t)) (λ t. links-lts.spec (links-cs t) (links-at t) links.Post links-Inv-loop links-μ-loop (links-loop-holds t) (links-kind-at-requires t) (links-too-deep-requires t) (links-same-length t) (links-returns t) (links-list-requires t) (links-enum-known-next t) (links-sub-push t) (links-push-requires t) (links-add-have t) (links-sub-more t) (links-loop-less t) (links-loop-again t) (links-enum-known-number t) (links-same-length-2 t) (links-returns-2 t) (links-too-deep-requires-2 t) (links-same-length-3 t) (links-returns-3 t) (links-add-kind-at t) (links-kind-at-requires-2 t) (links-add-unexpected t) (links-unexpected-requires t) (links-same-length-4 t) (links-returns-4 t) (links-sub-push-2 t) (links-add-push t) (links-push-requires-2 t) (links-add-at t) (links-add-have-2 t) (links-sub-more-2 t) (links-loop-less-2 t) (links-loop-again-2 t) (links-same-length-5 t) (links-returns-5 t)) (λ t. list-lts.spec (list-cs t) (list-at t) list.Post list-Inv-loop list-μ-loop (list-returns t) (list-add-at t) (list-loop-holds t) (list-kind-at-requires t) (list-arg-head-requires t) (list-sub-expr t) (list-expr-requires t) (list-enum-known-next t) (list-sub-push t) (list-push-requires t) (list-add-have t) (list-kind-at-requires-2 t) (list-add-at-2 t) (list-loop-less t) (list-loop-again t) (list-add-t29 t) (list-same-length t) (list-returns-2 t) (list-same-length-2 t) (list-returns-3 t) (list-enum-known-number t) (list-same-length-3 t) (list-returns-4 t) (list-add-t30 t) (list-same-length-4 t) (list-returns-5 t)) λ t. slashes-lts.spec (slashes-cs t) (slashes-at t) slashes.Post slashes-Inv-loop slashes-μ-loop (slashes-loop-holds t) (slashes-kind-at-requires t) (slashes-too-deep-requires t) (slashes-same-length t) (slashes-returns t) (slashes-add-chain t) (slashes-sub-chain t) (slashes-chain-requires t) (slashes-enum-known-next t) (slashes-sub-push t) (slashes-sub-push-2 t) (slashes-push-requires t) (slashes-add-have t) (slashes-loop-less t) (slashes-loop-again t) (slashes-enum-known-number t) (slashes-same-length-2 t) (slashes-returns-2 t) (slashes-same-length-3 t) (slashes-returns-3 t)
++chain+expr+links+list+slashes-spec =
+    close μ-chain μ-expr μ-links μ-list μ-slashes
+    (λ t. chain-lts.spec (chain-cs t) (chain-at t) chain.Post (chain-primary-requires t) (chain-enum-known-next t) (chain-links-requires t) (chain-enum-known-number t) (chain-same-length t) (chain-returns t) (chain-same-length-2 t) (chain-returns-2 t))
+    (λ t. expr-lts.spec (expr-cs t) (expr-at t) expr.Post (expr-chain-requires t) (expr-enum-known-next t) (expr-slashes-requires t) (expr-enum-known-number t) (expr-same-length t) (expr-returns t) (expr-same-length-2 t) (expr-returns-2 t))
+    (λ t. links-lts.spec (links-cs t) (links-at t) links.Post links-Inv-loop links-μ-loop (links-loop-holds t) (links-kind-at-requires t) (links-too-deep-requires t) (links-same-length t) (links-returns t) (links-list-requires t) (links-enum-known-next t) (links-sub-push t) (links-push-requires t) (links-add-have t) (links-sub-more t) (links-loop-less t) (links-loop-again t) (links-enum-known-number t) (links-same-length-2 t) (links-returns-2 t) (links-too-deep-requires-2 t) (links-same-length-3 t) (links-returns-3 t) (links-add-kind-at t) (links-kind-at-requires-2 t) (links-add-unexpected t) (links-unexpected-requires t) (links-same-length-4 t) (links-returns-4 t) (links-sub-push-2 t) (links-add-push t) (links-push-requires-2 t) (links-add-at t) (links-add-have-2 t) (links-sub-more-2 t) (links-loop-less-2 t) (links-loop-again-2 t) (links-same-length-5 t) (links-returns-5 t))
+    (λ t. list-lts.spec (list-cs t) (list-at t) list.Post list-Inv-loop list-μ-loop (list-returns t) (list-add-at t) (list-loop-holds t) (list-kind-at-requires t) (list-arg-head-requires t) (list-sub-expr t) (list-expr-requires t) (list-enum-known-next t) (list-sub-push t) (list-push-requires t) (list-add-have t) (list-kind-at-requires-2 t) (list-add-at-2 t) (list-loop-less t) (list-loop-again t) (list-add-t29 t) (list-same-length t) (list-returns-2 t) (list-same-length-2 t) (list-returns-3 t) (list-enum-known-number t) (list-same-length-3 t) (list-returns-4 t) (list-add-t30 t) (list-same-length-4 t) (list-returns-5 t))
+    λ t. slashes-lts.spec (slashes-cs t) (slashes-at t) slashes.Post slashes-Inv-loop slashes-μ-loop (slashes-loop-holds t) (slashes-kind-at-requires t) (slashes-too-deep-requires t) (slashes-same-length t) (slashes-returns t) (slashes-add-chain t) (slashes-sub-chain t) (slashes-chain-requires t) (slashes-enum-known-next t) (slashes-sub-push t) (slashes-sub-push-2 t) (slashes-push-requires t) (slashes-add-have t) (slashes-loop-less t) (slashes-loop-again t) (slashes-enum-known-number t) (slashes-same-length-2 t) (slashes-returns-2 t) (slashes-same-length-3 t) (slashes-returns-3 t)

@@ -9,12 +9,6 @@ use native.Mathlib.Omega.{arith}
 use borrow.Author.Needs.{needs}
 use Rattle.parse.proofs.address.Statement.{statement}
 use Rattle.parse.proofs.address.Tie as tie
-use Rattle.parse.proofs.address.Reads as reads
-use Rattle.parse.proofs.address.Lts as lts
-use Rattle.parse.proofs.kind_at.Reads as kind-at-reads
-use Rattle.parse.proofs.port.Reads as port-reads
-use Rattle.parse.proofs.push.Reads as push-reads
-use Rattle.parse.proofs.unexpected.Reads as unexpected-reads
 
 add-kind-at : tie.Need-add-kind-at
 add-kind-at c = search needs
@@ -36,7 +30,8 @@ same-length c = search needs
 
 returns : tie.Need-returns
 returns c =
-    (omega (arith, inside (c .before .before .before .before .before .before .before .before .args .toks .now) (c .before .before .before .before .before .before .before .before .args .at) 13 (c .before .before .before .before .before .before .before .before .pre .1)), λ ts ns rep l h. met-ok refl (address-plain rep _ _ (unseen (c .before .before .before .before .before .kind-at .ensures) (c .before .before .before .before .if1 .taken))) (leaf-pushed (literal _) l h refl refl (c .before .before .push .ensures)))
+    let a = c .before .before .before .before .before .before .before .before .args in
+    (omega (arith, inside (a .toks .now) (a .at) 13 (c .before .before .before .before .before .before .before .before .pre .1)), λ ts ns rep l h. met-ok refl (address-plain rep _ _ (unseen (c .before .before .before .before .before .kind-at .ensures) (c .before .before .before .before .if1 .taken))) (leaf-pushed (literal _) l h refl refl (c .before .before .push .ensures)))
 
 add-port : tie.Need-add-port
 add-port c = search needs
@@ -76,8 +71,9 @@ same-length-2 c = search needs
 
 returns-2 : tie.Need-returns-2
 returns-2 c =
+    let a = c .before .before .before .before .before .before .before .before .before .before .before .args in
     let p = is-good _ (sym (c .before .before .before .before .enum-told .given .1) ∙ c .before .before .before .before .before .before .port .ensures) in
-    (omega (arith, port-inside (c .before .before .before .before .before .before .before .before .before .before .before .args .toks .now) (c .before .before .before .before .before .before .before .before .before .before .before .args .at + 2) p), λ ts ns rep l h. met-ok refl (address-port rep _ _ (seen (c .before .before .before .before .before .before .before .before .kind-at .ensures) (c .before .before .before .before .before .before .before .if1 .left)) p) (leaf-pushed (sock4 _) l h refl refl (c .before .before .push2 .ensures)))
+    (omega (arith, port-inside (a .toks .now) (a .at + 2) p), λ ts ns rep l h. met-ok refl (address-port rep _ _ (seen (c .before .before .before .before .before .before .before .before .kind-at .ensures) (c .before .before .before .before .before .before .before .if1 .left)) p) (leaf-pushed (sock4 _) l h refl refl (c .before .before .push2 .ensures)))
 
 returns-3 : tie.Need-returns-3
 returns-3 c =

@@ -4,9 +4,6 @@ use native.Mathlib.Omega.{arith}
 use borrow.Author.Needs.{needs}
 use Rattle.parse.proofs.arg_head.Statement.{statement}
 use Rattle.parse.proofs.arg_head.Tie as tie
-use Rattle.parse.proofs.arg_head.Reads as reads
-use Rattle.parse.proofs.arg_head.Lts as lts
-use Rattle.parse.proofs.kind_at.Reads as kind-at-reads
 
 kind-at-requires : tie.Need-kind-at-requires
 kind-at-requires c κs = search needs

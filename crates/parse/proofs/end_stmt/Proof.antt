@@ -7,11 +7,6 @@ use native.Mathlib.Omega.{arith}
 use borrow.Author.Needs.{needs}
 use Rattle.parse.proofs.end_stmt.Statement.{statement}
 use Rattle.parse.proofs.end_stmt.Tie as tie
-use Rattle.parse.proofs.end_stmt.Reads as reads
-use Rattle.parse.proofs.end_stmt.Lts as lts
-use Rattle.parse.proofs.kind_at.Reads as kind-at-reads
-use Rattle.parse.proofs.push.Reads as push-reads
-use Rattle.parse.proofs.unexpected.Reads as unexpected-reads
 
 kind-at-requires : tie.Need-kind-at-requires
 kind-at-requires c κs = search needs
@@ -37,8 +32,9 @@ same-length c = search needs
 
 returns-2 : tie.Need-returns-2
 returns-2 c =
+    let a = c .before .before .before .before .before .before .before .before .args in
     let is7 = seen (c .before .before .before .before .before .kind-at .ensures) (c .before .before .before .before .if1 .left) in (
-      omega (arith, inside (c .before .before .before .before .before .before .before .before .args .toks .now) (c .before .before .before .before .before .before .before .before .args .at) 5 is7),
+      omega (arith, inside (a .toks .now) (a .at) 5 is7),
       λ ts ms rep l h ns s e. let g = grown (c .before .before .push .ensures) l h e in stmt-ok refl (ended-ok rep s _ is7) (g .0) (g .1),
     )
 

@@ -8,10 +8,6 @@ use native.Mathlib.Omega.{arith}
 use borrow.Author.Needs.{needs}
 use Rattle.parse.proofs.expr_stmt.Statement.{statement}
 use Rattle.parse.proofs.expr_stmt.Tie as tie
-use Rattle.parse.proofs.expr_stmt.Reads as reads
-use Rattle.parse.proofs.expr_stmt.Lts as lts
-use Rattle.parse.proofs.end_stmt.Reads as end-stmt-reads
-use Rattle.parse.proofs.expr.Reads as expr-reads
 
 expr-requires : tie.Need-expr-requires
 expr-requires c κs = search needs

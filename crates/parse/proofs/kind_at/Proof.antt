@@ -2,8 +2,6 @@ use Rattle.parse.proofs.Looks.{kind-in, kind-past}
 use borrow.Author.Needs.{needs}
 use Rattle.parse.proofs.kind_at.Statement.{statement}
 use Rattle.parse.proofs.kind_at.Tie as tie
-use Rattle.parse.proofs.kind_at.Reads as reads
-use Rattle.parse.proofs.kind_at.Lts as lts
 
 mul-i : tie.Need-mul-i
 mul-i c = search needs

@@ -10,12 +10,6 @@ use native.Mathlib.Omega.{arith}
 use borrow.Author.Needs.{needs}
 use Rattle.parse.proofs.let_stmt.Statement.{statement}
 use Rattle.parse.proofs.let_stmt.Tie as tie
-use Rattle.parse.proofs.let_stmt.Reads as reads
-use Rattle.parse.proofs.let_stmt.Lts as lts
-use Rattle.parse.proofs.end_stmt.Reads as end-stmt-reads
-use Rattle.parse.proofs.expr.Reads as expr-reads
-use Rattle.parse.proofs.kind_at.Reads as kind-at-reads
-use Rattle.parse.proofs.unexpected.Reads as unexpected-reads
 
 add-kind-at : tie.Need-add-kind-at
 add-kind-at c = search needs

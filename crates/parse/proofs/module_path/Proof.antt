@@ -1,10 +1,10 @@
+-- The invariant: the names read so far stand after the nodes that were there, and the path that is read from here on is the
+-- whole path. The measure is what is left of the tokens.
 use Prim.Native.Nat.{ℕ, suc, _+_, _-_, _*_, _≤_, _<_}
 use mathlib.Core.Path.{_≡_, refl, _∙_}
-use mathlib.Core.List.{List}
 use lib.ListN.{length}
-use Rattle.language.specs.Tokens.{Content}
-use Rattle.language.specs.Sentences.{Node, named′}
-use Rattle.parse.specs.Parsing.{Rep, Holds, After}
+use Rattle.language.specs.Sentences.{named′}
+use Rattle.parse.specs.Parsing.{After}
 use Rattle.parse.proofs.Looks.{seen, unseen, inside}
 use Rattle.parse.proofs.Nodes.{Names, no-names, name-pushed, path-pushed}
 use Rattle.parse.proofs.Answers.{met-ok, met-no, ahead-no}
@@ -12,11 +12,6 @@ use Rattle.parse.proofs.Steps.{pathFrom, path-open, path-stop, path-bad
 use native.Mathlib.Omega.{arith}
 use Rattle.parse.proofs.module_path.Statement.{statement}
 use Rattle.parse.proofs.module_path.Tie as tie
-use Rattle.parse.proofs.module_path.Reads as reads
-use Rattle.parse.proofs.module_path.Lts as lts
-use Rattle.parse.proofs.kind_at.Reads as kind-at-reads
-use Rattle.parse.proofs.push.Reads as push-reads
-use Rattle.parse.proofs.unexpected.Reads as unexpected-reads
 
 abbrev Inv-loop : tie.InvT-loop
 Inv-loop toks nodes₀ at count steps next₀ have₀ names₀ nodes next have names =
@@ -31,7 +26,8 @@ add-next c = omega arith
 
 loop-holds : tie.Need-loop-holds Inv-loop μ-loop
 loop-holds c =
-    let i = inside (c .before .before .args .toks .now) (c .before .before .args .at) 11 (c .before .before .pre .1 .0) in
+    let a = c .before .before .args in
+    let i = inside (a .toks .now) (a .at) 11 (c .before .before .pre .1 .0) in
     (omega arith, omega arith, omega arith, refl, λ ts ns rep l h. (suc (length ts), omega arith, path-open rep _ _ (c .before .before .pre .1 .1), no-names _ l h))
 
 kind-at-requires : tie.Need-kind-at-requires Inv-loop μ-loop
@@ -79,14 +75,16 @@ loop-less c = omega (arith, inside (c .before .before .before .before .before .b
 
 loop-again : tie.Need-loop-again Inv-loop μ-loop
 loop-again c =
+    let a = c .before .before .before .before .before .before .before .before .before .before .before .args in
+    let v = c .before .before .before .before .before .before .before .before .loop in
     let is13 = seen (c .before .before .before .before .before .kind-at2 .ensures) (c .before .before .before .before .if2 .left) in
-    let i = inside (c .before .before .before .before .before .before .before .before .before .before .before .args .toks .now) (c .before .before .before .before .before .before .before .before .loop .next + 1) 11 is13 in (
+    let i = inside (a .toks .now) (v .next + 1) 11 is13 in (
       omega arith,
       omega arith,
       omega arith,
       omega (arith, c .before .before .push .kept .0),
-      λ ts ns rep l h. let g = c .before .before .before .before .before .before .before .before .loop .inv .4 ts ns rep l h in
-          let m = path-more rep (c .before .before .before .before .before .before .before .before .before .before .before .args .at) (c .before .before .before .before .before .before .before .before .before .before .before .args .steps) (c .before .before .before .before .before .before .before .before .loop .names) (c .before .before .before .before .before .before .before .before .loop .next) (g .0) (g .1) (seen (c .before .before .before .before .before .before .before .kind-at .ensures) (c .before .before .before .before .before .before .if1 .taken)) is13 in
+      λ ts ns rep l h. let g = v .inv .4 ts ns rep l h in
+          let m = path-more rep (a .at) (a .steps) (v .names) (v .next) (g .0) (g .1) (seen (c .before .before .before .before .before .before .before .kind-at .ensures) (c .before .before .before .before .before .before .if1 .taken)) is13 in
           (m .0, m .1, g .2 ∙ m .2, name-pushed (g .3) (omega arith) (c .before .before .push .ensures)),
     )
 
@@ -100,11 +98,12 @@ same-length-2 : tie.Need-same-length-2 Inv-loop μ-loop
 same-length-2 c = omega (arith, c .before .before .push2 .kept .0, c .before .before .before .before .before .before .loop .inv .3)
 
 returns-2 : tie.Need-returns-2 Inv-loop μ-loop
-returns-2 c = (
-  omega arith,
-  λ ts ns rep l h. let g = c .before .before .before .before .before .before .loop .inv .4 ts ns rep l h in
-      met-ok refl (g .2 ∙ path-stop rep _ _ _ _ (g .0) (c .before .before .before .before .before .before .loop .inv .2) (g .1) (unseen (c .before .before .before .before .before .kind-at .ensures) (c .before .before .before .before .if1 .left))) (path-pushed (g .3) (c .before .before .push2 .ensures)),
-)
+returns-2 c =
+    let v = c .before .before .before .before .before .before .loop in (
+      omega arith,
+      λ ts ns rep l h. let g = v .inv .4 ts ns rep l h in
+          met-ok refl (g .2 ∙ path-stop rep _ _ _ _ (g .0) (v .inv .2) (g .1) (unseen (c .before .before .before .before .before .kind-at .ensures) (c .before .before .before .before .if1 .left))) (path-pushed (g .3) (c .before .before .push2 .ensures)),
+    )
 
 pub module-path-spec : {M : Type 1} → statement M
 module-path-spec =

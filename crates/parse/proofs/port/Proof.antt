@@ -2,9 +2,6 @@ use Rattle.parse.proofs.Looks.{port-not, port-good, port-large, port-hu
 use borrow.Author.Needs.{needs}
 use Rattle.parse.proofs.port.Statement.{statement}
 use Rattle.parse.proofs.port.Tie as tie
-use Rattle.parse.proofs.port.Reads as reads
-use Rattle.parse.proofs.port.Lts as lts
-use Rattle.parse.proofs.port_tok.Reads as port-tok-reads
 
 port-tok-requires : tie.Need-port-tok-requires
 port-tok-requires c κs = search needs

@@ -3,9 +3,6 @@ use native.Mathlib.Omega.{arith}
 use borrow.Author.Needs.{needs}
 use Rattle.parse.proofs.port_tok.Statement.{statement}
 use Rattle.parse.proofs.port_tok.Tie as tie
-use Rattle.parse.proofs.port_tok.Reads as reads
-use Rattle.parse.proofs.port_tok.Lts as lts
-use Rattle.parse.proofs.kind_at.Reads as kind-at-reads
 
 kind-at-requires : tie.Need-kind-at-requires
 kind-at-requires c κs = search needs

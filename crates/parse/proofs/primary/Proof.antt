@@ -8,14 +8,6 @@ use native.Mathlib.Omega.{arith}
 use borrow.Author.Needs.{needs}
 use Rattle.parse.proofs.primary.Statement.{statement}
 use Rattle.parse.proofs.primary.Tie as tie
-use Rattle.parse.proofs.primary.Reads as reads
-use Rattle.parse.proofs.primary.Lts as lts
-use Rattle.parse.proofs.address.Reads as address-reads
-use Rattle.parse.proofs.is_literal.Reads as is-literal-reads
-use Rattle.parse.proofs.kind_at.Reads as kind-at-reads
-use Rattle.parse.proofs.module_path.Reads as module-path-reads
-use Rattle.parse.proofs.push.Reads as push-reads
-use Rattle.parse.proofs.unexpected.Reads as unexpected-reads
 
 kind-at-requires : tie.Need-kind-at-requires
 kind-at-requires c κs = search needs
@@ -37,8 +29,9 @@ same-length c = search needs
 
 returns : tie.Need-returns
 returns c =
+    let a = c .before .before .before .before .before .before .before .before .before .args in
     let lit = literal-seen (c .before .before .before .before .before .before .kind-at .ensures) (c .before .before .before .before .before .is-literal .ensures) (c .before .before .before .before .if1 .taken) in
-    (omega (arith, literal-inside (c .before .before .before .before .before .before .before .before .before .args .toks .now) (c .before .before .before .before .before .before .before .before .before .args .at) lit), λ ts ns rep l h. met-ok refl (primary-literal rep _ _ lit) (leaf-pushed (literal _) l h refl refl (c .before .before .push .ensures)))
+    (omega (arith, literal-inside (a .toks .now) (a .at) lit), λ ts ns rep l h. met-ok refl (primary-literal rep _ _ lit) (leaf-pushed (literal _) l h refl refl (c .before .before .push .ensures)))
 
 address-requires : tie.Need-address-requires
 address-requires c κs = search needs
@@ -81,16 +74,18 @@ same-length-4 c = search needs
 
 returns-4 : tie.Need-returns-4
 returns-4 c =
+    let a = c .before .before .before .before .before .before .before .before .before .before .before .before .args in
     let is13 = seen (c .before .before .before .before .before .before .before .before .before .kind-at .ensures) (c .before .before .before .before .before .before .match .keys2) in (
-      omega (arith, inside (c .before .before .before .before .before .before .before .before .before .before .before .before .args .toks .now) (c .before .before .before .before .before .before .before .before .before .before .before .before .args .at) 11 is13),
+      omega (arith, inside (a .toks .now) (a .at) 11 is13),
       λ ts ns rep l h. met-ok refl (primary-local rep _ _ is13 (unseen (c .before .before .before .before .before .kind-at2 .ensures) (c .before .before .before .before .if2 .left))) (leaf-pushed (local _) l h refl refl (c .before .before .push2 .ensures)),
     )
 
 returns-5 : tie.Need-returns-5
-returns-5 c = (
-  ahead-no (c .unexpected .ensures) (omega arith),
-  λ ts ns rep l h. met-no (c .unexpected .ensures) (primary-no rep _ _ (literal-seen (c .before .before .before .before .kind-at .ensures) (c .before .before .before .is-literal .ensures) (c .before .before .if1 .left)) (unseen (c .before .before .before .before .kind-at .ensures) (c .before .match .rest .0 .1)) (unseen (c .before .before .before .before .kind-at .ensures) (c .before .match .rest .1))),
-)
+returns-5 c =
+    let k1 = c .before .before .before .before .kind-at in (
+      ahead-no (c .unexpected .ensures) (omega arith),
+      λ ts ns rep l h. met-no (c .unexpected .ensures) (primary-no rep _ _ (literal-seen (k1 .ensures) (c .before .before .before .is-literal .ensures) (c .before .before .if1 .left)) (unseen (k1 .ensures) (c .before .match .rest .0 .1)) (unseen (k1 .ensures) (c .before .match .rest .1))),
+    )
 
 pub primary-spec : {M : Type 1} → statement M
 primary-spec =

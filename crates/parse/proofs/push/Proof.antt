@@ -2,9 +2,6 @@ use Rattle.parse.proofs.Nodes.{stored}
 use borrow.Author.Needs.{needs}
 use Rattle.parse.proofs.push.Statement.{statement}
 use Rattle.parse.proofs.push.Tie as tie
-use Rattle.parse.proofs.push.Reads as reads
-use Rattle.parse.proofs.push.Lts as lts
-use Rattle.table.proofs.put_row.Reads as put-row-reads
 
 slice-aggregate-put-row : tie.Need-slice-aggregate-put-row
 slice-aggregate-put-row c = search needs

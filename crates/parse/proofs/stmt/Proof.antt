@@ -4,12 +4,6 @@ use Rattle.parse.proofs.Steps.{stmt-import, stmt-let, stmt-expr}
 use borrow.Author.Needs.{needs}
 use Rattle.parse.proofs.stmt.Statement.{statement}
 use Rattle.parse.proofs.stmt.Tie as tie
-use Rattle.parse.proofs.stmt.Reads as reads
-use Rattle.parse.proofs.stmt.Lts as lts
-use Rattle.parse.proofs.expr_stmt.Reads as expr-stmt-reads
-use Rattle.parse.proofs.import_stmt.Reads as import-stmt-reads
-use Rattle.parse.proofs.kind_at.Reads as kind-at-reads
-use Rattle.parse.proofs.let_stmt.Reads as let-stmt-reads
 
 kind-at-requires : tie.Need-kind-at-requires
 kind-at-requires c κs = search needs
@@ -39,10 +33,11 @@ same-length-3 : tie.Need-same-length-3
 same-length-3 c = search needs
 
 returns-3 : tie.Need-returns-3
-returns-3 c = (
-  c .before .before .expr-stmt .ensures .0,
-  λ ts ns rep l h. stmt-by (stmt-expr rep _ (unseen (c .before .before .before .before .before .kind-at .ensures) (c .before .before .before .before .match .rest .0 .1)) (unseen (c .before .before .before .before .before .kind-at .ensures) (c .before .before .before .before .match .rest .1))) (c .before .before .expr-stmt .ensures .1 ts ns rep l h),
-)
+returns-3 c =
+    let k1 = c .before .before .before .before .before .kind-at in (
+      c .before .before .expr-stmt .ensures .0,
+      λ ts ns rep l h. stmt-by (stmt-expr rep _ (unseen (k1 .ensures) (c .before .before .before .before .match .rest .0 .1)) (unseen (k1 .ensures) (c .before .before .before .before .match .rest .1))) (c .before .before .expr-stmt .ensures .1 ts ns rep l h),
+    )
 
 pub stmt-spec : {M : Type 1} → statement M
 stmt-spec =

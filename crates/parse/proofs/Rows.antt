@@ -1,0 +1,103 @@
+-- The rows of tokens stand for the contents of the tokens: what a caller of `program` has to show.
+use mathlib.Core.Path.{_≡_, refl, sym, ap, _∙_}
+use mathlib.Core.List.{List, [], _∷_, _++_}
+use Prim.Native.Nat.{ℕ, zero, suc, _+_, _*_, _/_, _%_, _≤_, _<_}
+use native.Mathlib.Omega.{arith}
+use native.Mathlib.Decide.{decLe}
+use borrow.Author.Tests.{eq-eqb, ne-eqb, le-leb, lt-leb}
+use lib.ListN.{length, getD, length-append, List·getD-append, List·getD-eq-default}
+use lib.Seq.{getD-append-add}
+use Rattle.table.specs.Table.{flat}
+use Rattle.table.proofs.Laws.{length-flat}
+use Rattle.language.specs.Lexemes.{Tok, lParen, rParen, dot, doubleColon, colon, semiColon, equals, comma, slash, importKeyword, letKeyword, identifier, booleanLiteral, ipv4Literal, hexLiteral, decLiteral}
+use Rattle.language.specs.Tables.{word, contentKind, contentLow, contentHigh, tokenRow}
+use Rattle.language.specs.Tokens.{Content, eof, plain, name, string, Token, contents}
+use Rattle.language.specs.Sentences.{Port, port, tooLarge, notPort, portOf}
+use Rattle.parse.specs.Parsing.{kindAt, portTokOf, portOfTok, portAt, Rep}
+use Rattle.parse.proofs.Looks.{kind-in, kind-past}
+
+row-long : (t : Token) → length (tokenRow t) ≡ 7
+unfolding tokenRow
+row-long t = refl
+
+-- past the end
+abbrev end : Token
+end = record { content = eof; line = 0; column = 0; start = 0; end = 0 }
+
+-- a word of a row
+word-at : (ts : List Token) (at j : ℕ) → j < 7 → at < length ts → getD (flat tokenRow ts) (7 * at + j) 0 ≡ getD (tokenRow (getD ts at end)) j 0
+word-at [] at j h lt = absurd (omega arith)
+word-at (t ∷ ts) zero j h lt = let e : 7 * 0 + j ≡ j = omega arith in rw e (List·getD-append (tokenRow t) (flat tokenRow ts) 0 j (omega (arith, row-long t)))
+word-at (t ∷ ts) (suc at) j h lt =
+    let e : 7 * suc at + j ≡ length (tokenRow t) + (7 * at + j) = omega (arith, row-long t) in
+    rw (e, getD-append-add) (word-at ts at j h (omega arith))
+
+content-at : (ts : List Token) (at : ℕ) → getD (contents ts) at eof ≡ getD ts at end .content
+content-at [] at = refl
+content-at (t ∷ ts) zero = refl
+content-at (t ∷ ts) (suc at) = content-at ts at
+
+-- a value of two words is a port where it fits in 16 bits
+port-value : (n : ℕ) → portOfTok (portTokOf 18 (n % word) (n / word)) ≡ portOf (plain (decLiteral n))
+unfolding portOfTok portTokOf
+port-value n = elim (decLe n 65535) [
+  | yes h ↦ rw (eq-eqb (n / word) 0 (omega arith), le-leb (n % word) 65535 (omega arith), le-leb n 65535 h)
+  | no h ↦ rw (lt-leb n 65535 (omega arith)) (elim (decLe word n) [
+    | yes g ↦ rw (ne-eqb (n / word) 0 (λ z. omega arith))
+    | no g ↦ rw (eq-eqb (n / word) 0 (omega arith), lt-leb (n % word) 65535 (omega arith))
+  ])
+]
+
+port-content : (c : Content) → portOfTok (portTokOf (contentKind c) (contentLow c) (contentHigh c)) ≡ portOf c
+unfolding portOfTok portTokOf
+port-content eof = refl
+port-content (plain lParen) = refl
+port-content (plain rParen) = refl
+port-content (plain dot) = refl
+port-content (plain doubleColon) = refl
+port-content (plain colon) = refl
+port-content (plain semiColon) = refl
+port-content (plain equals) = refl
+port-content (plain comma) = refl
+port-content (plain slash) = refl
+port-content (plain importKeyword) = refl
+port-content (plain letKeyword) = refl
+port-content (plain identifier) = refl
+port-content (plain (booleanLiteral b)) = refl
+port-content (plain (ipv4Literal n)) = refl
+port-content (plain (hexLiteral n)) = refl
+port-content (plain (decLiteral n)) = port-value n
+port-content (name bs) = refl
+port-content (string b bs) = refl
+
+rows-long : (ts : List Token) → length (flat tokenRow ts) ≡ 7 * length ts
+rows-long ts = length-flat tokenRow 7 row-long ts ∙ omega arith
+
+module _ (ts : List Token) (at : ℕ) where
+  past-end : length (flat tokenRow ts) < 7 * at + 7 → getD (contents ts) at eof ≡ eof
+  past-end h = let past : length ts ≤ at = omega (arith, rows-long ts) in content-at ts at ∙ ap (λ (t : Token). t .content) (List·getD-eq-default ts end past)
+
+  kind-row : kindAt (flat tokenRow ts) at ≡ contentKind (getD (contents ts) at eof)
+  unfolding tokenRow
+  kind-row = elim (decLe (7 * at + 7) (length (flat tokenRow ts))) [
+    | yes h ↦
+        let e : 7 * at ≡ 7 * at + 0 = omega arith in
+        sym (kind-in (flat tokenRow ts) at h) ∙ rw (e, content-at ts at) (word-at ts at 0 (omega arith) (omega (arith, rows-long ts)))
+    | no h ↦ let past : length (flat tokenRow ts) < 7 * at + 7 = omega arith in sym (kind-past (flat tokenRow ts) at past) ∙ rw (past-end past)
+  ]
+
+  port-row : portAt (flat tokenRow ts) at ≡ portOf (getD (contents ts) at eof)
+  unfolding tokenRow portAt portTokOf portOfTok
+  port-row = elim (decLe (7 * at + 7) (length (flat tokenRow ts))) [
+    | yes h ↦
+        let lt : at < length ts = omega (arith, rows-long ts) in
+        rw (kind-row, word-at ts at 5 (omega arith) lt, word-at ts at 6 (omega arith) lt, content-at ts at) (port-content (getD ts at end .content))
+    | no h ↦ let past : length (flat tokenRow ts) < 7 * at + 7 = omega arith in rw (← kind-past (flat tokenRow ts) at past, past-end past)
+  ]
+
+pub represented : (ts : List Token) → Rep (flat tokenRow ts) (contents ts)
+represented ts = record { long = long ts; kinds = kind-row ts; ports = port-row ts }
+  where
+    long : (ts : List Token) → length (flat tokenRow ts) ≡ 7 * length (contents ts)
+    long [] = refl
+    long (t ∷ ts) = simp length-append (omega (arith, row-long t, long ts))
