@@ -2,13 +2,18 @@
 // A node is stored after its children, so a child is named by its row, which is always a smaller number. A store past the
 // table's end is lost, and every node is counted. Expressions and lists of arguments call each other: each list that is
 // opened leaves one list less to open.
+//
+// Kinds of tokens: 1 `Eof`, 2 `(`, 3 `)`, 4 `.`, 5 `::`, 6 `:`, 7 `;`, 8 `=`, 9 `,`, 10 `/`, 11 `import`, 12 `let`, 13 a name,
+// 14 a bool, 15 an address, 16 a string, 17 and 18 integers, of which 18 is decimal.
+// Kinds of nodes: 1 a further name of a path, 2 a literal, 3 an address with a port, 4 a name, 5 a path, 6 a member, 7 `/`,
+// 8 a call, 9 an argument, 10 a named argument, 11 `import`, 12 `let`, 13 an expression as a statement.
 ghost use mathlib.Core.Path.{_≡_};
 ghost use mathlib.Core.List.{List, [], _∷_, _++_};
 ghost use Prim.Native.Nat.{ℕ, _+_, _*_, _<_, _≤_};
 ghost use lib.ListN.{length, getD};
 ghost use Rattle.language.specs.Tokens.{Content};
-ghost use Rattle.language.specs.Sentences.{Expr, Stmt, Node, node, mostSteps, primary, address, named′, links, chainAt, slashes, exprAt, listAt, ended, importAt, letAt, stmtAt, program};
-ghost use Rattle.parse.specs.Parsing.{kindAt, literalKind, portAt, portAs, portTokOf, isNamed, argKind, valueFrom, Room, Rep, Holds, Pushes, Stands, withStmt, exprStmt, After, AfterExpr, MetExpr, MetArgs, MetStmt, MetAll, Ahead, AheadList};
+ghost use Rattle.language.specs.Sentences.{Stmt, Node, node, mostSteps, primary, address, named′, links, chainAt, slashes, exprAt, listAt, ended, importAt, letAt, stmtAt, program};
+ghost use Rattle.parse.specs.Parsing.{kindAt, literalKind, portAt, portAs, portTokOf, isNamed, argKind, valueFrom, Room, Rep, Holds, Pushes, withStmt, exprStmt, After, AfterExpr, MetExpr, MetArgs, MetStmt, MetAll, Ahead, AheadList};
 use wide::Wide;
 
 // What a part of the grammar came to.
@@ -65,7 +70,7 @@ impl Parser {
 
 // ---- tokens
 
-// The kind of a token: `Eof` past the last row.
+// The kind of a token, the first of the 7 words of its row: `Eof` past the last row.
 fn kind_at(toks: &[u64], at: usize) -> u64
     requires { ⌜ at ≤ 4294967296 ⌝ }
     ensures { λ r. ⌜ r ≡ kindAt (now (toks .entry)) at ⌝ }
@@ -77,6 +82,7 @@ fn kind_at(toks: &[u64], at: usize) -> u64
     1
 }
 
+// The token where a port is expected, with its value, whose high word is the last of the row.
 fn port_tok(toks: &[u64], at: usize) -> PortTok
     requires { ⌜ at ≤ 4294967296 ⌝ }
     ensures { λ r. ⌜ r ≡ portTokOf (kindAt (now (toks .entry)) at) (getD (now (toks .entry)) (7 * at + 5) 0) (getD (now (toks .entry)) (7 * at + 6) 0) ⌝ }
@@ -123,7 +129,13 @@ fn push(
     requires { ⌜ count ≤ 4294967296 ⌝ }
     ensures { λ _. ⌜ Pushes (now (nodes .entry)) (now (nodes .exit)) count (node kind tok first second third) ⌝ }
 {
-    let row = [kind, tok as u64, first as u64, second as u64, third as u64];
+    let row: [u64; Parser::ROW_WORDS] = [
+        kind,
+        tok as u64,
+        first as u64,
+        second as u64,
+        third as u64,
+    ];
     table::put_row(nodes, count, &row);
 }
 
