@@ -1,9 +1,9 @@
 -- How the parser's tables and answers stand for contents and trees.
-use Prim.Native.Nat.{ℕ, _+_, _*_, _≤_}
+use Prim.Native.Nat.{ℕ, _+_, _*_, _≤_, _-_}
 use mathlib.Core.Path.{_≡_}
 use mathlib.Core.Bool.{Bool, true, false, _&&_, _||_}
 use mathlib.Core.List.{List, [], _∷_, _++_}
-use lib.Dec.{eqb, leb}
+use lib.Dec.{eqb, leb, ltb}
 use lib.ListN.{length, getD}
 use Rattle.table.specs.Table.{tabled}
 use Rattle.wide.specs.declared.Wide.{Wide}
@@ -11,6 +11,7 @@ use Rattle.language.specs.Choice.{if′}
 use Rattle.language.specs.Tables.{contentKind}
 use Rattle.language.specs.Tokens.{Content, eof}
 use Rattle.language.specs.Sentences.{Expr, Args, given, named, Stmt, expr′, firstOf, Port, port, tooLarge, notPort, portOf, Out, ok, no, andThen, mostLists, exprAt, ended, Node, node, exprNodes, argNodes, lastOf, stmtNodes, nodes, nodeRow, nodeWidth}
+use Rattle.scan.specs.declared.Verdict.{Verdict}
 use Rattle.parse.specs.declared.Parsed.{Parsed}
 use Rattle.parse.specs.declared.Parsed.the-variants.{Done, Refused}
 use Rattle.parse.specs.declared.Listed.{Listed}
@@ -162,3 +163,11 @@ AheadArgs len at count (listed.Refused n k a) = a ≤ len + 3
 
 pub record AheadList (len at count : ℕ) (r : Listed) : Type 0 where
   pub on : AheadArgs len at count r
+
+-- ---- places
+
+-- a refusal at a token of a table with `count` of them, the last of which is `Eof`
+abbrev pub verdictAt : List ℕ → ℕ → ℕ → ℕ → ℕ → Verdict
+verdictAt toks count number kind at =
+    let i = if′ (ltb at count) at (count - 1) in
+    record { number = number; kind = kind; line = getD toks (7 * i + 1) 0; column = getD toks (7 * i + 2) 0; character = 0 }

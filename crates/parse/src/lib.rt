@@ -8,8 +8,11 @@ ghost use Prim.Native.Nat.{ℕ, _+_, _*_, _<_, _≤_};
 ghost use lib.ListN.{length, getD};
 ghost use Rattle.language.specs.Tokens.{Content};
 ghost use Rattle.language.specs.Sentences.{Expr, Stmt, Node, node, mostSteps, primary, address, named′, links, chainAt, slashes, exprAt, listAt, ended, importAt, letAt, stmtAt, program};
+ghost use Rattle.parse.specs.Parsing.{verdictAt};
+ghost use Rattle.parse.specs.Entry.{ParseSource};
 ghost use Rattle.parse.specs.Parsing.{kindAt, literalKind, portAt, portAs, portTokOf, isNamed, argKind, valueFrom, Room, Rep, Holds, Pushes, Stands, withStmt, exprStmt, After, AfterExpr, MetExpr, MetArgs, MetStmt, MetAll, Ahead, AheadList};
 
+use scan::Verdict;
 use wide::Wide;
 
 // What a part of the grammar came to: the next token, how many nodes there are then and the steps that are left; or a
@@ -656,5 +659,83 @@ pub fn program(toks: &[u64], nodes: &mut [u64]) -> Parsed
         next: at,
         nodes: have,
         steps: 0,
+    }
+}
+
+// ---- the entry
+
+pub struct ParseAnswer {
+    pub verdict: Verdict,
+    pub tokens: u64,
+    pub nodes: u64,
+}
+
+// The answer of a refusal: no counts.
+fn refused(verdict: Verdict) -> ParseAnswer
+    ensures { λ r. ⌜ r ≡ record { verdict = verdict; tokens = 0; nodes = 0 } ⌝ }
+{
+    ParseAnswer {
+        verdict: verdict,
+        tokens: 0,
+        nodes: 0,
+    }
+}
+
+// A refusal at the token numbered `at` of `count`, the last of which is `Eof`: past the end it stands there.
+fn at_token(toks: &[u64], count: usize, number: u64, kind: u64, at: usize) -> Verdict
+    requires { ⌜ (1 ≤ count) × (7 * count ≤ length (now toks)) × (count ≤ 65537) ⌝ }
+    ensures { λ r. ⌜ r ≡ verdictAt (now (toks .entry)) count number kind at ⌝ }
+{
+    let mut i = count - 1;
+    if at < count {
+        i = at;
+    }
+    let row = 7 * i;
+    Verdict {
+        number: number,
+        kind: kind,
+        line: toks[row + 1],
+        column: toks[row + 2],
+        character: 0,
+    }
+}
+
+// Parses a source into a lent table of tokens and a lent table of nodes.
+pub fn parse_source(source: &[u8], toks: &mut [u64], nodes: &mut [u64]) -> ParseAnswer
+    ensures { λ r. ⌜ ParseSource (now (source .entry)) (length (now (toks .entry))) (length (now (nodes .entry))) r (now (toks .exit)) (now (nodes .exit)) ⌝ }
+{
+    let room = nodes.len() / Parser::ROW_WORDS;
+    table::clear(nodes);
+    let lexed = lex::lex_source(source, toks);
+    let verdict = lexed.verdict;
+    if verdict.number != 0 {
+        return refused(verdict);
+    }
+    let count = lexed.count as usize;
+    let rows = 7 * count;
+    let parsed = program(&toks[..rows], nodes);
+    match parsed {
+        Parsed::Refused { number, kind, at } => {
+            let found = at_token(toks, count, number, kind, at);
+            table::clear(toks);
+            table::clear(nodes);
+            refused(found)
+        }
+        Parsed::Done {
+            next: _,
+            nodes: n,
+            steps: _,
+        } => {
+            if room < n {
+                table::clear(toks);
+                table::clear(nodes);
+                return refused(Verdict::new(6, 0, 0));
+            }
+            ParseAnswer {
+                verdict: Verdict::new(0, 0, 0),
+                tokens: lexed.count,
+                nodes: n as u64,
+            }
+        }
     }
 }
