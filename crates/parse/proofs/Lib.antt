@@ -3,3 +3,6 @@ pub mod Nodes
 pub mod Answers
 pub mod Looks
 pub mod Steps
+pub mod Rows
+pub mod Refusals
+pub mod Entry

@@ -166,8 +166,11 @@ pub record AheadList (len at count : ℕ) (r : Listed) : Type 0 where
 
 -- ---- places
 
--- a refusal at a token of a table with `count` of them, the last of which is `Eof`
-abbrev pub verdictAt : List ℕ → ℕ → ℕ → ℕ → ℕ → Verdict
-verdictAt toks count number kind at =
-    let i = if′ (ltb at count) at (count - 1) in
+-- a refusal at the token in a row of a table
+abbrev pub rowVerdict : List ℕ → ℕ → ℕ → ℕ → Verdict
+rowVerdict toks number kind i =
     record { number = number; kind = kind; line = getD toks (7 * i + 1) 0; column = getD toks (7 * i + 2) 0; character = 0 }
+
+-- a refusal at a token of a table with `count` of them, the last of which is `Eof`
+unfoldable pub verdictAt : List ℕ → ℕ → ℕ → ℕ → ℕ → Verdict
+verdictAt toks count number kind at = rowVerdict toks number kind (if′ (ltb at count) at (count - 1))

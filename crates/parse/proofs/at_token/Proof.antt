@@ -1,46 +1,30 @@
+use mathlib.Core.Path.{_∙_}
+use Rattle.parse.proofs.Rows.{near, far}
 use borrow.Author.Needs.{needs}
 use Rattle.parse.proofs.at_token.Statement.{statement}
 use Rattle.parse.proofs.at_token.Tie as tie
-use Rattle.parse.proofs.at_token.Reads as reads
-use Rattle.parse.proofs.at_token.Lts as lts
 
-sub-i : tie.Need-sub-i
-sub-i c = search needs
-
-mul-row : tie.Need-mul-row
-mul-row c = ?
-
-add-t9 : tie.Need-add-t9
-add-t9 c = ?
-
-mul-t10 : tie.Need-mul-t10
-mul-t10 c = ?
-
-shared-slice-read-t12 : tie.Need-shared-slice-read-t12
-shared-slice-read-t12 c = ?
-
-add-t13 : tie.Need-add-t13
-add-t13 c = ?
-
-mul-t14 : tie.Need-mul-t14
-mul-t14 c = ?
-
-shared-slice-read-t16 : tie.Need-shared-slice-read-t16
-shared-slice-read-t16 c = ?
+at-row-requires : tie.Need-at-row-requires
+at-row-requires c κs = search needs
 
 returns : tie.Need-returns
-returns c = ?
+returns c = c .at-row .ensures ∙ near _ _ _ _ _ (c .before .if1 .taken)
+
+sub-at-row : tie.Need-sub-at-row
+sub-at-row c = search needs
+
+at-row-requires-2 : tie.Need-at-row-requires-2
+at-row-requires-2 c κs = search needs
+
+returns-2 : tie.Need-returns-2
+returns-2 c = c .at-row2 .ensures ∙ far _ _ _ _ _ (c .before .if1 .left)
 
 pub at-token-spec : {M : Type 1} → statement M
 at-token-spec =
     tie.close
     (tie.spec
-    sub-i
-    mul-row
-    add-t9
-    mul-t10
-    shared-slice-read-t12
-    add-t13
-    mul-t14
-    shared-slice-read-t16
-    returns)
+    at-row-requires
+    returns
+    sub-at-row
+    at-row-requires-2
+    returns-2)
