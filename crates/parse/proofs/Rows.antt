@@ -16,10 +16,9 @@ use Rattle.language.specs.Lexemes.{lParen, rParen, dot, doubleColon, colon, sem
 use Rattle.language.specs.Tables.{word, contentKind, contentLow, contentHigh, tokenRow}
 use Rattle.language.specs.Tokens.{Content, eof, plain, name, string, Token, contents, items, tokensFrom, eofToken, tokens, Ordered, ordered-one}
 use Rattle.language.specs.Numbers.{tokenPlace}
-use Rattle.language.specs.Sentences.{port, tooLarge, notPort, portOf}
+use Rattle.language.specs.Sentences.{port, tooLarge, portOf}
 use Rattle.language.proofs.TokenClaims.{places-right, tokens-in-order}
 use Rattle.scan.specs.declared.Verdict.{Verdict}
-use Rattle.scan.specs.Scanning.{verdictAs}
 use Rattle.parse.specs.Parsing.{kindAt, portTokOf, portOfTok, portAt, Rep, rowVerdict, verdictAt}
 use Rattle.parse.specs.declared.PortTok.the-variants.{DecLiteral}
 use Rattle.parse.proofs.Looks.{kind-in, kind-past}

@@ -11,7 +11,6 @@ ghost use Rattle.language.specs.Sentences.{Expr, Stmt, Node, node, mostSteps, p
 ghost use Rattle.parse.specs.Parsing.{rowVerdict, verdictAt};
 ghost use Rattle.parse.specs.Entry.{GivesUp, Lexes, ParseSource};
 ghost use Rattle.parse.specs.Parsing.{kindAt, literalKind, portAt, portAs, portTokOf, isNamed, argKind, valueFrom, Room, Rep, Holds, Pushes, Stands, withStmt, exprStmt, After, AfterExpr, MetExpr, MetArgs, MetStmt, MetAll, Ahead, AheadList};
-
 use scan::Verdict;
 use wide::Wide;
 
@@ -67,6 +66,7 @@ pub struct Parser {}
 impl Parser {
     // How many steps one expression may have, and how many lists may be open at once.
     pub const MOST_STEPS: usize = 64;
+
     pub const MOST_LISTS: usize = 32;
     // How many words a row of the node table has.
     pub const ROW_WORDS: usize = 5;
