@@ -4,3 +4,6 @@ pub mod Answers
 pub mod Looks
 pub mod Steps
 pub mod Rows
+pub mod TokenRows
+pub mod Refusals
+pub mod Entry

@@ -1,1 +1,2 @@
 pub mod Parsing
+pub mod Entry

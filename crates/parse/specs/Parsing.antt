@@ -1,15 +1,16 @@
 -- How the parser's tables and answers stand for contents and trees.
-use Prim.Native.Nat.{ℕ, _+_, _*_, _≤_}
+use Prim.Native.Nat.{ℕ, _+_, _*_, _≤_, _-_}
 use mathlib.Core.Path.{_≡_}
 use mathlib.Core.Bool.{Bool, _&&_, _||_}
 use mathlib.Core.List.{List, [], _∷_, _++_}
-use lib.Dec.{eqb, leb}
+use lib.Dec.{eqb, leb, ltb}
 use lib.ListN.{length, getD}
 use Rattle.table.specs.Table.{tabled}
 use Rattle.language.specs.Choice.{if′}
 use Rattle.language.specs.Tables.{contentKind}
 use Rattle.language.specs.Tokens.{Content, eof}
 use Rattle.language.specs.Sentences.{Expr, Args, given, named, Stmt, expr′, firstOf, Port, port, tooLarge, notPort, portOf, Out, ok, no, andThen, mostLists, exprAt, ended, Node, exprNodes, argNodes, lastOf, stmtNodes, nodes, nodeRow, nodeWidth}
+use Rattle.scan.specs.declared.Verdict.{Verdict}
 use Rattle.parse.specs.declared.Parsed.{Parsed}
 use Rattle.parse.specs.declared.Parsed.the-variants.{Done, Refused}
 use Rattle.parse.specs.declared.Listed.{Listed}
@@ -161,3 +162,14 @@ AheadArgs len at count (listed.Refused n k a) = a ≤ len + 3
 
 pub record AheadList (len at count : ℕ) (r : Listed) : Type 0 where
   pub on : AheadArgs len at count r
+
+-- ---- places
+
+-- a refusal at the token in a row of a table
+abbrev pub rowVerdict : List ℕ → ℕ → ℕ → ℕ → Verdict
+rowVerdict toks number kind i =
+    record { number = number; kind = kind; line = getD toks (7 * i + 1) 0; column = getD toks (7 * i + 2) 0; character = 0 }
+
+-- a refusal at a token of a table with `count` of them, the last of which is `Eof`
+unfoldable pub verdictAt : List ℕ → ℕ → ℕ → ℕ → ℕ → Verdict
+verdictAt toks count number kind at = rowVerdict toks number kind (if′ (ltb at count) at (count - 1))

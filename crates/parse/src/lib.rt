@@ -13,7 +13,9 @@ ghost use Prim.Native.Nat.{ℕ, _+_, _*_, _<_, _≤_};
 ghost use lib.ListN.{length, getD};
 ghost use Rattle.language.specs.Tokens.{Content};
 ghost use Rattle.language.specs.Sentences.{Stmt, Node, node, mostSteps, primary, address, named′, links, chainAt, slashes, exprAt, listAt, ended, importAt, letAt, stmtAt, program};
-ghost use Rattle.parse.specs.Parsing.{kindAt, literalKind, portAt, portAs, portTokOf, isNamed, argKind, valueFrom, Room, Rep, Holds, Pushes, withStmt, exprStmt, After, AfterExpr, MetExpr, MetArgs, MetStmt, MetAll, Ahead, AheadList};
+ghost use Rattle.parse.specs.Entry.{GivesUp, Lexes, ParseSource};
+ghost use Rattle.parse.specs.Parsing.{kindAt, literalKind, portAt, portAs, portTokOf, isNamed, argKind, valueFrom, Room, Rep, Holds, Pushes, withStmt, exprStmt, After, AfterExpr, MetExpr, MetArgs, MetStmt, MetAll, Ahead, AheadList, rowVerdict, verdictAt};
+use scan::Verdict;
 use wide::Wide;
 
 // What a part of the grammar came to.
@@ -493,4 +495,97 @@ pub fn program(toks: &[u64], nodes: &mut [u64]) -> Parsed
         }
     }
     Parsed::Done(at, have, 0)
+}
+
+// ---- the entry
+
+pub struct ParseAnswer {
+    pub verdict: Verdict,
+    pub tokens: u64,
+    pub nodes: u64,
+}
+
+// The answer of a refusal: no counts.
+fn refused(verdict: Verdict) -> ParseAnswer
+    ensures { λ r. ⌜ r ≡ record { verdict = verdict; tokens = 0; nodes = 0 } ⌝ }
+{
+    ParseAnswer {
+        verdict: verdict,
+        tokens: 0,
+        nodes: 0,
+    }
+}
+
+// A refusal that leaves nothing in either table.
+fn give_up(verdict: Verdict, toks: &mut [u64], nodes: &mut [u64]) -> ParseAnswer
+    ensures { λ r. ⌜ GivesUp verdict (length (now (toks .entry))) (length (now (nodes .entry))) r (now (toks .exit)) (now (nodes .exit)) ⌝ }
+{
+    table::clear(toks);
+    table::clear(nodes);
+    refused(verdict)
+}
+
+// A refusal at the token in a row.
+fn at_row(toks: &[u64], i: usize, number: u64, kind: u64) -> Verdict
+    requires { ⌜ (7 * i + 7 ≤ length (now toks)) × (i ≤ 65536) ⌝ }
+    ensures { λ r. ⌜ r ≡ rowVerdict (now (toks .entry)) number kind i ⌝ }
+{
+    let row = 7 * i;
+    Verdict {
+        number: number,
+        kind: kind,
+        line: toks[row + 1],
+        column: toks[row + 2],
+        character: 0,
+    }
+}
+
+// A refusal at the token numbered `at` of `count`, the last of which is `Eof`: past the end it stands there.
+fn at_token(toks: &[u64], count: usize, number: u64, kind: u64, at: usize) -> Verdict
+    requires { ⌜ (1 ≤ count) × (7 * count ≤ length (now toks)) × (count ≤ 65537) ⌝ }
+    ensures { λ r. ⌜ r ≡ verdictAt (now (toks .entry)) count number kind at ⌝ }
+{
+    if at < count {
+        return at_row(toks, at, number, kind);
+    }
+    at_row(toks, count - 1, number, kind)
+}
+
+// Parses `count` tokens. The node table starts out as zeros.
+fn parse_tokens(toks: &mut [u64], nodes: &mut [u64], count: usize) -> ParseAnswer
+    requires { ⌜ (1 ≤ count) × (7 * count ≤ length (now toks)) × (count ≤ 65537) ⌝ }
+    ensures { λ r. ⌜ ((s : List ℕ) → Lexes s (now (toks .entry)) count → Holds (now (nodes .entry)) [] → ParseSource s (length (now (toks .entry))) (length (now (nodes .entry))) r (now (toks .exit)) (now (nodes .exit))) ⌝ }
+{
+    let room = nodes.len() / Parser::ROW_WORDS;
+    let rows = 7 * count;
+    let parsed = program(&toks[..rows], nodes);
+    match parsed {
+        Parsed::Refused(number, kind, at) => {
+            let found = at_token(toks, count, number, kind, at);
+            give_up(found, toks, nodes)
+        }
+        Parsed::Done(_, n, _) => {
+            if room < n {
+                return give_up(Verdict::new(6, 0, 0), toks, nodes);
+            }
+            ParseAnswer {
+                verdict: Verdict::new(0, 0, 0),
+                tokens: count as u64,
+                nodes: n as u64,
+            }
+        }
+    }
+}
+
+// Parses a source into a lent table of tokens and a lent table of nodes.
+pub fn parse_source(source: &[u8], toks: &mut [u64], nodes: &mut [u64]) -> ParseAnswer
+    ensures { λ r. ⌜ ParseSource (now (source .entry)) (length (now (toks .entry))) (length (now (nodes .entry))) r (now (toks .exit)) (now (nodes .exit)) ⌝ }
+{
+    table::clear(nodes);
+    let lexed = lex::lex_source(source, toks);
+    let verdict = lexed.verdict;
+    if verdict.number != 0 {
+        return refused(verdict);
+    }
+    parse_tokens(toks, nodes, lexed.count as usize)
 }

@@ -1,0 +1,199 @@
+-- What parsing a source answers and leaves, for each way that it goes, and the proof of the claim of specs/Entry.antt.
+use mathlib.Core.Path.{_≡_, refl, sym, ap, _∙_}
+use mathlib.Core.Bool.{false}
+use mathlib.Core.List.{List, []}
+use mathlib.Core.Option.{Option, none, some}
+use Prim.Native.Nat.{ℕ, _*_, _/_, _≤_, _<_}
+use native.Mathlib.Omega.{arith}
+use native.Mathlib.Decide.{decLe}
+use borrow.Author.Tests.{ne-eqb, lt-ltb, le-ltb}
+use lib.Dec.{eqb}
+use lib.ListN.{length, take}
+use Rattle.table.specs.Table.{padTo, tabled}
+use Rattle.table.proofs.Laws.{length-pad, length-tabled, tabled-none, tabled-own}
+use Rattle.language.specs.Utf8.{firstBad}
+use Rattle.language.specs.Tables.{tokenRow}
+use Rattle.language.specs.Tokens.{contents, items, tokens, Wrong, firstWrong}
+use Rattle.language.specs.Sentences.{Stmt, Out, ok, program, nodes, nodeRow}
+use Rattle.language.specs.Sentences as sentences
+use Rattle.language.specs.Numbers as numbers
+use Rattle.language.specs.Numbers.{verdict, lexed, lexAnswer, lexTable, parsed, tokenPlace, parseAnswer, parseTokens, parseNodes}
+use Rattle.utf8.specs.Decoding.{badOf}
+use Rattle.utf8.specs.declared.Bad.the-variants.{Nowhere}
+use Rattle.scan.specs.declared.Verdict.{Verdict}
+use Rattle.scan.specs.Scanning.{verdictAs}
+use Rattle.lex.specs.declared.Lexed.{Lexed}
+use Rattle.lex.specs.Entry.{LexSource}
+use Rattle.lex.proofs.Answers.{too-long, bad-byte, wrong-one, full, fits}
+use Rattle.parse.specs.declared.Parsed.{Parsed}
+use Rattle.parse.specs.declared.Parsed.the-variants.{Done, Refused}
+use Rattle.parse.specs.declared.ParseAnswer.{ParseAnswer}
+use Rattle.parse.specs.Parsing.{Rep, Holds, MetAll, verdictAt}
+use Rattle.parse.specs.Entry.{refusal, GivesUp, Lexes, ParseSource, ParseDetermined}
+use Rattle.parse.proofs.TokenRows.{some-token, few-tokens, part-rep, place-at}
+use Rattle.parse.proofs.Refusals.{refused-number}
+
+-- ---- what lexing leaves where its number is 0
+
+module _ (s : List ℕ) (room : ℕ) (z : lexAnswer s room .verdict .number ≡ 0) where
+  number-0 : {v : numbers.Verdict} {k : ℕ} → lexAnswer s room ≡ lexed v k → v .number ≡ 0
+  number-0 e = rw e at z
+
+  short : length s ≤ 65536
+  short =
+      elim (decLe (length s) 65536) [
+        | yes h ↦ h
+        | no h ↦ let x : _≡_ {A = ℕ} 1 0 = number-0 (too-long s room (omega arith)) in absurd (omega arith)
+      ]
+
+  all-good : (o : Option ℕ) → firstBad s ≡ o → Nowhere ≡ badOf (firstBad s)
+  all-good (some at) e = let x : _≡_ {A = ℕ} 2 0 = number-0 (bad-byte s room short at (rw e)) in absurd (omega arith)
+  all-good none e = rw e
+
+  no-wrong : (o : Option Wrong) → firstWrong (items s) ≡ o → firstWrong (items s) ≡ none
+  no-wrong (some w) e =
+      let x : _≡_ {A = ℕ} 3 0 = number-0 (wrong-one s room short (all-good (firstBad s) refl) w e) in absurd (omega arith)
+  no-wrong none e = e
+
+  in-room : length (tokens s) ≤ room
+  in-room =
+      elim (decLe (length (tokens s)) room) [
+        | yes h ↦ h
+        | no h ↦
+            let x : _≡_ {A = ℕ} 4 0 = number-0 (full s room short (all-good (firstBad s) refl) (no-wrong (firstWrong (items s)) refl) (length (tokens s)) refl (omega arith)) in
+            absurd (omega arith)
+      ]
+
+  all-lexed : lexAnswer s room ≡ lexed (verdict 0 0 0) (length (tokens s))
+  all-lexed = fits s room short (all-good (firstBad s) refl) (no-wrong (firstWrong (items s)) refl) (length (tokens s)) refl in-room
+
+module _ {s : List ℕ} {t : ℕ} {q : Lexed} {a : List ℕ} (o : LexSource s t q a) where
+  number-is : q .verdict .number ≡ lexAnswer s (t / 7) .verdict .number
+  number-is = ap (λ (x : Lexed). x .verdict .number) (o .answer)
+
+  module _ (z : q .verdict .number ≡ 0) where
+    answered : lexAnswer s (t / 7) ≡ lexed (verdict 0 0 0) (length (tokens s))
+    answered = all-lexed s (t / 7) (sym number-is ∙ z)
+
+    counted-is : q .count ≡ length (tokens s)
+    counted-is = ap (λ (x : Lexed). x .count) (o .answer) ∙ ap (λ (x : numbers.Lexed). x .count) answered
+
+    table-is : a ≡ tabled tokenRow 7 t (tokens s)
+    unfolding lexTable
+    table-is = o .table ∙ rw answered
+
+    long-is : length a ≡ t
+    long-is = ap length table-is ∙ length-tabled tokenRow 7 t (tokens s)
+
+    pub lexes : Lexes s a (q .count)
+    lexes =
+        record {
+          answer = rw (long-is, counted-is) answered;
+          counted = counted-is;
+          table = tabled-own tokenRow 7 t (length a) (tokens s) table-is refl;
+        }
+
+    pub bounds : (1 ≤ q .count) × (7 * q .count ≤ length a) × (q .count ≤ 65537)
+    bounds =
+        let z′ = sym number-is ∙ z in
+        let c = counted-is in
+        let l = long-is in
+        let r = in-room s (t / 7) z′ in
+        let m = short s (t / 7) z′ in
+        let f = few-tokens s in
+        let g = some-token s in
+        (omega arith, omega arith, omega arith)
+
+    -- the tables' lengths are those before lexing
+    pub as-before : {n k : ℕ} {r : ParseAnswer} {b c : List ℕ} → k ≡ n → ParseSource s (length a) k r b c → ParseSource s t n r b c
+    as-before e h = rw (long-is, e) at h
+
+-- a cleared table has no nodes
+pub no-nodes : {b : List ℕ} {n : ℕ} → b ≡ padTo n [] → Holds b [] × (length b ≡ n)
+no-nodes {b} {n} e = (record { rows = tabled-own nodeRow 5 n (length b) [] (e ∙ sym (tabled-none nodeRow 5 n)) refl }, ap length e ∙ length-pad n [])
+
+-- ---- refusals
+
+module _ (s : List ℕ) (t n : ℕ) where
+  gave-up : (v : numbers.Verdict) → parseAnswer s (t / 7) (n / 5) ≡ parsed v 0 0 → eqb (v .number) 0 ≡ false → {w : Verdict} → w ≡ verdictAs v
+      → {r : ParseAnswer} {a b : List ℕ} → GivesUp w t n r a b → ParseSource s t n r a b
+  unfolding parseTokens parseNodes
+  gave-up v e f d g =
+      record {
+        answer = g .answer ∙ rw (e, d);
+        tokens = g .tokens ∙ rw (e, f) (sym (tabled-none tokenRow 7 t));
+        nodes = g .nodes ∙ rw (e, f) (sym (tabled-none nodeRow 5 n));
+      }
+
+  -- lexing refused: its table is all zero already
+  pub not-lexed : {q : Lexed} {a b : List ℕ} {r : ParseAnswer} → LexSource s t q a → (q .verdict .number ≡ 0 → ⊥) → r ≡ refusal (q .verdict)
+      → b ≡ padTo n [] → ParseSource s t n r a b
+  unfolding parseAnswer lexTable
+  not-lexed o z e c =
+      let f : eqb (lexAnswer s (t / 7) .verdict .number) 0 ≡ false = ne-eqb _ _ (λ x. z (number-is o ∙ x)) in
+      gave-up (lexAnswer s (t / 7) .verdict) (rw f) f (ap (λ (x : Lexed). x .verdict) (o .answer))
+      (record { answer = e; tokens = o .table ∙ rw f (tabled-none tokenRow 7 t); nodes = c })
+
+-- ---- tokens that were parsed
+
+module _ {r : Parsed} {t : List ℕ} where
+  all-refused : {o : Out (List Stmt)} {n k a : ℕ} → r ≡ Refused n k a → MetAll r t o → o ≡ sentences.no n k a
+  all-refused {o = ok ss at s} q h = let p = h .met .0 in let z : _≡_ {A = ℕ} 0 1 = cc in absurd (omega arith)
+  all-refused {o = sentences.no m j b} q h = let p = h .met in cc
+
+  all-done : {o : Out (List Stmt)} {next n x : ℕ} → r ≡ Done next n x → MetAll r t o
+      → (ss : List Stmt) × (y : ℕ) × (o ≡ ok ss next y) × (length (nodes ss) ≡ n) × Holds t (nodes ss)
+  all-done {o = ok ss at y} q h = let p = h .met .0 in (ss, y, (cc), (cc), h .met .1)
+  all-done {o = sentences.no m k a} q h = let p = h .met in let z : _≡_ {A = ℕ} 0 1 = cc in absurd (omega arith)
+
+module _ {s toks : List ℕ} {count : ℕ} (l : Lexes s toks count) where
+  -- what the parser reads of them
+  pub rep-of : 7 * count ≤ length toks → Rep (take (7 * count) toks) (contents (tokens s))
+  rep-of h = part-rep (tokens s) (length toks) (l .table) (l .counted) (omega (arith, l .counted))
+
+  answer-is : (n : ℕ) {o : Out (List Stmt)} → program (contents (tokens s)) ≡ o → parseAnswer s (length toks / 7) n ≡ numbers.parsedAs s n count o
+  unfolding parseAnswer
+  answer-is n e = rw (l .answer, e)
+
+  accepted-as : (n : ℕ) {ss : List Stmt} {next k y : ℕ} {b : List ℕ} {w : Verdict} {r : ParseAnswer}
+      → program (contents (tokens s)) ≡ ok ss next y → length (nodes ss) ≡ k → k ≤ n / 5 → b ≡ tabled nodeRow 5 n (nodes ss)
+      → w ≡ verdictAs (verdict 0 0 0) → r ≡ record { verdict = w; tokens = count; nodes = k } → ParseSource s (length toks) n r toks b
+  unfolding parseTokens parseNodes
+  accepted-as n {k = k} e c h u d f =
+      let a : parseAnswer s (length toks / 7) (n / 5) ≡ parsed (verdict 0 0 0) count k = answer-is (n / 5) e ∙ rw (c, le-ltb _ _ h) in
+      record {
+        answer = f ∙ rw (a, d);
+        tokens = l .table ∙ rw a;
+        nodes = u ∙ rw (a, e);
+      }
+
+  module _ {n : ℕ} {p : Parsed} {b : List ℕ} (m : MetAll p b (program (contents (tokens s)))) (u : length b ≡ n) where
+    -- 5 or 7, at a token
+    pub at-place : {number kind at : ℕ} {w : Verdict} {r : ParseAnswer} {x y : List ℕ} → 7 * count ≤ length toks → p ≡ Refused number kind at
+        → w ≡ verdictAt toks count number kind at → GivesUp w (length toks) (length b) r x y → ParseSource s (length toks) n r x y
+    at-place {number} {kind} {at} h q d g =
+        let e = all-refused q m in
+        let c = refused-number (contents (tokens s)) e in
+        gave-up s (length toks) n (record { number = number; kind = kind; line = tokenPlace s at .line; column = tokenPlace s at .column; character = 0 })
+        (answer-is (n / 5) e) (ne-eqb _ _ (λ (x : number ≡ 0). omega arith))
+        (d ∙ place-at s (length toks) number kind (omega (arith, l .counted)) at (l .table) (l .counted)) (rw u at g)
+
+    module _ {next k x : ℕ} (q : p ≡ Done next k x) where
+      -- 6
+      pub too-many : {w : Verdict} {r : ParseAnswer} {y z : List ℕ} → n / 5 < k → w ≡ verdictAs (verdict 6 0 0)
+          → GivesUp w (length toks) (length b) r y z → ParseSource s (length toks) n r y z
+      too-many h d g =
+          let e = all-done q m in
+          gave-up s (length toks) n (verdict 6 0 0) (answer-is (n / 5) (e .2) ∙ rw (e .3, lt-ltb _ _ h)) refl d (rw u at g)
+
+      -- done
+      pub accepted : {w : Verdict} {r : ParseAnswer} → k ≤ n / 5 → w ≡ verdictAs (verdict 0 0 0)
+          → r ≡ record { verdict = w; tokens = count; nodes = k } → ParseSource s (length toks) n r toks b
+      accepted h d f =
+          let e = all-done q m in
+          accepted-as n (e .2) (e .3) h (tabled-own nodeRow 5 (length b) n (nodes (e .0)) (e .4 .rows) u) d f
+
+-- ---- the claim
+
+pub parse-determined : ParseDetermined
+parse-determined source t n r q a b x y f g = (f .answer ∙ sym (g .answer), f .tokens ∙ sym (g .tokens), f .nodes ∙ sym (g .nodes))

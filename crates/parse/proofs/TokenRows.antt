@@ -1,0 +1,108 @@
+-- The table of a source's tokens: what its rows say of their contents and their places, and how many there are.
+use mathlib.Core.Path.{_≡_, refl, sym, ap, _∙_}
+use mathlib.Core.List.{List, [], _∷_, _++_, List·Memᴰ, List·Memᴰ·head, List·Memᴰ·tail}
+use mathlib.Core.Option.{none}
+use Prim.Native.Nat.{ℕ, suc, _+_, _-_, _*_, _/_, _≤_, _<_}
+use native.Mathlib.Omega.{arith}
+use native.Mathlib.Decide.{decLe}
+use borrow.Author.Tests.{lt-ltb, le-ltb}
+use lib.ListN.{length, getD, take, length-append, List·getD-eq-default}
+use lib.Seq.{length-take-le, getD-at}
+use Rattle.table.specs.Table.{tabled}
+use Rattle.table.proofs.Laws.{tabled-word, tabled-rows}
+use Rattle.language.specs.Tables.{tokenRow}
+use Rattle.language.specs.Tokens.{Token, contents, items, tokensFrom, eofToken, tokens, Ordered, ordered-one}
+use Rattle.language.specs.Numbers.{tokenPlace}
+use Rattle.language.proofs.TokenClaims.{places-right, tokens-in-order}
+use Rattle.scan.specs.declared.Verdict.{Verdict}
+use Rattle.parse.specs.Parsing.{Rep, rowVerdict, verdictAt}
+use Rattle.parse.proofs.Rows.{represented}
+
+-- ---- how many there are
+
+first-of : {at : ℕ} {t : Token} {ts : List Token} → Ordered at (t ∷ ts) → (at ≤ t .start) × Ordered (t .end) ts
+first-of (ordered-one t p q o) = (p, o)
+
+-- tokens in order, each with a byte of n at least
+few-from : (n : ℕ) {at : ℕ} (ts us : List Token) → Ordered at (ts ++ us)
+    → ((t : Token) → List·Memᴰ t ts → (t .start < t .end) × (t .end ≤ n)) → at ≤ n → at + length ts ≤ n
+few-from n [] us o each h = omega arith
+few-from n (t ∷ ts) us o each h =
+    let i = first-of o in
+    let g = each t (List·Memᴰ·head refl) in
+    let r = few-from n ts us (i .1) (λ u m. each u (List·Memᴰ·tail m)) (g .1) in
+    omega (arith, i .0, g .0, r)
+
+module _ (s : List ℕ) where
+  front : List Token
+  front = tokensFrom none (items s)
+
+  -- `Eof` after the others
+  long-tokens : length (tokens s) ≡ length front + 1
+  unfolding tokens front
+  long-tokens = length-append front (eofToken s ∷ [])
+
+  pub some-token : 1 ≤ length (tokens s)
+  some-token = omega (arith, long-tokens)
+
+  pub few-tokens : length (tokens s) ≤ length s + 1
+  unfolding tokens front
+  few-tokens =
+      let each : (t : Token) → List·Memᴰ t front → (t .start < t .end) × (t .end ≤ length s) = λ t m. (places-right s t m .2, places-right s t m .3) in
+      omega (arith, long-tokens, few-from (length s) front (eofToken s ∷ []) (tokens-in-order s) each (omega arith))
+
+  last-token : getD (tokens s) (length (tokens s) - 1) (eofToken s) ≡ eofToken s
+  unfolding tokens front
+  last-token = getD-at front (eofToken s) [] (eofToken s) (length (tokens s) - 1) (omega (arith, long-tokens))
+
+-- a part with no more rows than there can be tokens
+pub short-part : (toks : List ℕ) (count : ℕ) → 7 * count ≤ length toks → count ≤ 65537 → length (take (7 * count) toks) ≤ 458759
+short-part toks count h l = omega (arith, length-take-le (7 * count) toks h)
+
+-- ---- contents
+
+row-width : (t : Token) → length (tokenRow t) ≡ 7
+unfolding tokenRow
+row-width t = refl
+
+-- the part of a table that the rows take
+pub part-rep : (ts : List Token) (n : ℕ) {toks : List ℕ} {count : ℕ} → toks ≡ tabled tokenRow 7 n ts → count ≡ length ts → length ts ≤ n / 7
+    → Rep (take (7 * count) toks) (contents ts)
+part-rep ts n e c h = rw (e, c, tabled-rows tokenRow 7 row-width n ts h) (represented ts)
+
+-- ---- places
+
+module _ (toks : List ℕ) (count number kind at : ℕ) where
+  pub near : at < count → rowVerdict toks number kind at ≡ verdictAt toks count number kind at
+  unfolding verdictAt
+  near h = rw (lt-ltb _ _ h)
+
+  pub far : count ≤ at → rowVerdict toks number kind (count - 1) ≡ verdictAt toks count number kind at
+  unfolding verdictAt
+  far h = rw (le-ltb _ _ h)
+
+abbrev spot : ℕ → ℕ → ℕ → ℕ → Verdict
+spot number kind line column = record { number = number; kind = kind; line = line; column = column; character = 0 }
+
+module _ (s : List ℕ) (n number kind : ℕ) (h : length (tokens s) ≤ n / 7) where
+  row-place : (i : ℕ) → i < length (tokens s)
+      → rowVerdict (tabled tokenRow 7 n (tokens s)) number kind i
+      ≡ spot number kind (getD (tokens s) i (eofToken s) .line) (getD (tokens s) i (eofToken s) .column)
+  unfolding tokenRow
+  row-place i l =
+      let line = tabled-word tokenRow 7 row-width n (tokens s) h i 1 l (omega arith) (eofToken s) in
+      let column = tabled-word tokenRow 7 row-width n (tokens s) h i 2 l (omega arith) (eofToken s) in
+      rw (line, column)
+
+  -- the place of a token, past the end that of `Eof`
+  pub place-at : {toks : List ℕ} {count : ℕ} (at : ℕ) → toks ≡ tabled tokenRow 7 n (tokens s) → count ≡ length (tokens s)
+      → verdictAt toks count number kind at ≡ spot number kind (tokenPlace s at .line) (tokenPlace s at .column)
+  place-at at e c =
+      elim (decLe (suc at) (length (tokens s))) [
+        | yes l ↦ rw (e, c) (sym (near (tabled tokenRow 7 n (tokens s)) (length (tokens s)) number kind at l) ∙ row-place at l)
+        | no l ↦
+            let past : length (tokens s) ≤ at = omega arith in
+            let same = last-token s ∙ sym (List·getD-eq-default (tokens s) (eofToken s) past) in
+            rw (e, c) (sym (far (tabled tokenRow 7 n (tokens s)) (length (tokens s)) number kind at past)
+            ∙ row-place (length (tokens s) - 1) (omega (arith, some-token s)) ∙ ap (λ (t : Token). spot number kind (t .line) (t .column)) same)
+      ]
