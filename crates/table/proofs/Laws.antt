@@ -1,13 +1,14 @@
--- What holds of tables: a table keeps its length, a row stored at the count is one row more, all is zero before the first.
+-- What holds of tables: a table keeps its length, a row stored at the count is one row more, all is zero before the first,
+-- and the words read back are those of the rows.
 use mathlib.Core.Path.{_≡_, refl, sym, ap, _∙_}
 use mathlib.Core.List.{List, [], _∷_, _++_, append-assoc, append-nil}
 use Prim.Native.Nat.{ℕ, zero, suc, _+_, _*_, _/_, _≤_, _<_}
-use native.Mathlib.Nat.{le-div-iff-mul-le, div-lt-iff-lt-mul, suc-mul}
+use native.Mathlib.Nat.{le-trans, le-div-iff-mul-le, div-lt-iff-lt-mul, div-mul-le-self, mul-comm, mul-suc, mul-le-mul-right, suc-mul}
 use native.Mathlib.Omega.{arith}
 use native.Mathlib.Decide.{decLe}
 use borrow.Author.Tests.{le-leb, lt-leb}
-use lib.ListN.{length, set, take, drop, replicate, length-append, take-append-drop}
-use lib.Seq.{sets, length-sets, take-all, take-append-le, take-nil, drop-length}
+use lib.ListN.{length, getD, set, take, drop, replicate, length-append, take-append-drop, List·getD-append, List·getD-eq-default}
+use lib.Seq.{sets, length-sets, take-all, take-append-le, take-nil, drop-length, getD-append-add}
 use Rattle.table.specs.Table.{padTo, flat, tabled, putRow}
 
 -- ---- padding
@@ -32,6 +33,23 @@ pad-split n (x ∷ xs) = let e : suc (length xs) + n ≡ suc (length xs + n) = o
 -- a list's own length is the one that it is padded to
 pub pad-own : {t : List ℕ} (k n : ℕ) (xs : List ℕ) → t ≡ padTo k xs → length t ≡ n → t ≡ padTo n xs
 pad-own k n xs e l = e ∙ ap (λ (m : ℕ). padTo m xs) (sym (length-pad k xs) ∙ sym (ap length e) ∙ l)
+
+-- what is read back, also past the end
+pub pad-word : (n : ℕ) (xs : List ℕ) (i : ℕ) → length xs ≤ n → getD (padTo n xs) i 0 ≡ getD xs i 0
+unfolding padTo
+pad-word zero [] i h = refl
+pad-word zero (x ∷ xs) i h = absurd (omega arith)
+pad-word (suc n) [] zero h = refl
+pad-word (suc n) [] (suc i) h = pad-word n [] i (omega arith)
+pad-word (suc n) (x ∷ xs) zero h = refl
+pad-word (suc n) (x ∷ xs) (suc i) h = pad-word n xs i (omega arith)
+
+-- what is there is kept where it fits
+pub pad-prefix : (n : ℕ) (xs : List ℕ) → length xs ≤ n → take (length xs) (padTo n xs) ≡ xs
+unfolding padTo
+pad-prefix n [] h = refl
+pad-prefix zero (x ∷ xs) h = absurd (omega arith)
+pad-prefix (suc n) (x ∷ xs) h = ap (λ (l : List ℕ). x ∷ l) (pad-prefix n xs (omega arith))
 
 -- a store after what is there, also where that is past the end
 pub put-end : (n : ℕ) (xs : List ℕ) (a : ℕ) → set (padTo n xs) (length xs) a ≡ padTo n (xs ++ a ∷ [])
@@ -110,3 +128,36 @@ module _ {A : Type 0} (row : A → List ℕ) where
               put-full (tabled row width n xs) (length xs) width (row x) (each x) (omega arith)
               ∙ rw (take-append-le (n / width) xs (x ∷ []) full)
         ]
+
+    -- the words of the row numbered i, one after the other
+    flat-word : (xs : List A) (i j : ℕ) → i < length xs → j < width → (d : A) → getD (flat row xs) (width * i + j) 0 ≡ getD (row (getD xs i d)) j 0
+    flat-word [] i j h l d = absurd (omega arith)
+    flat-word (x ∷ xs) zero j h l d =
+        let e : width * 0 + j ≡ j = omega arith in
+        rw e (List·getD-append (row x) (flat row xs) 0 j (omega (arith, each x)))
+    flat-word (x ∷ xs) (suc i) j h l d =
+        let e : width * suc i + j ≡ length (row x) + (width * i + j) = omega (arith, each x, mul-suc width i) in
+        rw (e, getD-append-add) (flat-word xs i j (omega arith) l d)
+
+    -- as many rows as fit are as many words as fit
+    flat-fits : (n : ℕ) (xs : List A) → length xs ≤ n / width → length (flat row xs) ≤ n
+    flat-fits n xs h = rw length-flat (le-trans (mul-le-mul-right width h) (div-mul-le-self n width))
+
+    -- a word of a row, read back
+    pub tabled-word : (n : ℕ) (xs : List A) → length xs ≤ n / width → (i j : ℕ) → i < length xs → j < width → (d : A)
+        → getD (tabled row width n xs) (width * i + j) 0 ≡ getD (row (getD xs i d)) j 0
+    tabled-word n xs h i j a b d =
+        rw (tabled-all width n xs h, pad-word n (flat row xs) (width * i + j) (flat-fits n xs h)) (flat-word xs i j a b d)
+
+    -- past the last row all is zero
+    pub tabled-past : (n : ℕ) (xs : List A) → length xs ≤ n / width → (i j : ℕ) → length xs ≤ i
+        → getD (tabled row width n xs) (width * i + j) 0 ≡ 0
+    tabled-past n xs h i j a =
+        let past : length xs * width ≤ i * width = mul-le-mul-right width a in
+        let under : length (flat row xs) ≤ width * i + j = omega (arith, length-flat xs, mul-comm i width) in
+        rw (tabled-all width n xs h, pad-word n (flat row xs) (width * i + j) (flat-fits n xs h)) (List·getD-eq-default (flat row xs) 0 under)
+
+    -- the part of a table that the rows take holds just them
+    pub tabled-rows : (n : ℕ) (xs : List A) → length xs ≤ n / width → take (width * length xs) (tabled row width n xs) ≡ flat row xs
+    tabled-rows n xs h =
+        rw (tabled-all width n xs h, mul-comm, ← length-flat xs) (pad-prefix n (flat row xs) (flat-fits n xs h))
