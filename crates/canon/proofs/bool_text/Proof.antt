@@ -1,0 +1,43 @@
+use borrow.Author.Needs.{needs}
+use Rattle.canon.proofs.bool_text.Statement.{statement}
+use Rattle.canon.proofs.bool_text.Tie as tie
+use Rattle.canon.proofs.bool_text.Reads as reads
+use Rattle.canon.proofs.bool_text.Lts as lts
+use Rattle.canon.proofs.copy.Reads as copy-reads
+
+slice-aggregate-copy : tie.Need-slice-aggregate-copy
+slice-aggregate-copy c = search needs
+
+copy-requires : tie.Need-copy-requires
+copy-requires c κs = search needs
+
+same-length : tie.Need-same-length
+same-length c = search needs
+
+returns : tie.Need-returns
+returns c = ?
+
+slice-aggregate-copy-2 : tie.Need-slice-aggregate-copy-2
+slice-aggregate-copy-2 c = search needs
+
+copy-requires-2 : tie.Need-copy-requires-2
+copy-requires-2 c κs = search needs
+
+same-length-2 : tie.Need-same-length-2
+same-length-2 c = search needs
+
+returns-2 : tie.Need-returns-2
+returns-2 c = ?
+
+pub bool-text-spec : {M : Type 1} → statement M
+bool-text-spec =
+    tie.close
+    (tie.spec
+    slice-aggregate-copy
+    copy-requires
+    same-length
+    returns
+    slice-aggregate-copy-2
+    copy-requires-2
+    same-length-2
+    returns-2)

@@ -1,0 +1,40 @@
+use borrow.Author.Needs.{needs}
+use Rattle.canon.proofs.literal_text.Statement.{statement}
+use Rattle.canon.proofs.literal_text.Tie as tie
+use Rattle.canon.proofs.literal_text.Reads as reads
+use Rattle.canon.proofs.literal_text.Lts as lts
+use Rattle.canon.proofs.put.Reads as put-reads
+use Rattle.canon.proofs.quoted_text.Reads as quoted-text-reads
+
+quoted-text-requires : tie.Need-quoted-text-requires
+quoted-text-requires c κs = search needs
+
+same-length : tie.Need-same-length
+same-length c = search needs
+
+returns : tie.Need-returns
+returns c = ?
+
+put-requires : tie.Need-put-requires
+put-requires c κs = search needs
+
+quoted-text-requires-2 : tie.Need-quoted-text-requires-2
+quoted-text-requires-2 c κs = search needs
+
+same-length-2 : tie.Need-same-length-2
+same-length-2 c = search needs
+
+returns-2 : tie.Need-returns-2
+returns-2 c = ?
+
+pub literal-text-spec : {M : Type 1} → statement M
+literal-text-spec =
+    tie.close
+    (tie.spec
+    quoted-text-requires
+    same-length
+    returns
+    put-requires
+    quoted-text-requires-2
+    same-length-2
+    returns-2)

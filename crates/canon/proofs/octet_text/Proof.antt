@@ -1,0 +1,18 @@
+use borrow.Author.Needs.{needs}
+use Rattle.canon.proofs.octet_text.Statement.{statement}
+use Rattle.canon.proofs.octet_text.Tie as tie
+use Rattle.canon.proofs.octet_text.Reads as reads
+use Rattle.canon.proofs.octet_text.Lts as lts
+use Rattle.canon.proofs.decimal_text.Reads as decimal-text-reads
+
+decimal-text-requires : tie.Need-decimal-text-requires
+decimal-text-requires c κs = search needs
+
+same-length : tie.Need-same-length
+same-length c = search needs
+
+returns : tie.Need-returns
+returns c = ?
+
+pub octet-text-spec : {M : Type 1} → statement M
+octet-text-spec = tie.close (tie.spec decimal-text-requires same-length returns)

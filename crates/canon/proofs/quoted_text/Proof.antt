@@ -1,0 +1,26 @@
+use borrow.Author.Needs.{needs}
+use Rattle.canon.proofs.quoted_text.Statement.{statement}
+use Rattle.canon.proofs.quoted_text.Tie as tie
+use Rattle.canon.proofs.quoted_text.Reads as reads
+use Rattle.canon.proofs.quoted_text.Lts as lts
+use Rattle.canon.proofs.copy.Reads as copy-reads
+use Rattle.canon.proofs.put.Reads as put-reads
+
+put-requires : tie.Need-put-requires
+put-requires c κs = search needs
+
+copy-requires : tie.Need-copy-requires
+copy-requires c κs = search needs
+
+put-requires-2 : tie.Need-put-requires-2
+put-requires-2 c κs = search needs
+
+same-length : tie.Need-same-length
+same-length c = search needs
+
+returns : tie.Need-returns
+returns c = ?
+
+pub quoted-text-spec : {M : Type 1} → statement M
+quoted-text-spec =
+    tie.close (tie.spec put-requires copy-requires put-requires-2 same-length returns)
