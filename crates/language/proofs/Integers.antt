@@ -25,7 +25,7 @@ module _ (base : ℕ) where
 
 module _ (base : ℕ) (two : 1 < base) where
   -- what a number divided by the base has is a place fewer
-  fewer : (k n : ℕ) → n < base ^ suc k → n / base < base ^ k
+  pub fewer : (k n : ℕ) → n < base ^ suc k → n / base < base ^ k
   fewer k n h = div-lt-iff-lt-mul {k = base} {x = n} {y = base ^ k} (omega arith) .1 (rw pow-suc at h)
 
   -- what holds of one digit, and of a digit more, holds of the digits of every number that has room

@@ -87,3 +87,8 @@ pub divided :
     → (hi / 10 * word + (p1 / 10 * quarter + p0 / 10) ≡ (hi * word + lo) / 10) × (p0 % 10 ≡ (hi * word + lo) % 10)
 divided hi lo p1 p0 a b =
     quotient (hi * word + lo) (hi / 10 * word + (p1 / 10 * quarter + p0 / 10)) (p0 % 10) (omega arith) (omega arith)
+
+-- ---- a sixteenth
+
+pub lower-fits : (hi lo : ℕ) → lo < word → hi % 16 * 0x1000000000000000 + lo / 16 < word
+lower-fits hi lo h = omega arith

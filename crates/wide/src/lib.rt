@@ -4,7 +4,8 @@ ghost use Prim.Native.Nat.{_-_, _/_, _%_, _<_};
 ghost use mathlib.Core.List.{_++_};
 ghost use lib.Dec.{eqb};
 ghost use lib.ListN.{length, replicate};
-ghost use Rattle.language.specs.Integers.{smallest, low16, isTruncated, decimal, ascii};
+ghost use Rattle.language.specs.Integers.{smallest, low16, isTruncated, decimal, hexadecimal, ascii};
+ghost use Rattle.language.specs.Canonical.{spellDigit, spellDigits};
 ghost use Rattle.wide.specs.Wide.{valueOf, scaled, sizeOf};
 
 pub struct Wide {
@@ -34,7 +35,7 @@ pub struct Low16 {
     pub changed: bool,
 }
 
-// A tenth of a number, and the digit that is left.
+// A number divided by a base, and the digit that is left.
 struct Quotient {
     rest: Wide,
     digit: u64,
@@ -43,6 +44,9 @@ struct Quotient {
 impl Wide {
     // How many decimal digits a number has at the most.
     pub const MOST_DIGITS: usize = 39;
+
+    // How many hexadecimal digits a number has at the most.
+    pub const MOST_HEX_DIGITS: usize = 32;
 
     pub fn zero() -> Wide
         ensures { λ r. ⌜ valueOf r ≡ 0 ⌝ }
@@ -157,6 +161,22 @@ impl Wide {
         }
     }
 
+    // The lowest four bits of the upper word go to the lower.
+    fn div16(self) -> Quotient
+        ensures { λ r. ⌜ (valueOf (r .rest) ≡ valueOf self / 16) × (r .digit ≡ valueOf self % 16) ⌝ }
+    {
+        let hi = self.hi;
+        let lo = self.lo;
+        let rest = Wide {
+            hi: hi / 16,
+            lo: (hi % 16) * 1152921504606846976 + lo / 16,
+        };
+        Quotient {
+            rest,
+            digit: lo % 16,
+        }
+    }
+
     fn is_zero(self) -> bool
         ensures { λ r. ⌜ r ≡ eqb (valueOf self) 0 ⌝ }
     {
@@ -182,4 +202,34 @@ impl Wide {
             }
         }
     }
+
+    // The hexadecimal digits, in lower case, as `decimal` writes its digits.
+    pub fn hexadecimal(self, text: &mut [u8; 32]) -> usize
+        ensures { λ r. ⌜ r ≡ 32 - length (hexadecimal (valueOf self)) ⌝ }
+        ensures { λ r. ⌜ now (text .exit) ≡ replicate r 0 ++ spellDigits (hexadecimal (valueOf self)) ⌝ }
+    {
+        *text = [0u8; 32];
+        let mut rest = self;
+        let mut at = Wide::MOST_HEX_DIGITS;
+        loop {
+            let q = rest.div16();
+            at -= 1;
+            text[at] = spell_digit(q.digit);
+            rest = q.rest;
+            if rest.is_zero() {
+                return at;
+            }
+        }
+    }
+}
+
+// A digit below 16 as ASCII.
+fn spell_digit(d: u64) -> u8
+    requires { ⌜ d < 16 ⌝ }
+    ensures { λ r. ⌜ r ≡ spellDigit d ⌝ }
+{
+    if d < 10 {
+        return ((48 + d) % 256) as u8;
+    }
+    ((87 + d) % 256) as u8
 }

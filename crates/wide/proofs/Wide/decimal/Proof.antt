@@ -3,19 +3,20 @@
 use mathlib.Core.Path.{refl}
 use native.Mathlib.Omega.{arith}
 use borrow.Author.Needs.{needs}
+use Rattle.language.specs.Integers.{decimal, ascii}
 use Rattle.wide.specs.Wide.{valueOf}
-use Rattle.wide.proofs.Digits.{Written, digit-fits, start, again, finished}
+use Rattle.wide.proofs.Digits.{Written, decimal-start, decimal-byte, digit-fits, again, finished}
 use Rattle.wide.proofs.Wide.decimal.Statement.{statement}
 use Rattle.wide.proofs.Wide.decimal.Tie as tie
 
 abbrev Inv-loop : tie.InvT-loop
-Inv-loop text₀ rest₀ at₀ text rest at = Written (valueOf rest₀) text (valueOf rest) at
+Inv-loop text₀ rest₀ at₀ text rest at = Written 10 39 ascii (decimal (valueOf rest₀)) text (valueOf rest) at
 
 abbrev μ-loop : tie.MeasureT-loop
 μ-loop text₀ rest₀ at₀ text rest at = at
 
 loop-holds : tie.Need-loop-holds Inv-loop μ-loop
-loop-holds c = start _ _ (search needs) (search needs)
+loop-holds c = decimal-start _ _ (search needs) (search needs)
 
 div10-requires : tie.Need-div10-requires Inv-loop μ-loop
 div10-requires c κs = search needs
@@ -37,14 +38,16 @@ is-zero-requires c κs = search needs
 
 returns : tie.Need-returns Inv-loop μ-loop
 returns c =
-    finished (c .before .before .before .before .before .loop .inv) refl (c .before .before .before .before .div10 .ensures) (c .before .is-zero .ensures) (c .if1 .taken)
+    finished (omega arith) (c .before .before .before .before .before .loop .inv) refl (c .before .before .before .before .div10 .ensures)
+    (decimal-byte _ _ (c .before .before .before .before .div10 .ensures .1)) (c .before .is-zero .ensures) (c .if1 .taken)
 
 loop-less : tie.Need-loop-less Inv-loop μ-loop
 loop-less c = search needs
 
 loop-again : tie.Need-loop-again Inv-loop μ-loop
 loop-again c =
-    again (c .before .before .before .before .before .loop .inv) refl (c .before .before .before .before .div10 .ensures) (c .before .is-zero .ensures) (c .if1 .left)
+    again (omega arith) (c .before .before .before .before .before .loop .inv) refl (c .before .before .before .before .div10 .ensures)
+    (decimal-byte _ _ (c .before .before .before .before .div10 .ensures .1)) (c .before .is-zero .ensures) (c .if1 .left)
 
 pub decimal-spec : {M : Type 1} → statement M
 decimal-spec =
