@@ -17,9 +17,9 @@ module _ (k : ℕ) where
   last-mark (((((((u, a), b), c), d), e), f), g) =
       rw (ne-eqb k 2 a, ne-eqb k 3 b, ne-eqb k 4 c, ne-eqb k 6 d, ne-eqb k 7 e, ne-eqb k 8 f, ne-eqb k 9 g)
 
-  pub only-mark : (low : ℕ) → NoneOf (14 ∷ 12 ∷ 11 ∷ 5 ∷ []) k → markOf k ∷ [] ≡ fixedText k low
+  pub only-mark : (low : ℕ) → NoneOf (14 ∷ 12 ∷ 11 ∷ 5 ∷ []) k → {b : ℕ} → b ≡ markOf k → b ∷ [] ≡ fixedText k low
   unfolding fixedText
-  only-mark low ((((u, a), b), c), d) = rw (ne-eqb k 5 a, ne-eqb k 11 b, ne-eqb k 12 c, ne-eqb k 14 d)
+  only-mark low ((((u, a), b), c), d) e = rw (e, ne-eqb k 5 a, ne-eqb k 11 b, ne-eqb k 12 c, ne-eqb k 14 d)
 
   pub only-fixed : (low high : ℕ) (bytes : List ℕ) → NoneOf (18 ∷ 17 ∷ 16 ∷ 15 ∷ 13 ∷ []) k → fixedText k low ≡ kindText k low high bytes
   unfolding kindText

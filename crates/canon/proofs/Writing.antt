@@ -4,11 +4,12 @@ use mathlib.Core.Path.{_≡_, refl, sym, ap, _∙_}
 use mathlib.Core.List.{List, [], _∷_, _++_, append-assoc, append-nil}
 use native.Mathlib.Numerals.{add-one}
 use native.Mathlib.Omega.{arith}
-use lib.ListN.{length, getD, set, take, drop, length-set, length-append, length-drop, replicate, length-replicate}
-use lib.Seq.{take-suc, take-all, drop-at, getD-drop, length-take-le}
+use lib.ListN.{length, getD, set, take, drop, length-set, length-append, length-drop}
+use lib.Seq.{take-suc, take-length, getD-drop}
 use Rattle.table.specs.Table.{padTo}
 use Rattle.table.proofs.Laws.{put-end}
 use Rattle.language.specs.Tokens.{between}
+use Rattle.language.specs.Canonical.{quoted}
 use Rattle.canon.specs.Writing.{Writes}
 
 -- ---- none, and one
@@ -71,11 +72,22 @@ module _ (s t : List ℕ) (from at : ℕ) where
         writes = rw (n, take-suc (drop from s) (i - from) 0 d, g) (c .writes then one u end (getD s i 0) v e);
       }
 
--- a run of bytes at the end of a buffer
-pub tail-is : (b xs : List ℕ) (n r : ℕ) → length xs ≤ n → r ≡ n - length xs → b ≡ replicate r 0 ++ xs → between b r n ≡ xs
-tail-is b xs n r h e d = rw (d, drop-at (replicate r 0) xs r (length-replicate r 0)) (take-all (n - r) xs (omega arith))
-
 -- all of them
 pub copied : (s t : List ℕ) (from at : ℕ) {i to : ℕ} {u : List ℕ} {end : ℕ} → Copying s t from at i u end → i ≡ to
     → Writes t at (between s from to) end u × (end ≤ at + (to - from))
 copied s t from at c e = (rw (← e) (c .writes), omega (arith, c .place))
+
+-- ---- bytes in between
+
+-- a body in quotes
+pub quotes : (s : List ℕ) {t u v w : List ℕ} {at a b c : ℕ} → Writes t at (34 ∷ []) a u → Writes u a (between s 0 (length s)) b v → Writes v b (34 ∷ []) c w
+    → Writes t at (quoted s) c w
+quotes s x y z =
+    let e : between s 0 (length s) ≡ s = let n : length s - 0 ≡ length s = omega arith in rw n (take-length s) in
+    x then bytes-are s e y then z
+
+-- four numbers with dots between
+pub quad : {a b c d t t1 t2 t3 t4 t5 t6 t7 : List ℕ} {k k1 k2 k3 k4 k5 k6 k7 : ℕ}
+    → Writes t k a k1 t1 → Writes t1 k1 (46 ∷ []) k2 t2 → Writes t2 k2 b k3 t3 → Writes t3 k3 (46 ∷ []) k4 t4
+    → Writes t4 k4 c k5 t5 → Writes t5 k5 (46 ∷ []) k6 t6 → Writes t6 k6 d k7 t7 → Writes t k (a ++ 46 ∷ b ++ 46 ∷ c ++ 46 ∷ d) k7 t7
+quad u v w x y z o = bytes-are _ ? (u then v then w then x then y then z then o)

@@ -73,6 +73,19 @@ fn octet_text(n: u64, text: &mut [u8], at: usize) -> usize
     decimal_text(v, text, at)
 }
 
+// `0x` with lower case and no leading zeros.
+fn hex_text(v: Wide, text: &mut [u8], at: usize) -> usize
+    requires { ⌜ at ≤ 65536 ⌝ }
+    ensures { λ r. ⌜ Writes (now (text .entry)) at (48 ∷ 120 ∷ spellDigits (hexadecimal (valueOf v))) r (now (text .exit)) ⌝ }
+    ensures { λ r. ⌜ r ≤ at + 34 ⌝ }
+{
+    let mut digits = [0u8; 32];
+    let start = v.hexadecimal(&mut digits);
+    let a = put(48, text, at);
+    let b = put(120, text, a);
+    copy(&digits, start, 32, text, b)
+}
+
 // Four numbers with dots between.
 fn quad_text(address: u64, text: &mut [u8], at: usize) -> usize
     requires { ⌜ at ≤ 65536 ⌝ }
@@ -195,6 +208,7 @@ fn token_text(source: &[u8], toks: &[u64], row: usize, text: &mut [u8], at: usiz
         13 => copy(source, start, end, text, at),
         15 => quad_text(low, text, at),
         16 => literals(&source[start..end], text, at),
+        17 => hex_text(Wide { hi: high, lo: low }, text, at),
         18 => decimal_text(Wide { hi: high, lo: low }, text, at),
         _ => fixed_text(kind, low, text, at),
     }

@@ -1,3 +1,8 @@
+use mathlib.Core.Path.{ap, _∙_}
+use mathlib.Core.List.{List, [], _∷_}
+use Rattle.canon.specs.Writing.{fixedText}
+use Rattle.canon.proofs.Writing.{bytes-are}
+use Rattle.canon.proofs.Spelling.{only-mark}
 use borrow.Author.Needs.{needs}
 use Rattle.canon.proofs.fixed_text.Statement.{statement}
 use Rattle.canon.proofs.fixed_text.Tie as tie
@@ -39,31 +44,36 @@ same-length : tie.Need-same-length
 same-length c = search needs
 
 returns : tie.Need-returns
-returns c = ?
+unfolding fixedText
+returns c = (bytes-are _ (rw (c .before .before .before .before .before .match .keys1)) (c .before .before .copy .ensures .0), search needs)
 
 same-length-2 : tie.Need-same-length-2
 same-length-2 c = search needs
 
 returns-2 : tie.Need-returns-2
-returns-2 c = ?
+unfolding fixedText
+returns-2 c = (bytes-are _ (rw (c .before .before .before .before .before .match .keys2)) (c .before .before .copy2 .ensures .0), search needs)
 
 same-length-3 : tie.Need-same-length-3
 same-length-3 c = search needs
 
 returns-3 : tie.Need-returns-3
-returns-3 c = ?
+unfolding fixedText
+returns-3 c = (bytes-are _ (rw (c .before .before .before .before .before .match .keys3)) (c .before .before .copy3 .ensures .0), search needs)
 
 same-length-4 : tie.Need-same-length-4
 same-length-4 c = search needs
 
 returns-4 : tie.Need-returns-4
-returns-4 c = ?
+unfolding fixedText
+returns-4 c = (bytes-are _ (rw (c .before .before .before .before .match .keys4)) (c .before .before .bool-text .ensures .0), search needs)
 
 same-length-5 : tie.Need-same-length-5
 same-length-5 c = search needs
 
 returns-5 : tie.Need-returns-5
-returns-5 c = ?
+unfolding fixedText
+returns-5 c = (bytes-are _ (only-mark _ _ (c .before .before .before .before .before .match .rest) (c .before .before .before .before .mark .ensures)) (c .before .before .put .ensures .0), search needs)
 
 pub fixed-text-spec : {M : Type 1} → statement M
 fixed-text-spec =

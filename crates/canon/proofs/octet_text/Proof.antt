@@ -12,7 +12,7 @@ same-length : tie.Need-same-length
 same-length c = search needs
 
 returns : tie.Need-returns
-returns c = ?
+returns c = c .before .before .decimal-text .ensures
 
 pub octet-text-spec : {M : Type 1} → statement M
 octet-text-spec = tie.close (tie.spec decimal-text-requires same-length returns)
