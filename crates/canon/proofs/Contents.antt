@@ -1,6 +1,6 @@
 -- What a token's row stands for is the spelling of its content.
 use Prim.Native.Nat.{ℕ, suc, _+_, _*_, _/_, _%_, _<_}
-use mathlib.Core.Path.{_≡_, refl, sym, ap, _∙_}
+use mathlib.Core.Path.{_≡_, refl, subst}
 use mathlib.Core.Bool.{true, false}
 use mathlib.Core.List.{List, [], _∷_, _++_, map, List·Memᴰ, List·Memᴰ·not-nil, List·Memᴰ·cases-cons, List·Memᴰ·append-cases, List·Memᴰ·eq-of-singleton}
 use mathlib.Core.Logic.{_⊎_, inl, inr}
@@ -11,7 +11,7 @@ use lib.Dec.{eqb}
 use lib.ListN.{getD}
 use Rattle.language.specs.Lexemes.{Tok, lParen, rParen, dot, doubleColon, colon, semiColon, equals, comma, slash, importKeyword, letKeyword, identifier, booleanLiteral, ipv4Literal, hexLiteral, decLiteral, Kind, trivia, str, tok, error, Placed, scan}
 use Rattle.language.specs.Integers.{decimal, hexadecimal}
-use Rattle.language.specs.Tokens.{Content, eof, plain, name, string, Token, Line, contentOf, pieceOf, Item, items, itemOf, itemsFrom, lines, Pending, joined, flushed, itemToken, stepped, tokensFrom, between, bodiesIn}
+use Rattle.language.specs.Tokens.{Content, eof, plain, name, string, Token, Line, Piece, contentOf, pieceOf, Item, items, itemOf, itemsFrom, lines, Pending, joined, flushed, itemToken, stepped, tokensFrom, between, bodiesIn}
 use Rattle.language.specs.Tables.{word, tokKind, tokLow, tokHigh, contentKind, contentLow, contentHigh}
 use Rattle.language.specs.Canonical.{spellTok, spell, isSemi, endsLine, between′, after}
 use Rattle.language.proofs.TokenClaims.{places-right, names-held, bodies-held}
@@ -68,26 +68,23 @@ two-words n = div-add-mod' n word
 
 tok-text : (t : Tok) (bytes : List ℕ) → Spelt (plain t) → kindText (tokKind t) (tokLow t) (tokHigh t) bytes ≡ spellTok t
 unfolding kindText fixedText markOf spellTok
-tok-text t bytes h =
-    elim t [
-      | lParen ↦ λ h. refl
-      | rParen ↦ λ h. refl
-      | dot ↦ λ h. refl
-      | doubleColon ↦ λ h. refl
-      | colon ↦ λ h. refl
-      | semiColon ↦ λ h. refl
-      | equals ↦ λ h. refl
-      | comma ↦ λ h. refl
-      | slash ↦ λ h. refl
-      | importKeyword ↦ λ h. refl
-      | letKeyword ↦ λ h. refl
-      | identifier ↦ λ h. absurd (h refl)
-      | booleanLiteral b ↦ λ h. elim b [ true ↦ refl | false ↦ refl ]
-      | ipv4Literal n ↦ λ h. refl
-      | hexLiteral n ↦ λ h. rw (two-words n)
-      | decLiteral n ↦ λ h. rw (two-words n)
-    ]
-    h
+tok-text lParen bytes h = refl
+tok-text rParen bytes h = refl
+tok-text dot bytes h = refl
+tok-text doubleColon bytes h = refl
+tok-text colon bytes h = refl
+tok-text semiColon bytes h = refl
+tok-text equals bytes h = refl
+tok-text comma bytes h = refl
+tok-text slash bytes h = refl
+tok-text importKeyword bytes h = refl
+tok-text letKeyword bytes h = refl
+tok-text identifier bytes h = absurd (h refl)
+tok-text (booleanLiteral true) bytes h = refl
+tok-text (booleanLiteral false) bytes h = refl
+tok-text (ipv4Literal n) bytes h = refl
+tok-text (hexLiteral n) bytes h = rw (two-words n)
+tok-text (decLiteral n) bytes h = rw (two-words n)
 
 pub content-text : (c : Content) (bytes : List ℕ) → Spelt c → ((bs : List ℕ) → c ≡ name bs → bytes ≡ bs)
     → ((b : List ℕ) (bs : List (List ℕ)) → c ≡ string b bs → bodiesIn bytes ≡ b ∷ bs)
@@ -142,7 +139,8 @@ flushed-spelt (some q) t m = rw (List·Memᴰ·eq-of-singleton m) tt
 all-spelt : (p : Option Pending) (is : List Item) → Made is → (t : Token) → List·Memᴰ t (tokensFrom p is) → Spelt (t .content)
 unfolding tokensFrom
 all-spelt p [] w t m = flushed-spelt p t m
-all-spelt p (i ∷ is) ((k, bs, e), w) t m = go k (λ q n. all-spelt q is w t n) (rw e at m)
+all-spelt p (i ∷ is) ((k, bs, e), w) t m =
+    go k (λ q n. all-spelt q is w t n) (subst (λ (x : Piece). List·Memᴰ t (stepped x i p (λ q. tokensFrom q is))) e m)
   where
     go : (k : Kind) → ((q : Option Pending) → List·Memᴰ t (tokensFrom q is) → Spelt (t .content))
         → List·Memᴰ t (stepped (pieceOf k bs) i p (λ q. tokensFrom q is)) → Spelt (t .content)

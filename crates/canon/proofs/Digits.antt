@@ -48,3 +48,7 @@ module _ (hi lo : ℕ) (a : hi < word) (c : lo < word) (b : List ℕ) (r : ℕ) 
       let n = hi * word + lo in
       let w = right 16 (omega arith) 31 n (hexadecimal-start hi lo a c .room) in
       buffer 32 b r (digitsIn 16 32 n) (w .in-room) e d
+
+-- a number in the lower word
+pub lower : (n : ℕ) → spellDigits (decimal (0 * word + n)) ≡ spellDigits (decimal n)
+lower n = let e : 0 * word + n ≡ n = omega arith in rw e

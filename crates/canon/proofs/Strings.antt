@@ -47,25 +47,24 @@ unquoted-short : (b : List ℕ) → length (unquoted b) ≤ length b - 2
 unquoted-short b = omega (arith, length-take (length b - 2) (drop 1 b))
 
 module _ (s : List ℕ) (at e : ℕ) (h : e ≤ length s) where
-  l : length (between s at e) ≡ e - at
-  l = length-take-le (e - at) (drop at s) (omega (arith, length-drop at s))
+  part-size : length (between s at e) ≡ e - at
+  part-size = length-take-le (e - at) (drop at s) (omega (arith, length-drop at s))
 
   unquoted-is : unquoted (between s at e) ≡ scanning.bodyOf s at e
   unquoted-is =
       elim (decLe (at + 2) e) [
-        | no k ↦ let z : e - at - 2 ≡ 0 = omega arith in rw (l, z) (no-body s at e (omega arith))
+        | no k ↦ let z : e - at - 2 ≡ 0 = omega arith in rw (part-size, z) (no-body s at e (omega arith))
         | yes k ↦
             let m = e - (at + 1) in
             let r = drop (suc at) s in
             let d : drop at s ≡ getD s at 0 ∷ r = drop-cons s at 0 (omega arith) in
             let n : e - at ≡ suc m = omega arith in
-            let b : between s at e ≡ getD s at 0 ∷ take m r = rw (n, d) in
             let p : suc m - 2 ≡ e - 1 - (at + 1) = omega arith in
-            rw (l, n, p, d) (take-take (e - 1 - (at + 1)) m r (omega arith) ∙ rw (← add-one at) (some-body s at e h (omega arith)))
+            rw (part-size, n, p, d) (take-take (e - 1 - (at + 1)) m r (omega arith) ∙ rw (← add-one at) (some-body s at e h (omega arith)))
       ]
 
   body-short : length (scanning.bodyOf s at e) ≤ e - at - 2
-  body-short = rw (← unquoted-is, ← l) (unquoted-short (between s at e))
+  body-short = omega (arith, ap length unquoted-is, unquoted-short (between s at e), part-size)
 
 -- the code's kind of a literal, and of what is none
 is-literal : (k : Kind) (bs : List ℕ) → kind-is.Str ≡ kindAs k → bodyOf k bs ≡ unquoted bs ∷ []

@@ -59,6 +59,9 @@ module _ (s toks : List ℕ) (count : ℕ) (h : Lexes s toks count) where
   unfolding tokens
   counted = h .counted ∙ length-append before (eofToken s ∷ []) ∙ omega arith
 
+  pub some-token : 1 ≤ count
+  some-token = omega (arith, counted)
+
   abbrev tokenAt : ℕ → Token
   tokenAt i = getD (tokens s) i (eofToken s)
 
@@ -142,7 +145,7 @@ module _ (s toks : List ℕ) (count : ℕ) (h : Lexes s toks count) where
       abbrev piece : List ℕ
       piece = spell (x .content) ++ gapText (contentKind (x .content)) (contentKind (tokenAt i .content))
 
-      whole-here : f .done ++ piece ++ canonical (contents (drop i (tokens s))) ≡ text s
+      whole-here : f .done ++ (piece ++ canonical (contents (drop i (tokens s)))) ≡ text s
       whole-here =
           let n : suc (i - 1) ≡ i = omega (arith, f .begun) in
           let a : drop (i - 1) (tokens s) ≡ x ∷ drop i (tokens s) = drop-cons (tokens s) (i - 1) (eofToken s) (omega (arith, h .counted)) ∙ rw n in

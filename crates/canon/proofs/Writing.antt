@@ -85,9 +85,3 @@ pub quotes : (s : List ℕ) {t u v w : List ℕ} {at a b c : ℕ} → Writes t a
 quotes s x y z =
     let e : between s 0 (length s) ≡ s = let n : length s - 0 ≡ length s = omega arith in rw n (take-length s) in
     x then bytes-are s e y then z
-
--- four numbers with dots between
-pub quad : {a b c d t t1 t2 t3 t4 t5 t6 t7 : List ℕ} {k k1 k2 k3 k4 k5 k6 k7 : ℕ}
-    → Writes t k a k1 t1 → Writes t1 k1 (46 ∷ []) k2 t2 → Writes t2 k2 b k3 t3 → Writes t3 k3 (46 ∷ []) k4 t4
-    → Writes t4 k4 c k5 t5 → Writes t5 k5 (46 ∷ []) k6 t6 → Writes t6 k6 d k7 t7 → Writes t k (a ++ 46 ∷ b ++ 46 ∷ c ++ 46 ∷ d) k7 t7
-quad u v w x y z o = bytes-are _ ? (u then v then w then x then y then z then o)

@@ -1,7 +1,7 @@
+use Rattle.canon.proofs.Texts.{Texting, start, some-token, stopped, finished, row-fits, next-fits, more}
 use Prim.Native.Nat.{_-_, _≤_}
 use lib.ListN.{length}
 use mathlib.Core.Path.{refl}
-use Rattle.canon.proofs.Texts.{Texting, start, stopped, finished, row-fits, next-fits, more}
 use borrow.Author.Needs.{needs}
 use Rattle.canon.proofs.all_text.Statement.{statement}
 use Rattle.canon.proofs.all_text.Tie as tie
@@ -17,7 +17,7 @@ abbrev μ-loop : tie.MeasureT-loop
 μ-loop source toks count text₀ i₀ at₀ text i at = count - i
 
 loop-holds : tie.Need-loop-holds Inv-loop μ-loop
-loop-holds c = (search needs, start _ _)
+loop-holds c = (some-token _ _ _ (c .before .before .before .pre), start _ _)
 
 same-length : tie.Need-same-length Inv-loop μ-loop
 same-length c = c .before .before .loop .inv .1 .writes .size

@@ -1,7 +1,7 @@
-use mathlib.Core.Path.{ap, _∙_}
-use mathlib.Core.List.{List, [], _∷_}
 use Rattle.canon.specs.Writing.{fixedText}
 use Rattle.canon.proofs.Writing.{bytes-are}
+use mathlib.Core.Path.{ap, _∙_}
+use mathlib.Core.List.{List, [], _∷_}
 use Rattle.canon.proofs.Spelling.{only-mark}
 use borrow.Author.Needs.{needs}
 use Rattle.canon.proofs.fixed_text.Statement.{statement}
@@ -73,7 +73,7 @@ same-length-5 c = search needs
 
 returns-5 : tie.Need-returns-5
 unfolding fixedText
-returns-5 c = (bytes-are _ (only-mark _ _ (c .before .before .before .before .before .match .rest) (c .before .before .before .before .mark .ensures)) (c .before .before .put .ensures .0), search needs)
+returns-5 c = (bytes-are _ (only-mark _ (c .before .before .before .before .before .before .before .args .low) (c .before .before .before .before .before .match .rest) (c .before .before .before .before .mark .ensures)) (c .before .before .put .ensures .0), search needs)
 
 pub fixed-text-spec : {M : Type 1} → statement M
 fixed-text-spec =

@@ -1,3 +1,5 @@
+use Rattle.canon.proofs.Writing.{bytes-are}
+use Rattle.canon.proofs.Digits.{lower}
 use borrow.Author.Needs.{needs}
 use Rattle.canon.proofs.octet_text.Statement.{statement}
 use Rattle.canon.proofs.octet_text.Tie as tie
@@ -12,7 +14,7 @@ same-length : tie.Need-same-length
 same-length c = search needs
 
 returns : tie.Need-returns
-returns c = c .before .before .decimal-text .ensures
+returns c = (bytes-are _ (lower _) (c .before .before .decimal-text .ensures .0), c .before .before .decimal-text .ensures .1)
 
 pub octet-text-spec : {M : Type 1} → statement M
 octet-text-spec = tie.close (tie.spec decimal-text-requires same-length returns)

@@ -1,4 +1,4 @@
-use Rattle.canon.proofs.Writing.{quad}
+use Rattle.canon.proofs.Writing.{_then_}
 use borrow.Author.Needs.{needs}
 use Rattle.canon.proofs.quad_text.Statement.{statement}
 use Rattle.canon.proofs.quad_text.Tie as tie
@@ -32,7 +32,7 @@ same-length : tie.Need-same-length
 same-length c = search needs
 
 returns : tie.Need-returns
-returns c = (quad (c .before .before .before .before .before .before .before .before .before .before .before .before .before .before .before .before .before .before .before .before .before .before .before .before .before .before .octet-text .ensures .0) (c .before .before .before .before .before .before .before .before .before .before .before .before .before .before .before .before .before .before .before .before .before .before .put .ensures .0) (c .before .before .before .before .before .before .before .before .before .before .before .before .before .before .before .before .before .before .octet-text2 .ensures .0) (c .before .before .before .before .before .before .before .before .before .before .before .before .before .before .put2 .ensures .0) (c .before .before .before .before .before .before .before .before .before .before .octet-text3 .ensures .0) (c .before .before .before .before .before .before .put3 .ensures .0) (c .before .before .octet-text4 .ensures .0), search needs)
+returns c = (((c .before .before .before .before .before .before .before .before .before .before .before .before .before .before .before .before .before .before .before .before .before .before .before .before .before .before .octet-text .ensures .0 then c .before .before .before .before .before .before .before .before .before .before .before .before .before .before .before .before .before .before .before .before .before .before .put .ensures .0 then c .before .before .before .before .before .before .before .before .before .before .before .before .before .before .before .before .before .before .octet-text2 .ensures .0) then c .before .before .before .before .before .before .before .before .before .before .before .before .before .before .put2 .ensures .0 then c .before .before .before .before .before .before .before .before .before .before .octet-text3 .ensures .0) then c .before .before .before .before .before .before .put3 .ensures .0 then c .before .before .octet-text4 .ensures .0, search needs)
 
 pub quad-text-spec : {M : Type 1} → statement M
 quad-text-spec =

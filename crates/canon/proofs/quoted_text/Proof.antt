@@ -1,5 +1,5 @@
-use mathlib.Core.Path.{_∙_}
 use Rattle.canon.proofs.Writing.{quotes}
+use mathlib.Core.Path.{_∙_}
 use borrow.Author.Needs.{needs}
 use Rattle.canon.proofs.quoted_text.Statement.{statement}
 use Rattle.canon.proofs.quoted_text.Tie as tie
@@ -21,7 +21,7 @@ same-length : tie.Need-same-length
 same-length c = search needs
 
 returns : tie.Need-returns
-returns c = (quotes _ (c .before .before .before .before .before .before .before .before .before .before .put .ensures .0) (c .before .before .before .before .before .before .copy .ensures .0) (c .before .before .put2 .ensures .0), search needs)
+returns c = (quotes (c .before .before .before .before .before .before .before .before .before .before .before .before .before .before .args .body .now) (c .before .before .before .before .before .before .before .before .before .before .put .ensures .0) (c .before .before .before .before .before .before .copy .ensures .0) (c .before .before .put2 .ensures .0), search needs)
 
 pub quoted-text-spec : {M : Type 1} → statement M
 quoted-text-spec =

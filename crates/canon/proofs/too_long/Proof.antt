@@ -28,7 +28,7 @@ same-length-2 : tie.Need-same-length-2
 same-length-2 c = search needs
 
 returns : tie.Need-returns
-returns c = ((?, ?), ?)
+returns c = (c .refused .ensures ∙ rw (c .before .new .ensures), (c .before .before .before .before .before .before .before .before .clear .ensures, c .before .before .before .before .clear-bytes .ensures))
 
 pub too-long-spec : {M : Type 1} → statement M
 too-long-spec =
