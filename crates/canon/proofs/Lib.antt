@@ -5,3 +5,5 @@ pub mod Digits
 pub mod Strings
 pub mod Contents
 pub mod Texts
+pub mod Answers
+pub mod Entry

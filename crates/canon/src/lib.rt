@@ -277,6 +277,7 @@ fn too_long(toks: &mut [u64], text: &mut [u8]) -> Canonised
 pub fn canonicalise(source: &[u8], toks: &mut [u64], text: &mut [u8]) -> Canonised
     ensures { λ r. ⌜ CanonSource (now (source .entry)) (length (now (toks .entry))) (length (now (text .entry))) r (now (toks .exit)) (now (text .exit)) ⌝ }
 {
+    let room = text.len();
     table::clear_bytes(text);
     let lexed = lex::lex_source(source, toks);
     let verdict = lexed.verdict;
@@ -284,7 +285,7 @@ pub fn canonicalise(source: &[u8], toks: &mut [u64], text: &mut [u8]) -> Canonis
         return refused(verdict);
     }
     let size = all_text(source, toks, lexed.count as usize, text);
-    if text.len() < size {
+    if room < size {
         return too_long(toks, text);
     }
     if Scanner::MOST_BYTES < size {
