@@ -1,20 +1,17 @@
 -- What a token's row stands for is the spelling of its content.
-use Prim.Native.Nat.{ℕ, suc, _+_, _*_, _/_, _%_, _<_}
+use Prim.Native.Nat.{ℕ, suc, _+_, _*_, _/_, _%_}
 use mathlib.Core.Path.{_≡_, refl, subst}
 use mathlib.Core.Bool.{true, false}
 use mathlib.Core.List.{List, [], _∷_, _++_, map, List·Memᴰ, List·Memᴰ·not-nil, List·Memᴰ·cases-cons, List·Memᴰ·append-cases, List·Memᴰ·eq-of-singleton}
-use mathlib.Core.Logic.{_⊎_, inl, inr}
+use mathlib.Core.Logic.{inl, inr}
 use mathlib.Core.Option.{Option, none, some}
 use native.Mathlib.Nat.{div-add-mod'}
 use native.Mathlib.Omega.{arith}
 use lib.Dec.{eqb}
-use lib.ListN.{getD}
 use Rattle.language.specs.Lexemes.{Tok, lParen, rParen, dot, doubleColon, colon, semiColon, equals, comma, slash, importKeyword, letKeyword, identifier, booleanLiteral, ipv4Literal, hexLiteral, decLiteral, Kind, trivia, str, tok, error, Placed, scan}
-use Rattle.language.specs.Integers.{decimal, hexadecimal}
-use Rattle.language.specs.Tokens.{Content, eof, plain, name, string, Token, Line, Piece, contentOf, pieceOf, Item, items, itemOf, itemsFrom, lines, Pending, joined, flushed, itemToken, stepped, tokensFrom, between, bodiesIn}
+use Rattle.language.specs.Tokens.{Content, eof, plain, name, string, Token, Line, Piece, contentOf, pieceOf, Item, items, itemOf, itemsFrom, lines, Pending, flushed, stepped, tokensFrom, bodiesIn}
 use Rattle.language.specs.Tables.{word, tokKind, tokLow, tokHigh, contentKind, contentLow, contentHigh}
-use Rattle.language.specs.Canonical.{spellTok, spell, isSemi, endsLine, between′, after}
-use Rattle.language.proofs.TokenClaims.{places-right, names-held, bodies-held}
+use Rattle.language.specs.Canonical.{spellTok, spell, isSemi, endsLine, after}
 use Rattle.canon.specs.Writing.{markOf, fixedText, kindText, gapText}
 
 -- ---- what follows a token

@@ -1,19 +1,17 @@
 -- Digits that stand at the end of a buffer.
 use Prim.Native.Nat.{ℕ, _+_, _*_, _-_, _≤_, _<_}
-use mathlib.Core.Path.{_≡_, sym, ap, _∙_}
-use mathlib.Core.List.{List, [], _∷_, _++_}
+use mathlib.Core.Path.{_≡_, ap}
+use mathlib.Core.List.{List, _++_}
 use native.Mathlib.Omega.{arith}
 use lib.ListN.{length, replicate, length-append, length-replicate}
 use lib.Seq.{take-all, drop-at}
 use Rattle.language.specs.Integers.{digitsIn, decimal, hexadecimal, ascii}
 use Rattle.language.specs.Tokens.{between}
 use Rattle.language.specs.Canonical.{spellDigits}
-use Rattle.language.proofs.Integers.{Right, right}
+use Rattle.language.proofs.Integers.{right}
 use Rattle.language.proofs.SpellingDigits.{length-spelt}
 use Rattle.wide.specs.Wide.{word}
 use Rattle.wide.proofs.Digits.{decimal-start, hexadecimal-start, spelt-ascii}
-use Rattle.canon.specs.Writing.{Writes}
-use Rattle.canon.proofs.Writing.{bytes-are}
 
 -- a buffer of n bytes that has these from r on
 pub record Buffer (n : ℕ) (b : List ℕ) (r : ℕ) (xs : List ℕ) : Type 0 where

@@ -1,6 +1,6 @@
 -- Which bytes a row of the token table stands for, by the number of its kind.
-use Prim.Native.Nat.{ℕ, _*_, _+_}
-use mathlib.Core.Path.{_≡_, sym}
+use Prim.Native.Nat.{ℕ}
+use mathlib.Core.Path.{_≡_}
 use mathlib.Core.List.{List, [], _∷_}
 use borrow.Author.Tests.{ne-eqb}
 use Rattle.canon.specs.Writing.{markOf, fixedText, kindText, gapText}

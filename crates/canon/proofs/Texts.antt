@@ -1,15 +1,14 @@
 -- The text of all tokens, written one after the other.
-use Prim.Native.Nat.{ℕ, zero, suc, _+_, _*_, _-_, _/_, _≤_, _<_}
+use Prim.Native.Nat.{ℕ, zero, suc, _+_, _*_, _-_, _≤_, _<_}
 use mathlib.Core.Path.{_≡_, refl, sym, ap, _∙_}
 use mathlib.Core.List.{List, [], _∷_, _++_, append-assoc, append-nil, List·Memᴰ, List·Memᴰ·head, List·Memᴰ·tail}
 use mathlib.Core.Option.{none}
 use native.Mathlib.Omega.{arith}
 use lib.ListN.{length, getD, drop, length-append, List·getD-append}
 use lib.Seq.{drop-cons, drop-at}
-use Rattle.table.specs.Table.{padTo, tabled}
 use Rattle.table.proofs.Laws.{tabled-word}
 use Rattle.language.specs.Tables.{tokenRow, tokenWidth, contentKind}
-use Rattle.language.specs.Tokens.{eof, Token, items, tokensFrom, eofToken, tokens, contents, between}
+use Rattle.language.specs.Tokens.{Token, items, tokensFrom, eofToken, tokens, contents, between}
 use Rattle.language.specs.Canonical.{spell, canonical, text}
 use Rattle.language.proofs.TokenClaims.{places-right, names-held, bodies-held}
 use Rattle.canon.specs.Writing.{Writes, rowText, gapText, RowFits, Lexes, WritesText}
@@ -151,7 +150,7 @@ module _ (s toks : List ℕ) (count : ℕ) (h : Lexes s toks count) where
           let a : drop (i - 1) (tokens s) ≡ x ∷ drop i (tokens s) = drop-cons (tokens s) (i - 1) (eofToken s) (omega (arith, h .counted)) ∙ rw n in
           let b : drop i (tokens s) ≡ tokenAt i ∷ drop (suc i) (tokens s) = drop-cons (tokens s) i (eofToken s) (omega (arith, h .counted)) in
           let c : canonical (contents (drop (i - 1) (tokens s))) ≡ piece ++ canonical (contents (drop i (tokens s))) =
-              rw (a, b) (next-text x (tokenAt i) (drop (suc i) (tokens s))) in
+          rw (a, b) (next-text x (tokenAt i) (drop (suc i) (tokens s))) in
           rw c at (f .whole)
 
       pub more : {end to : ℕ} {v w : List ℕ} → Writes u at (rowText s toks row) end v → Writes v end (gapText (getD toks row 0) (getD toks next 0)) to w

@@ -1,10 +1,9 @@
 -- Writing bytes: none, one, a run of them, one piece after the other.
 use Prim.Native.Nat.{ℕ, suc, _+_, _-_, _≤_, _<_}
-use mathlib.Core.Path.{_≡_, refl, sym, ap, _∙_}
+use mathlib.Core.Path.{_≡_, refl, ap, _∙_}
 use mathlib.Core.List.{List, [], _∷_, _++_, append-assoc, append-nil}
-use native.Mathlib.Numerals.{add-one}
 use native.Mathlib.Omega.{arith}
-use lib.ListN.{length, getD, set, take, drop, length-set, length-append, length-drop}
+use lib.ListN.{length, getD, set, drop, length-set, length-append, length-drop}
 use lib.Seq.{take-suc, take-length, getD-drop}
 use Rattle.table.specs.Table.{padTo}
 use Rattle.table.proofs.Laws.{put-end}
@@ -28,7 +27,6 @@ one t at b u s =
 -- ---- one after the other
 
 infixr 20 _then_
-
 pub _then_ : {t u v : List ℕ} {at k r : ℕ} {x y : List ℕ} → Writes t at x k u → Writes u k y r v → Writes t at (x ++ y) r v
 _then_ {t} {u} {v} {at} {k} {r} {x} {y} a b =
     record {
@@ -36,9 +34,9 @@ _then_ {t} {u} {v} {at} {k} {r} {x} {y} a b =
       size = b .size ∙ a .size;
       text =
           λ done l e.
-            let h : u ≡ padTo (length u) (done ++ x) = rw (a .size) (a .text done l e) in
-            let m : length (done ++ x) ≡ k = omega (arith, length-append done x, a .moved) in
-            b .text (done ++ x) m h ∙ rw (a .size, append-assoc);
+          let h : u ≡ padTo (length u) (done ++ x) = rw (a .size) (a .text done l e) in
+          let m : length (done ++ x) ≡ k = omega (arith, length-append done x, a .moved) in
+          b .text (done ++ x) m h ∙ rw (a .size, append-assoc);
     }
 
 -- the bytes by another name, and the place

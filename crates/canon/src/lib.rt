@@ -1,9 +1,9 @@
 // Canonical text: the tokens of a source, spelt in one way. The definition is `Canonical` of the crate `language`. Bytes
 // past the end of the lent text are counted and not kept, and the count is judged at the end.
 ghost use mathlib.Core.Path.{_≡_};
-ghost use mathlib.Core.List.{List, [], _∷_, _++_};
-ghost use Prim.Native.Nat.{ℕ, _+_, _-_, _*_, _≤_, _<_};
-ghost use lib.ListN.{length, getD};
+ghost use mathlib.Core.List.{[], _∷_};
+ghost use Prim.Native.Nat.{_+_, _-_, _≤_};
+ghost use lib.ListN.{length};
 ghost use Rattle.table.specs.Table.{padTo};
 ghost use Rattle.language.specs.Integers.{decimal, hexadecimal};
 ghost use Rattle.language.specs.Tokens.{between, bodiesIn};
@@ -11,7 +11,6 @@ ghost use Rattle.language.specs.Canonical.{spellDigits, spellQuad, quoted};
 ghost use Rattle.wide.specs.Wide.{valueOf};
 ghost use Rattle.canon.specs.Writing.{Writes, literalsText, literalText, markOf, boolText, fixedText, rowText, gapText, RowFits, Lexes, WritesText};
 ghost use Rattle.canon.specs.Entry.{CanonSource};
-
 use lex::Lexer;
 use scan::LexemeKind;
 use scan::Scanner;

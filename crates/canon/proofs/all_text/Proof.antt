@@ -1,14 +1,9 @@
 use Rattle.canon.proofs.Texts.{Texting, start, some-token, stopped, finished, row-fits, next-fits, more}
 use Prim.Native.Nat.{_-_, _≤_}
-use lib.ListN.{length}
 use mathlib.Core.Path.{refl}
 use borrow.Author.Needs.{needs}
 use Rattle.canon.proofs.all_text.Statement.{statement}
 use Rattle.canon.proofs.all_text.Tie as tie
-use Rattle.canon.proofs.all_text.Reads as reads
-use Rattle.canon.proofs.all_text.Lts as lts
-use Rattle.canon.proofs.separator.Reads as separator-reads
-use Rattle.canon.proofs.token_text.Reads as token-text-reads
 
 abbrev Inv-loop : tie.InvT-loop
 Inv-loop source toks count text₀ i₀ at₀ text i at = (i ≤ count) × Texting source text₀ i at text

@@ -3,9 +3,6 @@ use borrow.Author.Tests.{ne-eqb}
 use borrow.Author.Needs.{needs}
 use Rattle.canon.proofs.bool_text.Statement.{statement}
 use Rattle.canon.proofs.bool_text.Tie as tie
-use Rattle.canon.proofs.bool_text.Reads as reads
-use Rattle.canon.proofs.bool_text.Lts as lts
-use Rattle.canon.proofs.copy.Reads as copy-reads
 
 slice-aggregate-copy : tie.Need-slice-aggregate-copy
 slice-aggregate-copy c = search needs

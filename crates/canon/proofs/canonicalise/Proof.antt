@@ -4,13 +4,6 @@ use Rattle.canon.proofs.Answers.{refused, lexes, too-long, accepted}
 use borrow.Author.Needs.{needs}
 use Rattle.canon.proofs.canonicalise.Statement.{statement}
 use Rattle.canon.proofs.canonicalise.Tie as tie
-use Rattle.canon.proofs.canonicalise.Reads as reads
-use Rattle.canon.proofs.canonicalise.Lts as lts
-use Rattle.canon.proofs.all_text.Reads as all-text-reads
-use Rattle.canon.proofs.refused.Reads as refused-reads
-use Rattle.canon.proofs.too_long.Reads as too-long-reads
-use Rattle.lex.proofs.lex_source.Reads as lex-source-reads
-use Rattle.table.proofs.clear_bytes.Reads as clear-bytes-reads
 
 clear-bytes-requires : tie.Need-clear-bytes-requires
 clear-bytes-requires c κs = search needs

@@ -1,13 +1,8 @@
 use Prim.Native.Nat.{_-_, _≤_}
-use mathlib.Core.Path.{_≡_}
-use lib.ListN.{length}
 use Rattle.canon.proofs.Writing.{Copying, copy-none, copy-one, copied}
 use borrow.Author.Needs.{needs}
 use Rattle.canon.proofs.copy.Statement.{statement}
 use Rattle.canon.proofs.copy.Tie as tie
-use Rattle.canon.proofs.copy.Reads as reads
-use Rattle.canon.proofs.copy.Lts as lts
-use Rattle.table.proofs.put_byte.Reads as put-byte-reads
 
 abbrev Inv-loop : tie.InvT-loop
 Inv-loop s from to text₀ at i₀ end₀ text i end = (i ≤ to) × Copying s text₀ from at i text end

@@ -4,10 +4,6 @@ use native.Mathlib.Omega.{arith}
 use borrow.Author.Needs.{needs}
 use Rattle.canon.proofs.decimal_text.Statement.{statement}
 use Rattle.canon.proofs.decimal_text.Tie as tie
-use Rattle.canon.proofs.decimal_text.Reads as reads
-use Rattle.canon.proofs.decimal_text.Lts as lts
-use Rattle.canon.proofs.copy.Reads as copy-reads
-use Rattle.wide.proofs.Wide.decimal.Reads as decimal-reads
 
 decimal-requires : tie.Need-decimal-requires
 decimal-requires c κs = search needs

@@ -1,17 +1,9 @@
 use Rattle.canon.specs.Writing.{fixedText}
 use Rattle.canon.proofs.Writing.{bytes-are}
-use mathlib.Core.Path.{ap, _∙_}
-use mathlib.Core.List.{List, [], _∷_}
 use Rattle.canon.proofs.Spelling.{only-mark}
 use borrow.Author.Needs.{needs}
 use Rattle.canon.proofs.fixed_text.Statement.{statement}
 use Rattle.canon.proofs.fixed_text.Tie as tie
-use Rattle.canon.proofs.fixed_text.Reads as reads
-use Rattle.canon.proofs.fixed_text.Lts as lts
-use Rattle.canon.proofs.bool_text.Reads as bool-text-reads
-use Rattle.canon.proofs.copy.Reads as copy-reads
-use Rattle.canon.proofs.mark.Reads as mark-reads
-use Rattle.canon.proofs.put.Reads as put-reads
 
 slice-aggregate-copy : tie.Need-slice-aggregate-copy
 slice-aggregate-copy c = search needs

@@ -4,11 +4,6 @@ use native.Mathlib.Omega.{arith}
 use borrow.Author.Needs.{needs}
 use Rattle.canon.proofs.hex_text.Statement.{statement}
 use Rattle.canon.proofs.hex_text.Tie as tie
-use Rattle.canon.proofs.hex_text.Reads as reads
-use Rattle.canon.proofs.hex_text.Lts as lts
-use Rattle.canon.proofs.copy.Reads as copy-reads
-use Rattle.canon.proofs.put.Reads as put-reads
-use Rattle.wide.proofs.Wide.hexadecimal.Reads as hexadecimal-reads
 
 hexadecimal-requires : tie.Need-hexadecimal-requires
 hexadecimal-requires c κs = search needs

@@ -3,10 +3,6 @@ use borrow.Author.Tests.{eq-eqb, ne-eqb}
 use borrow.Author.Needs.{needs}
 use Rattle.canon.proofs.literal_text.Statement.{statement}
 use Rattle.canon.proofs.literal_text.Tie as tie
-use Rattle.canon.proofs.literal_text.Reads as reads
-use Rattle.canon.proofs.literal_text.Lts as lts
-use Rattle.canon.proofs.put.Reads as put-reads
-use Rattle.canon.proofs.quoted_text.Reads as quoted-text-reads
 
 quoted-text-requires : tie.Need-quoted-text-requires
 quoted-text-requires c κs = search needs

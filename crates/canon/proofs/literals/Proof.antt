@@ -5,12 +5,6 @@ use Rattle.canon.proofs.Strings.{Telling, start, all-told, shrinks, pas
 use borrow.Author.Needs.{needs}
 use Rattle.canon.proofs.literals.Statement.{statement}
 use Rattle.canon.proofs.literals.Tie as tie
-use Rattle.canon.proofs.literals.Reads as reads
-use Rattle.canon.proofs.literals.Lts as lts
-use Rattle.canon.proofs.literal_text.Reads as literal-text-reads
-use Rattle.scan.proofs.Scanner.new.Reads as new-reads
-use Rattle.scan.proofs.Scanner.next.Reads as next-reads
-use Rattle.scan.proofs.body.Reads as body-reads
 
 abbrev Inv-loop : tie.InvT-loop
 Inv-loop part text₀ at end₀ scanner₀ text end scanner = Telling part text₀ at text end (scanner .pos)

@@ -2,8 +2,6 @@ use Rattle.canon.specs.Writing.{markOf}
 use Rattle.canon.proofs.Spelling.{last-mark}
 use Rattle.canon.proofs.mark.Statement.{statement}
 use Rattle.canon.proofs.mark.Tie as tie
-use Rattle.canon.proofs.mark.Reads as reads
-use Rattle.canon.proofs.mark.Lts as lts
 
 returns : tie.Need-returns
 unfolding markOf

@@ -3,9 +3,6 @@ use Rattle.canon.proofs.Digits.{lower}
 use borrow.Author.Needs.{needs}
 use Rattle.canon.proofs.octet_text.Statement.{statement}
 use Rattle.canon.proofs.octet_text.Tie as tie
-use Rattle.canon.proofs.octet_text.Reads as reads
-use Rattle.canon.proofs.octet_text.Lts as lts
-use Rattle.canon.proofs.decimal_text.Reads as decimal-text-reads
 
 decimal-text-requires : tie.Need-decimal-text-requires
 decimal-text-requires c κs = search needs

@@ -2,9 +2,6 @@ use Rattle.canon.proofs.Writing.{one}
 use borrow.Author.Needs.{needs}
 use Rattle.canon.proofs.put.Statement.{statement}
 use Rattle.canon.proofs.put.Tie as tie
-use Rattle.canon.proofs.put.Reads as reads
-use Rattle.canon.proofs.put.Lts as lts
-use Rattle.table.proofs.put_byte.Reads as put-byte-reads
 
 put-byte-requires : tie.Need-put-byte-requires
 put-byte-requires c κs = search needs

@@ -2,10 +2,6 @@ use Rattle.canon.proofs.Writing.{_then_}
 use borrow.Author.Needs.{needs}
 use Rattle.canon.proofs.quad_text.Statement.{statement}
 use Rattle.canon.proofs.quad_text.Tie as tie
-use Rattle.canon.proofs.quad_text.Reads as reads
-use Rattle.canon.proofs.quad_text.Lts as lts
-use Rattle.canon.proofs.octet_text.Reads as octet-text-reads
-use Rattle.canon.proofs.put.Reads as put-reads
 
 octet-text-requires : tie.Need-octet-text-requires
 octet-text-requires c κs = search needs

@@ -1,12 +1,7 @@
 use Rattle.canon.proofs.Writing.{quotes}
-use mathlib.Core.Path.{_∙_}
 use borrow.Author.Needs.{needs}
 use Rattle.canon.proofs.quoted_text.Statement.{statement}
 use Rattle.canon.proofs.quoted_text.Tie as tie
-use Rattle.canon.proofs.quoted_text.Reads as reads
-use Rattle.canon.proofs.quoted_text.Lts as lts
-use Rattle.canon.proofs.copy.Reads as copy-reads
-use Rattle.canon.proofs.put.Reads as put-reads
 
 put-requires : tie.Need-put-requires
 put-requires c κs = search needs

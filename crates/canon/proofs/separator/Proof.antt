@@ -3,9 +3,6 @@ use Rattle.canon.proofs.Spelling.{no-gap, a-space}
 use borrow.Author.Needs.{needs}
 use Rattle.canon.proofs.separator.Statement.{statement}
 use Rattle.canon.proofs.separator.Tie as tie
-use Rattle.canon.proofs.separator.Reads as reads
-use Rattle.canon.proofs.separator.Lts as lts
-use Rattle.canon.proofs.put.Reads as put-reads
 
 put-requires : tie.Need-put-requires
 put-requires c κs = search needs

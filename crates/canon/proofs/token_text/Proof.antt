@@ -4,14 +4,6 @@ use Rattle.canon.proofs.Spelling.{only-fixed}
 use borrow.Author.Needs.{needs}
 use Rattle.canon.proofs.token_text.Statement.{statement}
 use Rattle.canon.proofs.token_text.Tie as tie
-use Rattle.canon.proofs.token_text.Reads as reads
-use Rattle.canon.proofs.token_text.Lts as lts
-use Rattle.canon.proofs.copy.Reads as copy-reads
-use Rattle.canon.proofs.decimal_text.Reads as decimal-text-reads
-use Rattle.canon.proofs.fixed_text.Reads as fixed-text-reads
-use Rattle.canon.proofs.hex_text.Reads as hex-text-reads
-use Rattle.canon.proofs.literals.Reads as literals-reads
-use Rattle.canon.proofs.quad_text.Reads as quad-text-reads
 
 mul-kind : tie.Need-mul-kind
 mul-kind c = search needs

@@ -2,12 +2,6 @@ use mathlib.Core.Path.{_∙_}
 use borrow.Author.Needs.{needs}
 use Rattle.canon.proofs.too_long.Statement.{statement}
 use Rattle.canon.proofs.too_long.Tie as tie
-use Rattle.canon.proofs.too_long.Reads as reads
-use Rattle.canon.proofs.too_long.Lts as lts
-use Rattle.canon.proofs.refused.Reads as refused-reads
-use Rattle.scan.proofs.Verdict.new.Reads as new-reads
-use Rattle.table.proofs.clear.Reads as clear-reads
-use Rattle.table.proofs.clear_bytes.Reads as clear-bytes-reads
 
 clear-requires : tie.Need-clear-requires
 clear-requires c κs = search needs
