@@ -261,14 +261,14 @@ fn refused(verdict: Verdict) -> Canonised
     }
 }
 
-// Number 10: nothing stays in the token table or in the text.
-fn too_long(toks: &mut [u64], text: &mut [u8]) -> Canonised
+// Number 10: nothing stays in the token table, nor what is written of the text.
+fn too_long(toks: &mut [u64], written: &mut [u8]) -> Canonised
     ensures { λ r. ⌜ r ≡ record { verdict = record { number = 10; kind = 0; line = 0; column = 0; character = 0 }; tokens = 0; bytes = 0 } ⌝ }
     ensures { λ r. ⌜ now (toks .exit) ≡ padTo (length (now (toks .entry))) [] ⌝ }
-    ensures { λ r. ⌜ now (text .exit) ≡ padTo (length (now (text .entry))) [] ⌝ }
+    ensures { λ r. ⌜ now (written .exit) ≡ padTo (length (now (written .entry))) [] ⌝ }
 {
     table::clear(toks);
-    table::clear_bytes(text);
+    table::clear_bytes(written);
     refused(Verdict::new(10, 0, 0))
 }
 
