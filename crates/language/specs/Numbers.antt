@@ -6,8 +6,9 @@ use mathlib.Core.List.{List, []}
 use mathlib.Core.Option.{Option, none, some}
 use lib.Dec.{ltb, eqb}
 use lib.ListN.{length, getD}
-use Rattle.table.specs.Table.{tabled}
+use Rattle.table.specs.Table.{padTo, tabled}
 use Rattle.language.specs.Choice.{if′}
+use Rattle.language.specs.Canonical.{text}
 use Rattle.language.specs.Utf8.{firstBad}
 use Rattle.language.specs.Lexemes.{Placed, scan}
 use Rattle.language.specs.Tables.{lexemeRow, lexemeWidth, tokenRow, tokenWidth, errorKind, errorChar}
@@ -130,3 +131,31 @@ unfoldable pub parseNodes : List ℕ → ℕ → ℕ → List ℕ
 parseNodes s t n =
     tabled nodeRow nodeWidth n
     (if′ (eqb (parseAnswer s (t / tokenWidth) (n / nodeWidth) .verdict .number) 0) (parsedNodes (program (contents (tokens s)))) [])
+
+-- ---- canonicalise
+
+pub record Canonised : Type 0 where
+  pub verdict : Verdict
+  pub tokens : ℕ
+  pub bytes : ℕ
+
+abbrev pub canonised : Verdict → ℕ → ℕ → Canonised
+canonised v t n = record { verdict = v; tokens = t; bytes = n }
+
+-- "canonical text exceeds its room or 65,536 bytes"
+abbrev pub canonisedWithin : ℕ → ℕ → ℕ → Canonised
+canonisedWithin room t n =
+    if′ (ltb room n) (canonised (verdict 10 0 0) 0 0) (if′ (ltb mostBytes n) (canonised (verdict 10 0 0) 0 0) (canonised (verdict 0 0 0) t n))
+
+-- "canonicalise 1 to 4 and 10": where lexing refuses, that
+unfoldable pub canonAnswer : List ℕ → ℕ → ℕ → Canonised
+canonAnswer s tokenRoom room =
+    let l = lexAnswer s tokenRoom in
+    if′ (eqb (l .verdict .number) 0) (canonisedWithin room (l .count) (length (text s))) (canonised (l .verdict) 0 0)
+
+-- the token table of t words and the text of n bytes as canonicalise leaves them
+unfoldable pub canonTokens : List ℕ → ℕ → ℕ → List ℕ
+canonTokens s t n = tabled tokenRow tokenWidth t (if′ (eqb (canonAnswer s (t / tokenWidth) n .verdict .number) 0) (tokens s) [])
+
+unfoldable pub canonText : List ℕ → ℕ → ℕ → List ℕ
+canonText s t n = padTo n (if′ (eqb (canonAnswer s (t / tokenWidth) n .verdict .number) 0) (text s) [])

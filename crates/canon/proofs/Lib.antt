@@ -1,0 +1,9 @@
+-- The laws that the proofs of the functions cite.
+pub mod Writing
+pub mod Spelling
+pub mod Digits
+pub mod Strings
+pub mod Contents
+pub mod Texts
+pub mod Answers
+pub mod Entry

@@ -1,0 +1,156 @@
+-- The literals of a string, written one by one as the scanner finds them.
+use Prim.Native.Nat.{ℕ, suc, _+_, _*_, _-_, _≤_, _<_}
+use mathlib.Core.Path.{_≡_, refl, sym, ap, _∙_}
+use mathlib.Core.List.{List, [], _∷_, _++_, append-assoc, append-nil}
+use mathlib.Core.Logic.{inl, inr}
+use native.Mathlib.Decide.{decLe}
+use native.Mathlib.Numerals.{add-one}
+use native.Mathlib.Omega.{arith}
+use borrow.Author.Tests.{eq-eqb, ne-eqb}
+use types.Run.{OneOf}
+use denote.Enum.Declared.{tagOf}
+use lib.ListN.{length, getD, drop, length-take, length-drop}
+use lib.Seq.{drop-cons, take-take, length-take-le}
+use Rattle.language.specs.Lexemes.{Kind, trivia, str, tok, error, scanFrom, lexeme}
+use Rattle.language.specs.Tokens.{unquoted, between, bodyOf, bodiesOf, bodiesIn}
+use Rattle.language.specs.Canonical.{quoted, spellBodies}
+use Rattle.scan.specs.declared.Lexeme.{Lexeme}
+use Rattle.scan.specs.declared.LexemeKind.the-variants as kind-is
+use Rattle.scan.specs.declared.Scanner.{Scanner}
+use Rattle.scan.specs.declared.Step.the-variants.{Found, Done}
+use Rattle.scan.specs.Scanning as scanning
+use Rattle.scan.specs.Scanning.{kindAs, stepAt}
+use Rattle.scan.proofs.LexemeKind as kind
+use Rattle.scan.proofs.Parts.{some-body, no-body}
+use Rattle.lex.proofs.Feeding.{turn, at-end}
+use Rattle.canon.specs.Writing.{Writes, literalsText, literalText}
+use Rattle.canon.proofs.Writing.{none, _then_, bytes-are}
+
+-- ---- one literal more
+
+bodies-more : (c : List ℕ) (cs : List (List ℕ)) (b : List ℕ) → spellBodies c cs ++ 32 ∷ quoted b ≡ spellBodies c (cs ++ b ∷ [])
+bodies-more c [] b = refl
+bodies-more c (d ∷ ds) b = append-assoc (quoted c) (32 ∷ spellBodies d ds) (32 ∷ quoted b) ∙ rw (bodies-more d ds b)
+
+some-byte : (c : List ℕ) (cs : List (List ℕ)) → 0 < length (spellBodies c cs)
+some-byte c [] = omega arith
+some-byte c (d ∷ ds) = omega arith
+
+literal-more : (bs : List (List ℕ)) (b : List ℕ) (at end : ℕ) → end ≡ at + length (literalsText bs)
+    → literalsText bs ++ literalText at end b ≡ literalsText (bs ++ b ∷ [])
+literal-more [] b at end e = rw (eq-eqb end at (omega arith))
+literal-more (c ∷ cs) b at end e = rw (ne-eqb end at (λ h. omega (arith, some-byte c cs))) (bodies-more c cs b)
+
+-- ---- what stands between the quotes
+
+unquoted-short : (b : List ℕ) → length (unquoted b) ≤ length b - 2
+unquoted-short b = omega (arith, length-take (length b - 2) (drop 1 b))
+
+module _ (s : List ℕ) (at e : ℕ) (h : e ≤ length s) where
+  part-size : length (between s at e) ≡ e - at
+  part-size = length-take-le (e - at) (drop at s) (omega (arith, length-drop at s))
+
+  unquoted-is : unquoted (between s at e) ≡ scanning.bodyOf s at e
+  unquoted-is =
+      elim (decLe (at + 2) e) [
+        | no k ↦ let z : e - at - 2 ≡ 0 = omega arith in rw (part-size, z) (no-body s at e (omega arith))
+        | yes k ↦
+            let m = e - (at + 1) in
+            let r = drop (suc at) s in
+            let d : drop at s ≡ getD s at 0 ∷ r = drop-cons s at 0 (omega arith) in
+            let n : e - at ≡ suc m = omega arith in
+            let p : suc m - 2 ≡ e - 1 - (at + 1) = omega arith in
+            rw (part-size, n, p, d) (take-take (e - 1 - (at + 1)) m r (omega arith) ∙ rw (← add-one at) (some-body s at e h (omega arith)))
+      ]
+
+  body-short : length (scanning.bodyOf s at e) ≤ e - at - 2
+  body-short = omega (arith, ap length unquoted-is, unquoted-short (between s at e), part-size)
+
+-- the code's kind of a literal, and of what is none
+is-literal : (k : Kind) (bs : List ℕ) → kind-is.Str ≡ kindAs k → bodyOf k bs ≡ unquoted bs ∷ []
+is-literal str bs e = refl
+is-literal trivia bs e = cc
+is-literal (tok t) bs e = cc
+is-literal (error x) bs e = cc
+
+no-literal : (k : Kind) (bs : List ℕ) → OneOf (0 ∷ 2 ∷ 3 ∷ []) (tagOf kind.the-type (kindAs k)) → bodyOf k bs ≡ []
+no-literal trivia bs o = refl
+no-literal (tok t) bs o = refl
+no-literal (error x) bs o = refl
+no-literal str bs (inl o) = absurd (omega (arith, o))
+no-literal str bs (inr (inl o)) = absurd (omega (arith, o))
+no-literal str bs (inr (inr o)) = absurd (omega (arith, o))
+
+-- ---- the loop
+
+-- the literals before `pos` are written
+pub record Telling (part t : List ℕ) (at : ℕ) (u : List ℕ) (end pos : ℕ) : Type 0 where
+  done : List (List ℕ)
+  whole : done ++ bodiesOf part (scanFrom 0 pos (drop pos part)) ≡ bodiesIn part
+  pub writes : Writes t at (literalsText done) end u
+  pub few : end ≤ at + 3 * pos
+  pub within : pos ≤ length part
+
+module _ (part t : List ℕ) (at : ℕ) where
+  pub start : (pos : ℕ) → pos ≡ 0 → Telling part t at t at pos
+  start pos z = record { done = []; whole = rw z; writes = none t at; few = omega arith; within = omega arith }
+
+  module _ (u : List ℕ) (end pos : ℕ) (k : Telling part t at u end pos) where
+    pub all-told : Done ≡ stepAt part pos → length part ≤ 65536
+        → Writes t at (literalsText (bodiesIn part)) end u × (end ≤ at + 262144)
+    all-told e h =
+        let all : k .done ≡ bodiesIn part = sym (append-nil (k .done)) ∙ rw (at-end part pos e) at (k .whole) in
+        (rw (← all) (k .writes), omega (arith, k .few, k .within))
+
+    module _ (l : Lexeme) (next : Scanner) (e : Found l next ≡ stepAt part pos) where
+      pub shrinks : length part - next .pos < length part - pos
+      shrinks = let p = turn part pos l next e in omega (arith, p .forth, p .within)
+
+      abbrev x : Kind
+      x = lexeme (drop pos part) .kind
+
+      abbrev bytes : List ℕ
+      bytes = between part pos (pos + lexeme (drop pos part) .size)
+
+      abbrev after : List (List ℕ)
+      after = bodiesOf part (scanFrom 0 (next .pos) (drop (next .pos) part))
+
+      from-here : k .done ++ (bodyOf x bytes ++ after) ≡ bodiesIn part
+      from-here = rw (turn part pos l next e .rest) at (k .whole)
+
+      -- no literal
+      pub passed : OneOf (0 ∷ 2 ∷ 3 ∷ []) (tagOf kind.the-type (l .kind)) → Telling part t at u end (next .pos)
+      passed h =
+          let p = turn part pos l next e in
+          let n = no-literal x bytes (rw (p .kind) at h) in
+          record { done = k .done; whole = rw n at from-here; writes = k .writes; few = omega (arith, k .few, p .forth); within = p .within }
+
+      module _ {r : List ℕ} (d : r ≡ scanning.bodyOf part (l .start) (l .end)) where
+        short : length r ≤ next .pos - pos - 2
+        short =
+            let p = turn part pos l next e in
+            let w : r ≡ scanning.bodyOf part pos (next .pos) = d ∙ rw (p .begins, p .ends) in
+            rw w (body-short part pos (next .pos) (p .within))
+
+        -- what the call asks for
+        pub room : length part ≤ 65536 → at ≤ 65536 → (length r ≤ 65536) × (end ≤ 524287)
+        room h m = let p = turn part pos l next e in (omega (arith, short, p .within), omega (arith, k .few, k .within))
+
+        -- a literal
+        pub told : l .kind ≡ kind-is.Str → {v : List ℕ} {to : ℕ} → Writes u end (literalText at end r) to v × (to ≤ end + length r + 3)
+            → Telling part t at v to (next .pos)
+        told h {v} {to} w =
+            let p = turn part pos l next e in
+            let b : bodyOf x bytes ≡ unquoted bytes ∷ [] = is-literal x bytes (sym h ∙ p .kind) in
+            let past : pos + lexeme (drop pos part) .size ≡ next .pos = sym (p .past) in
+            let a : unquoted bytes ≡ scanning.bodyOf part pos (next .pos) = rw past (unquoted-is part pos (next .pos) (p .within)) in
+            let c : r ≡ scanning.bodyOf part pos (next .pos) = d ∙ rw (p .begins, p .ends) in
+            let q : unquoted bytes ≡ r = a ∙ sym c in
+            let here : k .done ++ r ∷ after ≡ bodiesIn part = rw (b, q) at from-here in
+            record {
+              done = k .done ++ r ∷ [];
+              whole = append-assoc (k .done) (r ∷ []) after ∙ here;
+              writes = bytes-are _ (literal-more (k .done) r at end (k .writes .moved)) (k .writes then w .0);
+              few = omega (arith, k .few, w .1, short, p .forth);
+              within = p .within;
+            }

@@ -1,0 +1,54 @@
+use Prim.Native.Nat.{_-_, _≤_}
+use Rattle.canon.proofs.Writing.{Copying, copy-none, copy-one, copied}
+use borrow.Author.Needs.{needs}
+use Rattle.canon.proofs.copy.Statement.{statement}
+use Rattle.canon.proofs.copy.Tie as tie
+
+abbrev Inv-loop : tie.InvT-loop
+Inv-loop s from to text₀ at i₀ end₀ text i end = (i ≤ to) × Copying s text₀ from at i text end
+
+abbrev μ-loop : tie.MeasureT-loop
+μ-loop s from to text₀ at i₀ end₀ text i end = to - i
+
+loop-holds : tie.Need-loop-holds Inv-loop μ-loop
+loop-holds c = (search needs, copy-none _ _ _ _)
+
+shared-slice-read-put-byte : tie.Need-shared-slice-read-put-byte Inv-loop μ-loop
+shared-slice-read-put-byte c = search needs
+
+put-byte-requires : tie.Need-put-byte-requires Inv-loop μ-loop
+put-byte-requires c κs = search needs
+
+add-i : tie.Need-add-i Inv-loop μ-loop
+add-i c = search needs
+
+add-end : tie.Need-add-end Inv-loop μ-loop
+add-end c = search needs
+
+loop-less : tie.Need-loop-less Inv-loop μ-loop
+loop-less c = search needs
+
+loop-again : tie.Need-loop-again Inv-loop μ-loop
+loop-again c = (search needs, copy-one _ _ _ _ (c .before .before .before .before .before .before .loop .inv .1) (search needs) (c .before .before .put-byte .ensures))
+
+same-length : tie.Need-same-length Inv-loop μ-loop
+same-length c = c .before .loop .inv .1 .writes .size
+
+returns : tie.Need-returns Inv-loop μ-loop
+returns c = copied _ _ _ _ (c .before .loop .inv .1) (search needs)
+
+pub copy-spec : {M : Type 1} → statement M
+copy-spec =
+    tie.close
+    (tie.spec
+    Inv-loop
+    μ-loop
+    loop-holds
+    shared-slice-read-put-byte
+    put-byte-requires
+    add-i
+    add-end
+    loop-less
+    loop-again
+    same-length
+    returns)

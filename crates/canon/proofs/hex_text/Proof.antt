@@ -1,0 +1,39 @@
+use Rattle.canon.proofs.Writing.{_then_, bytes-are}
+use Rattle.canon.proofs.Digits.{hexadecimal-buffer}
+use native.Mathlib.Omega.{arith}
+use borrow.Author.Needs.{needs}
+use Rattle.canon.proofs.hex_text.Statement.{statement}
+use Rattle.canon.proofs.hex_text.Tie as tie
+
+hexadecimal-requires : tie.Need-hexadecimal-requires
+hexadecimal-requires c κs = search needs
+
+put-requires : tie.Need-put-requires
+put-requires c κs = search needs
+
+put-requires-2 : tie.Need-put-requires-2
+put-requires-2 c κs = search needs
+
+slice-aggregate-copy : tie.Need-slice-aggregate-copy
+slice-aggregate-copy c = (hexadecimal-buffer _ _ (search needs) (search needs) _ _ (c .before .before .before .before .before .before .before .before .before .hexadecimal .ensures)) .size
+
+copy-requires : tie.Need-copy-requires
+copy-requires c κs = let b = hexadecimal-buffer _ _ (search needs) (search needs) _ _ (c .before .before .before .before .before .before .before .before .before .before .hexadecimal .ensures) in (b .from, omega arith, search needs, search needs)
+
+same-length : tie.Need-same-length
+same-length c = search needs
+
+returns : tie.Need-returns
+returns c = (c .before .before .before .before .before .before .before .before .before .before .before .put .ensures .0 then c .before .before .before .before .before .before .before .put2 .ensures .0 then bytes-are _ ((hexadecimal-buffer _ _ (search needs) (search needs) _ _ (c .before .before .before .before .before .before .before .before .before .before .before .before .before .hexadecimal .ensures)) .bytes) (c .before .before .copy .ensures .0), search needs)
+
+pub hex-text-spec : {M : Type 1} → statement M
+hex-text-spec =
+    tie.close
+    (tie.spec
+    hexadecimal-requires
+    put-requires
+    put-requires-2
+    slice-aggregate-copy
+    copy-requires
+    same-length
+    returns)

@@ -1,0 +1,298 @@
+// Canonical text: the tokens of a source, spelt in one way. The definition is `Canonical` of the crate `language`. Bytes
+// past the end of the lent text are counted and not kept, and the count is judged at the end.
+ghost use mathlib.Core.Path.{_≡_};
+ghost use mathlib.Core.List.{[], _∷_};
+ghost use Prim.Native.Nat.{_+_, _-_, _≤_};
+ghost use lib.ListN.{length};
+ghost use Rattle.table.specs.Table.{padTo};
+ghost use Rattle.language.specs.Integers.{decimal, hexadecimal};
+ghost use Rattle.language.specs.Tokens.{between, bodiesIn};
+ghost use Rattle.language.specs.Canonical.{spellDigits, spellQuad, quoted};
+ghost use Rattle.wide.specs.Wide.{valueOf};
+ghost use Rattle.canon.specs.Writing.{Writes, literalsText, literalText, markOf, boolText, fixedText, rowText, gapText, RowFits, Lexes, WritesText};
+ghost use Rattle.canon.specs.Entry.{CanonSource};
+use lex::Lexer;
+use scan::LexemeKind;
+use scan::Scanner;
+use scan::Step;
+use scan::Verdict;
+use wide::Wide;
+
+pub struct Canonised {
+    pub verdict: Verdict,
+    pub tokens: u64,
+    pub bytes: u64,
+}
+
+// ---- bytes
+
+// The bytes of `s` from `from` up to `to`.
+fn copy(s: &[u8], from: usize, to: usize, text: &mut [u8], at: usize) -> usize
+    requires { ⌜ (from ≤ to) × (to ≤ length (now s)) × (to ≤ 65536) × (at ≤ 1048576) ⌝ }
+    ensures { λ r. ⌜ Writes (now (text .entry)) at (between (now (s .entry)) from to) r (now (text .exit)) ⌝ }
+    ensures { λ r. ⌜ r ≤ at + (to - from) ⌝ }
+{
+    let mut i = from;
+    let mut end = at;
+    while i < to {
+        table::put_byte(text, end, s[i]);
+        i += 1;
+        end += 1;
+    }
+    end
+}
+
+fn put(b: u8, text: &mut [u8], at: usize) -> usize
+    requires { ⌜ at ≤ 1048576 ⌝ }
+    ensures { λ r. ⌜ Writes (now (text .entry)) at (b ∷ []) r (now (text .exit)) ⌝ }
+    ensures { λ r. ⌜ r ≤ at + 1 ⌝ }
+{
+    table::put_byte(text, at, b);
+    at + 1
+}
+
+// ---- numbers
+
+fn decimal_text(v: Wide, text: &mut [u8], at: usize) -> usize
+    requires { ⌜ at ≤ 1048576 ⌝ }
+    ensures { λ r. ⌜ Writes (now (text .entry)) at (spellDigits (decimal (valueOf v))) r (now (text .exit)) ⌝ }
+    ensures { λ r. ⌜ r ≤ at + 39 ⌝ }
+{
+    let mut digits = [0u8; 39];
+    let start = v.decimal(&mut digits);
+    copy(&digits, start, 39, text, at)
+}
+
+fn octet_text(n: u64, text: &mut [u8], at: usize) -> usize
+    requires { ⌜ at ≤ 1048576 ⌝ }
+    ensures { λ r. ⌜ Writes (now (text .entry)) at (spellDigits (decimal n)) r (now (text .exit)) ⌝ }
+    ensures { λ r. ⌜ r ≤ at + 39 ⌝ }
+{
+    let v = Wide { hi: 0, lo: n };
+    decimal_text(v, text, at)
+}
+
+// `0x` with lower case and no leading zeros.
+fn hex_text(v: Wide, text: &mut [u8], at: usize) -> usize
+    requires { ⌜ at ≤ 65536 ⌝ }
+    ensures { λ r. ⌜ Writes (now (text .entry)) at (48 ∷ 120 ∷ spellDigits (hexadecimal (valueOf v))) r (now (text .exit)) ⌝ }
+    ensures { λ r. ⌜ r ≤ at + 34 ⌝ }
+{
+    let mut digits = [0u8; 32];
+    let start = v.hexadecimal(&mut digits);
+    let a = put(48, text, at);
+    let b = put(120, text, a);
+    copy(&digits, start, 32, text, b)
+}
+
+// Four numbers with dots between.
+fn quad_text(address: u64, text: &mut [u8], at: usize) -> usize
+    requires { ⌜ at ≤ 65536 ⌝ }
+    ensures { λ r. ⌜ Writes (now (text .entry)) at (spellQuad address) r (now (text .exit)) ⌝ }
+    ensures { λ r. ⌜ r ≤ at + 159 ⌝ }
+{
+    let a = octet_text(address / 16777216 % 256, text, at);
+    let b = put(46, text, a);
+    let c = octet_text(address / 65536 % 256, text, b);
+    let d = put(46, text, c);
+    let e = octet_text(address / 256 % 256, text, d);
+    let f = put(46, text, e);
+    octet_text(address % 256, text, f)
+}
+
+// ---- strings
+
+// A body in its quotes.
+fn quoted_text(body: &[u8], text: &mut [u8], at: usize) -> usize
+    requires { ⌜ (length (now body) ≤ 65536) × (at ≤ 524288) ⌝ }
+    ensures { λ r. ⌜ Writes (now (text .entry)) at (quoted (now (body .entry))) r (now (text .exit)) ⌝ }
+    ensures { λ r. ⌜ r ≤ at + length (now (body .entry)) + 2 ⌝ }
+{
+    let a = put(34, text, at);
+    let b = copy(body, 0, body.len(), text, a);
+    put(34, text, b)
+}
+
+// A literal of a string whose text starts at `from`: with a space before it, unless it is the first.
+fn literal_text(body: &[u8], from: usize, text: &mut [u8], at: usize) -> usize
+    requires { ⌜ (length (now body) ≤ 65536) × (at ≤ 524287) ⌝ }
+    ensures { λ r. ⌜ Writes (now (text .entry)) at (literalText from at (now (body .entry))) r (now (text .exit)) ⌝ }
+    ensures { λ r. ⌜ r ≤ at + length (now (body .entry)) + 3 ⌝ }
+{
+    if at == from {
+        return quoted_text(body, text, at);
+    }
+    let a = put(32, text, at);
+    quoted_text(body, text, a)
+}
+
+// The literals among the lexemes of a part of the source, with one space between.
+fn literals(part: &[u8], text: &mut [u8], at: usize) -> usize
+    requires { ⌜ (length (now part) ≤ 65536) × (at ≤ 65536) ⌝ }
+    ensures { λ r. ⌜ Writes (now (text .entry)) at (literalsText (bodiesIn (now (part .entry)))) r (now (text .exit)) ⌝ }
+    ensures { λ r. ⌜ r ≤ at + 262144 ⌝ }
+{
+    let mut end = at;
+    let mut scanner = Scanner::new();
+    loop {
+        let step = scanner.next(part);
+        let Step::Found(found, next) = step else {
+            return end;
+        };
+        let kind = found.kind;
+        if let LexemeKind::Str = kind {
+            let body = scan::body(part, found.start, found.end);
+            end = literal_text(body, at, text, end);
+        }
+        scanner = next;
+    }
+}
+
+// ---- tokens
+
+// Punctuation of one byte.
+fn mark(kind: u64) -> u8
+    ensures { λ r. ⌜ r ≡ markOf kind ⌝ }
+{
+    match kind {
+        2 => 40,
+        3 => 41,
+        4 => 46,
+        6 => 58,
+        7 => 59,
+        8 => 61,
+        9 => 44,
+        _ => 47,
+    }
+}
+
+fn bool_text(low: u64, text: &mut [u8], at: usize) -> usize
+    requires { ⌜ at ≤ 65536 ⌝ }
+    ensures { λ r. ⌜ Writes (now (text .entry)) at (boolText low) r (now (text .exit)) ⌝ }
+    ensures { λ r. ⌜ r ≤ at + 6 ⌝ }
+{
+    if low == 0 {
+        return copy(b"false", 0, 5, text, at);
+    }
+    copy(b"true", 0, 4, text, at)
+}
+
+// Punctuation, keywords and booleans.
+fn fixed_text(kind: u64, low: u64, text: &mut [u8], at: usize) -> usize
+    requires { ⌜ at ≤ 65536 ⌝ }
+    ensures { λ r. ⌜ Writes (now (text .entry)) at (fixedText kind low) r (now (text .exit)) ⌝ }
+    ensures { λ r. ⌜ r ≤ at + 6 ⌝ }
+{
+    match kind {
+        5 => copy(b"::", 0, 2, text, at),
+        11 => copy(b"import", 0, 6, text, at),
+        12 => copy(b"let", 0, 3, text, at),
+        14 => bool_text(low, text, at),
+        _ => put(mark(kind), text, at),
+    }
+}
+
+// The token whose row starts at the word `row` of the table.
+fn token_text(source: &[u8], toks: &[u64], row: usize, text: &mut [u8], at: usize) -> usize
+    requires { ⌜ RowFits (now source) (now toks) row × (at ≤ 65536) ⌝ }
+    ensures { λ r. ⌜ Writes (now (text .entry)) at (rowText (now (source .entry)) (now (toks .entry)) row) r (now (text .exit)) ⌝ }
+    ensures { λ r. ⌜ r ≤ at + 262144 ⌝ }
+{
+    let kind = toks[row];
+    let start = toks[row + 3] as usize;
+    let end = toks[row + 4] as usize;
+    let low = toks[row + 5];
+    let high = toks[row + 6];
+    match kind {
+        13 => copy(source, start, end, text, at),
+        15 => quad_text(low, text, at),
+        16 => literals(&source[start..end], text, at),
+        17 => hex_text(Wide { hi: high, lo: low }, text, at),
+        18 => decimal_text(Wide { hi: high, lo: low }, text, at),
+        _ => fixed_text(kind, low, text, at),
+    }
+}
+
+// What stands between two tokens.
+fn separator(kind: u64, next: u64, text: &mut [u8], at: usize) -> usize
+    requires { ⌜ at ≤ 1048576 ⌝ }
+    ensures { λ r. ⌜ Writes (now (text .entry)) at (gapText kind next) r (now (text .exit)) ⌝ }
+    ensures { λ r. ⌜ r ≤ at + 1 ⌝ }
+{
+    if kind == 7 {
+        return put(10, text, at);
+    }
+    // nothing before `Eof`
+    if next == 1 {
+        return at;
+    }
+    put(32, text, at)
+}
+
+// The text of `count` tokens, of which the last is `Eof`. It stops early where the text is too long already.
+fn all_text(source: &[u8], toks: &[u64], count: usize, text: &mut [u8]) -> usize
+    requires { ⌜ Lexes (now source) (now toks) count ⌝ }
+    ensures { λ r. ⌜ WritesText (now (source .entry)) (now (text .entry)) r (now (text .exit)) ⌝ }
+{
+    let mut i = 1;
+    let mut at = 0;
+    while i < count {
+        if Scanner::MOST_BYTES < at {
+            return at;
+        }
+        let next = i * Lexer::ROW_WORDS;
+        let row = next - Lexer::ROW_WORDS;
+        let end = token_text(source, toks, row, text, at);
+        at = separator(toks[row], toks[next], text, end);
+        i += 1;
+    }
+    at
+}
+
+// ---- the entry
+
+fn refused(verdict: Verdict) -> Canonised
+    ensures { λ r. ⌜ r ≡ record { verdict = verdict; tokens = 0; bytes = 0 } ⌝ }
+{
+    Canonised {
+        verdict: verdict,
+        tokens: 0,
+        bytes: 0,
+    }
+}
+
+// Number 10: nothing stays in the token table, nor what is written of the text.
+fn too_long(toks: &mut [u64], written: &mut [u8]) -> Canonised
+    ensures { λ r. ⌜ r ≡ record { verdict = record { number = 10; kind = 0; line = 0; column = 0; character = 0 }; tokens = 0; bytes = 0 } ⌝ }
+    ensures { λ r. ⌜ now (toks .exit) ≡ padTo (length (now (toks .entry))) [] ⌝ }
+    ensures { λ r. ⌜ now (written .exit) ≡ padTo (length (now (written .entry))) [] ⌝ }
+{
+    table::clear(toks);
+    table::clear_bytes(written);
+    refused(Verdict::new(10, 0, 0))
+}
+
+// Lexes a source into a lent table of tokens, and writes its canonical text to a lent text.
+pub fn canonicalise(source: &[u8], toks: &mut [u64], text: &mut [u8]) -> Canonised
+    ensures { λ r. ⌜ CanonSource (now (source .entry)) (length (now (toks .entry))) (length (now (text .entry))) r (now (toks .exit)) (now (text .exit)) ⌝ }
+{
+    let room = text.len();
+    table::clear_bytes(text);
+    let lexed = lex::lex_source(source, toks);
+    let verdict = lexed.verdict;
+    if 0 < verdict.number {
+        return refused(verdict);
+    }
+    let size = all_text(source, toks, lexed.count as usize, text);
+    if room < size {
+        return too_long(toks, text);
+    }
+    if Scanner::MOST_BYTES < size {
+        return too_long(toks, text);
+    }
+    Canonised {
+        verdict: verdict,
+        tokens: lexed.count,
+        bytes: size as u64,
+    }
+}
