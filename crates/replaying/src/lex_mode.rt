@@ -33,18 +33,13 @@ fn row_at(table: &[u64], at: usize) -> Row
     }
 }
 
-// What stands before the body numbered `i`.
-fn mark(i: u64) -> u8 {
-    if i == 0 { b' ' } else { b',' }
-}
-
 fn body(source: &[u8], start: usize, end: usize, i: u64, out: &mut [u8], at: usize) -> usize {
-    let a = output::byte(out, at, mark(i));
+    let a = output::byte(out, at, b' ');
     let b = output::byte(out, a, b'x');
     output::hex(out, b, lex::string_body(source, start, end, i))
 }
 
-// The bodies of a string in hex.
+// The bodies of a string in hex, a space before each.
 fn bodies(source: &[u8], t: Token, out: &mut [u8], at: usize) -> usize {
     let start = t.start;
     let end = t.end;

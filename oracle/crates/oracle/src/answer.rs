@@ -63,7 +63,7 @@ fn string(out: &mut Out, bytes: &[u8], opts: Options) {
     }
     for (i, body) in bytes.split(|&b| b == b'\n').enumerate() {
         if i > 0 {
-            out.push(b',');
+            out.push(b' ');
         }
         hex(out, body);
     }
