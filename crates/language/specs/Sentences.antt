@@ -1,7 +1,6 @@
 -- Sentences (01, "Sentences"): the trees that a list of contents stands for, or the first token that is refused. Everything
 -- is named by the index of a token; past the end every token is `Eof`.
-use Prim.Native.Nat.{ℕ, zero, suc, _+_, _-_, _*_, _<_}
-use mathlib.Core.Path.{_≡_}
+use Prim.Native.Nat.{ℕ, zero, suc, _+_, _-_, _*_}
 use mathlib.Core.Bool.{Bool, true, false, _||_}
 use mathlib.Core.List.{List, [], _∷_, _++_}
 use lib.Dec.{eqb, leb}
@@ -316,60 +315,3 @@ nodeWidth = 5
 
 unfoldable pub nodeRow : Node → List ℕ
 nodeRow n = n .kind ∷ n .tok ∷ n .first ∷ n .second ∷ n .third ∷ []
-
--- ---- the claims
-
-module _ (ts : List Content) where
-  -- the equations that a reader expects of each repetition, with no bound on its turns
-
-  abbrev pub names : ℕ → ℕ → ℕ → Out ℕ
-  names n at s = namesFrom ts (suc (length ts)) n at s
-
-  abbrev pub NamesUnfold : Type 0
-  NamesUnfold =
-      (n at s : ℕ)
-      → names n at s
-      ≡ if′ (is ts at (plain doubleColon)) (if′ (isName ts (at + 1)) (names (n + 1) (at + 2) s) (unexpected (at + 1))) (ok n at s)
-
-  abbrev pub slashesAt : ℕ → Expr → ℕ → ℕ → Out Expr
-  slashesAt d e at s = slashes ts (chainAt ts d) (suc mostSteps) e at s
-
-  -- with steps left, and with none
-  abbrev pub SlashesUnfold : Type 0
-  SlashesUnfold =
-      (d : ℕ) (e : Expr) (at s : ℕ)
-      → (s < mostSteps → slashesAt d e at (suc s)
-      ≡ if′ (is ts at (plain slash)) (andThen (chainAt ts d s (at + 1)) (λ r next left. slashesAt d (slash′ e r) next left)) (ok e at (suc s)))
-      × (slashesAt d e at 0 ≡ if′ (is ts at (plain slash)) (tooDeep at) (ok e at 0))
-
-  abbrev pub argsAt : ℕ → Args → ℕ → Out Args
-  argsAt d g at = argsOf ts (exprAt ts d) (suc (length ts)) g at
-
-  abbrev pub ArgsUnfold : Type 0
-  ArgsUnfold =
-      (d : ℕ) (g : Args) (at : ℕ)
-      → argsAt d g at
-      ≡ if′ (is ts at (plain rParen)) (ok g (at + 1) 0)
-      (andThen (argOf ts (exprAt ts d) g at) (λ h next x.
-      if′ (is ts next (plain comma)) (argsAt d h (next + 1))
-      (if′ (is ts next (plain rParen)) (ok h (next + 1) 0) (unexpected next))))
-
-  abbrev pub stmts : List Stmt → ℕ → Out (List Stmt)
-  stmts ss at = stmtsFrom ts (suc (length ts)) ss at
-
-  abbrev pub StmtsUnfold : Type 0
-  StmtsUnfold =
-      (ss : List Stmt) (at : ℕ)
-      → stmts ss at ≡ if′ (is ts at eof) (ok ss at 0) (andThen (stmtAt ts at) (λ s next x. stmts (ss ++ s ∷ []) next))
-
-  -- an expression stands at its first token
-  abbrev pub StandsFirst : Type 0
-  StandsFirst = (d at next s : ℕ) (e : Expr) → exprAt ts d at ≡ ok e next s → firstOf e ≡ at
-
--- the rows determine the trees
-abbrev pub NodesDetermine : Type 0
-NodesDetermine = (ss us : List Stmt) → nodes ss ≡ nodes us → ss ≡ us
-
--- there are as many nodes as 01 counts: per statement, expression, argument, and path name after the first
-abbrev pub NodesCounted : Type 0
-NodesCounted = (k : ℕ) (e : Expr) → length (exprNodes k e) ≡ exprSize e
