@@ -26,4 +26,5 @@ pub mod CanonicalLines
 pub mod CanonicalJoin
 pub mod CanonicalText
 pub mod Canonical
+pub mod Done
 pub mod SentenceExamples
