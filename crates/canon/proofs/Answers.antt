@@ -4,61 +4,27 @@ use mathlib.Core.Path.{_≡_, refl, sym, ap, _∙_}
 use mathlib.Core.Bool.{false}
 use mathlib.Core.List.{List, []}
 use mathlib.Core.Logic.{_⊎_, inl, inr}
-use mathlib.Core.Option.{Option, none, some}
 use native.Mathlib.Decide.{decLe}
 use native.Mathlib.Omega.{arith}
 use borrow.Author.Tests.{lt-ltb, le-ltb, ne-eqb}
 use lib.Dec.{eqb}
 use lib.ListN.{length}
 use Rattle.table.specs.Table.{padTo, tabled}
-use Rattle.table.proofs.Laws.{length-pad, length-tabled, tabled-own, tabled-none}
-use Rattle.language.specs.Utf8.{firstBad}
+use Rattle.table.proofs.Laws.{length-pad, length-tabled, tabled-none}
 use Rattle.language.specs.Tables.{tokenRow, tokenWidth}
-use Rattle.language.specs.Tokens.{items, Wrong, firstWrong, tokens, placeOf}
+use Rattle.language.specs.Tokens.{tokens}
 use Rattle.language.specs.Canonical.{text}
 use Rattle.language.specs.Numbers as numbers
-use Rattle.language.specs.Numbers.{verdict, placed, lexed, lexical, lexAnswer, lexTable, canonised, canonisedWithin, canonAnswer, canonTokens, canonText}
-use Rattle.utf8.specs.Decoding.{badOf}
-use Rattle.utf8.specs.declared.Bad.the-variants.{Nowhere}
+use Rattle.language.specs.Numbers.{verdict, lexed, lexAnswer, lexTable, canonised, canonisedWithin, canonAnswer, canonTokens, canonText}
+use Rattle.language.proofs.Done.{LexesIn, lex-done, lex-done-only, lex-leaves, canon-done}
 use Rattle.scan.specs.declared.Verdict.{Verdict}
 use Rattle.scan.specs.Scanning.{verdictAs}
 use Rattle.lex.specs.declared.Lexed.{Lexed}
 use Rattle.lex.specs.Entry.{LexSource}
-use Rattle.lex.proofs.Answers as lexing
 use Rattle.canon.specs.declared.Canonised.{Canonised}
 use Rattle.canon.specs.Writing.{Lexes, WritesText}
 use Rattle.canon.specs.Entry.{CanonSource}
-
--- ---- number 0 says that all tokens are there
-
-record Whole (s : List ℕ) (room : ℕ) : Type 0 where
-  is : lexAnswer s room ≡ lexed (verdict 0 0 0) (length (tokens s))
-  fits : length (tokens s) ≤ room
-  short : length s ≤ 65536
-
-module _ (s : List ℕ) (room : ℕ) (z : lexAnswer s room .verdict .number ≡ 0) where
-  -- it is no other number
-  other : (v : numbers.Verdict) → lexAnswer s room ≡ lexed v 0 → (v .number ≡ 0 → ⊥) → Whole s room
-  other v e h = absurd (h (sym (ap (λ (a : numbers.Lexed). a .verdict .number) e) ∙ z))
-
-  no-wrong : length s ≤ 65536 → Nowhere ≡ badOf (firstBad s) → (o : Option Wrong) → firstWrong (items s) ≡ o → Whole s room
-  no-wrong h e (some w) f = other (lexical w) (lexing.wrong-one s room h e w f) (λ k. omega arith)
-  no-wrong h e none f =
-      elim (decLe (length (tokens s)) room) [
-        | yes m ↦ record { is = lexing.fits s room h e f (length (tokens s)) refl m; fits = m; short = h }
-        | no m ↦ other (verdict 4 0 0) (lexing.full s room h e f (length (tokens s)) refl (omega arith)) (λ k. omega arith)
-      ]
-
-  no-bad : length s ≤ 65536 → (o : Option ℕ) → firstBad s ≡ o → Whole s room
-  no-bad h (some at) e = other (placed 2 (placeOf s at)) (lexing.bad-byte s room h at (rw e)) (λ k. omega arith)
-  no-bad h none e = no-wrong h (rw e) (firstWrong (items s)) refl
-
-  whole : Whole s room
-  whole =
-      elim (decLe (length s) 65536) [
-        | yes h ↦ no-bad h (firstBad s) refl
-        | no h ↦ other (verdict 1 0 0) (lexing.too-long s room (omega arith)) (λ k. omega arith)
-      ]
+use Rattle.canon.proofs.Rows.{holds}
 
 -- ---- the result, and both tables
 
@@ -104,31 +70,27 @@ module _ (s : List ℕ) (t n : ℕ) where
 
     -- where it does not
     module _ (h : l .verdict .number ≤ 0) where
-      w : Whole s (t / tokenWidth)
-      w = whole s (t / tokenWidth) (omega (arith, number-is))
+      w : LexesIn s (t / tokenWidth)
+      w = lex-done-only s (t / tokenWidth) (omega (arith, number-is))
+
+      is : lexes-to ≡ lexed (verdict 0 0 0) (length (tokens s))
+      is = lex-done s (t / tokenWidth) w
 
       counted : l .count ≡ length (tokens s)
-      counted = ap (λ (a : Lexed). a .count) (x .answer) ∙ ap (λ (a : numbers.Lexed). a .count) (w .is)
+      counted = ap (λ (a : Lexed). a .count) (x .answer) ∙ ap (λ (a : numbers.Lexed). a .count) is
 
       rows : toks ≡ tabled tokenRow tokenWidth t (tokens s)
-      unfolding lexTable
-      rows = x .table ∙ rw (w .is)
+      rows = x .table ∙ lex-leaves s t w
 
       table-size : length toks ≡ t
       table-size = ap length rows ∙ length-tabled tokenRow tokenWidth t (tokens s)
 
       pub lexes : Lexes s toks (l .count)
-      lexes =
-          record {
-            rows = tabled-own tokenRow tokenWidth t (length toks) (tokens s) rows refl;
-            counted = counted;
-            room = rw (counted, table-size) (w .fits);
-            short = w .short;
-          }
+      lexes = holds s t w rows counted
 
       judged : answer ≡ canonisedWithin n (length (tokens s)) (length (text s))
       unfolding canonAnswer
-      judged = rw (w .is)
+      judged = rw is
 
       -- the text is written to z, which was all zero
       module _ {z u : List ℕ} {size : ℕ} (y : z ≡ padTo n []) (g : WritesText s z size u) where
@@ -159,12 +121,13 @@ module _ (s : List ℕ) (t n : ℕ) where
           fits =
               let a : length (text s) ≤ n = omega (arith, all) in
               let b : length (text s) ≤ 65536 = omega (arith, all) in
-              judged ∙ rw (le-ltb _ _ a, le-ltb _ _ b)
+              canon-done s (t / tokenWidth) n
+              (record { fits = record { lexes = w .lexes; short = b }; tokens = w .fit; bytes = a })
 
           pub accepted : CanonSource s t n (result (l .verdict) (l .count) size) toks u
           unfolding canonTokens canonText
           accepted =
-              let v : l .verdict ≡ verdictAs (verdict 0 0 0) = verdict-is ∙ rw (w .is) in
+              let v : l .verdict ≡ verdictAs (verdict 0 0 0) = verdict-is ∙ rw is in
               let zero : z ≡ padTo (length z) [] = y ∙ rw text-size in
               record {
                 answer = rw (fits, v, counted, all);

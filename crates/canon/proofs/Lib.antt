@@ -4,6 +4,7 @@ pub mod Spelling
 pub mod Digits
 pub mod Strings
 pub mod Contents
+pub mod Rows
 pub mod Texts
 pub mod Answers
 pub mod Entry

@@ -1,0 +1,113 @@
+-- The rows of a table that holds all tokens of a source, and which bytes of its text each stands for.
+use Prim.Native.Nat.{ℕ, zero, suc, _+_, _*_, _/_, _≤_, _<_}
+use mathlib.Core.Path.{_≡_, refl, ap, _∙_}
+use mathlib.Core.List.{List, [], _∷_, List·Memᴰ, List·Memᴰ·head, List·Memᴰ·tail}
+use mathlib.Core.Option.{none}
+use native.Mathlib.Omega.{arith}
+use lib.ListN.{length, getD, length-append, List·getD-append}
+use Rattle.table.specs.Table.{tabled}
+use Rattle.table.proofs.Laws.{length-tabled, tabled-own, tabled-word, tabled-past}
+use Rattle.language.specs.Tables.{tokenRow, tokenWidth, contentKind, contentLow, contentHigh}
+use Rattle.language.specs.Tokens.{Token, items, tokensFrom, eofToken, tokens, between}
+use Rattle.language.specs.Canonical.{spell}
+use Rattle.language.proofs.TokenClaims.{places-right, names-held, bodies-held}
+use Rattle.language.proofs.Done.{LexesIn}
+use Rattle.canon.specs.Writing.{rowText, RowFits, Lexes}
+use Rattle.canon.proofs.Contents.{content-text, token-spelt}
+
+member : (ts : List Token) (i : ℕ) (d : Token) → i < length ts → List·Memᴰ (getD ts i d) ts
+member [] i d h = absurd (omega arith)
+member (t ∷ ts) zero d h = List·Memᴰ·head refl
+member (t ∷ ts) (suc i) d h = List·Memᴰ·tail (member ts i d (omega arith))
+
+row-width : (t : Token) → length (tokenRow t) ≡ tokenWidth
+unfolding tokenRow
+row-width t = refl
+
+-- a table of n words that has room for them, as lexing leaves it
+pub holds : (s : List ℕ) (n : ℕ) {toks : List ℕ} {count : ℕ} → LexesIn s (n / tokenWidth)
+    → toks ≡ tabled tokenRow tokenWidth n (tokens s) → count ≡ length (tokens s) → Lexes s toks count
+holds s n {toks} h e c =
+    let l : length toks ≡ n = ap length e ∙ length-tabled tokenRow tokenWidth n (tokens s) in
+    record {
+      rows = tabled-own tokenRow tokenWidth n (length toks) (tokens s) e refl;
+      counted = c;
+      room = rw (c, l) (h .fit);
+      short = h .lexes .short;
+    }
+
+-- the tokens before the end
+abbrev pub before : List ℕ → List Token
+before s = tokensFrom none (items s)
+
+abbrev pub tokenAt : List ℕ → ℕ → Token
+tokenAt s i = getD (tokens s) i (eofToken s)
+
+-- a row of a token of the source
+pub record RowIs (s toks : List ℕ) (row : ℕ) (t : Token) : Type 0 where
+  pub listed : List·Memᴰ t (tokens s)
+  pub kind : getD toks row 0 ≡ contentKind (t .content)
+  pub start : getD toks (row + 3) 0 ≡ t .start
+  pub end : getD toks (row + 4) 0 ≡ t .end
+  pub low : getD toks (row + 5) 0 ≡ contentLow (t .content)
+  pub high : getD toks (row + 6) 0 ≡ contentHigh (t .content)
+
+module _ (s toks : List ℕ) (count : ℕ) (h : Lexes s toks count) where
+  pub counted : count ≡ suc (length (before s))
+  unfolding tokens
+  counted = h .counted ∙ length-append (before s) (eofToken s ∷ []) ∙ omega arith
+
+  all-fit : length (tokens s) ≤ length toks / tokenWidth
+  all-fit = omega (arith, h .room, h .counted)
+
+  -- past the last row all is zero
+  pub row-past : (i j : ℕ) → count ≤ i → getD toks (tokenWidth * i + j) 0 ≡ 0
+  row-past i j m =
+      ap (λ (x : List ℕ). getD x (tokenWidth * i + j) 0) (h .rows)
+      ∙ tabled-past tokenRow tokenWidth row-width (length toks) (tokens s) all-fit i j (omega (arith, h .counted))
+
+  -- the token numbered i
+  module _ (i : ℕ) (m : i < count) {row : ℕ} (r : row ≡ tokenWidth * i) where
+    word-at : (j : ℕ) → j < tokenWidth → {k : ℕ} → k ≡ row + j → getD toks k 0 ≡ getD (tokenRow (tokenAt s i)) j 0
+    word-at j b {k} e =
+        let e′ : k ≡ tokenWidth * i + j = omega arith in
+        ap (λ (x : List ℕ). getD x k 0) (h .rows)
+        ∙ rw e′ (tabled-word tokenRow tokenWidth row-width (length toks) (tokens s) all-fit i j (omega (arith, h .counted)) b
+        (eofToken s))
+
+    pub row-is : RowIs s toks row (tokenAt s i)
+    unfolding tokenRow
+    row-is =
+        record {
+          listed = member (tokens s) i (eofToken s) (omega (arith, h .counted));
+          kind = word-at 0 (omega arith) (omega arith);
+          start = word-at 3 (omega arith) refl;
+          end = word-at 4 (omega arith) refl;
+          low = word-at 5 (omega arith) refl;
+          high = word-at 6 (omega arith) refl;
+        }
+
+    -- it is not the end
+    module _ (l : i < length (before s)) where
+      abbrev x : Token
+      x = tokenAt s i
+
+      is-before : List·Memᴰ x (before s)
+      unfolding tokens
+      is-before = rw (List·getD-append (before s) (eofToken s ∷ []) (eofToken s) i l) (member (before s) i (eofToken s) l)
+
+      -- what the calls ask for
+      pub fits : RowFits s toks row
+      fits =
+          let p = places-right s x is-before in
+          let w = row-is in
+          record { room = omega (arith, h .room); forth = omega (arith, p .2); within = omega (arith, p .3); short = h .short }
+
+      pub row-text : rowText s toks row ≡ spell (x .content)
+      row-text =
+          let w = row-is in
+          let span : between s (getD toks (row + 3) 0) (getD toks (row + 4) 0) ≡ between s (x .start) (x .end) =
+          rw (w .start, w .end) in
+          rw (span, w .kind, w .low, w .high)
+          (content-text (x .content) (between s (x .start) (x .end)) (token-spelt s x is-before)
+          (λ bs e. names-held s x bs (w .listed) e) (λ b bs e. bodies-held s x b bs (w .listed) e))
