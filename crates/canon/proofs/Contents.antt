@@ -7,9 +7,10 @@ use mathlib.Core.Logic.{inl, inr}
 use mathlib.Core.Option.{Option, none, some}
 use native.Mathlib.Nat.{div-add-mod'}
 use native.Mathlib.Omega.{arith}
+use borrow.Author.Tests.{eqb-false}
 use lib.Dec.{eqb}
 use Rattle.language.specs.Lexemes.{Tok, lParen, rParen, dot, doubleColon, colon, semiColon, equals, comma, slash, importKeyword, letKeyword, identifier, booleanLiteral, ipv4Literal, hexLiteral, decLiteral, Kind, trivia, str, tok, error, Placed, scan}
-use Rattle.language.specs.Tokens.{Content, eof, plain, name, string, Token, Line, Piece, contentOf, pieceOf, Item, items, itemOf, itemsFrom, lines, Pending, flushed, stepped, tokensFrom, bodiesIn}
+use Rattle.language.specs.Tokens.{Content, eof, plain, name, string, Token, Line, Piece, contentOf, pieceOf, Item, items, itemOf, itemsFrom, lines, Pending, flushed, stepped, tokensFrom, tokens, bodiesIn}
 use Rattle.language.specs.Tables.{word, tokKind, tokLow, tokHigh, contentKind, contentLow, contentHigh}
 use Rattle.language.specs.Canonical.{spellTok, spell, isSemi, endsLine, after}
 use Rattle.canon.specs.Writing.{markOf, fixedText, kindText, gapText}
@@ -17,28 +18,28 @@ use Rattle.canon.specs.Writing.{markOf, fixedText, kindText, gapText}
 -- ---- what follows a token
 
 -- what the number of a token's kind tells
-kind-tells : (t : Tok) → (eqb (tokKind t) 7 ≡ isSemi t) × (eqb (tokKind t) 1 ≡ false)
+kind-tells : (t : Tok) → (eqb (tokKind t) 7 ≡ isSemi t) × (eqb (tokKind t) 1 ≡ false) × (eqb (tokKind t) 16 ≡ false)
 kind-tells t =
     elim t [
-      | lParen ↦ (refl, refl)
-      | rParen ↦ (refl, refl)
-      | dot ↦ (refl, refl)
-      | doubleColon ↦ (refl, refl)
-      | colon ↦ (refl, refl)
-      | semiColon ↦ (refl, refl)
-      | equals ↦ (refl, refl)
-      | comma ↦ (refl, refl)
-      | slash ↦ (refl, refl)
-      | importKeyword ↦ (refl, refl)
-      | letKeyword ↦ (refl, refl)
-      | identifier ↦ (refl, refl)
-      | booleanLiteral b ↦ (refl, refl)
-      | ipv4Literal n ↦ (refl, refl)
-      | hexLiteral n ↦ (refl, refl)
-      | decLiteral n ↦ (refl, refl)
+      | lParen ↦ (refl, refl, refl)
+      | rParen ↦ (refl, refl, refl)
+      | dot ↦ (refl, refl, refl)
+      | doubleColon ↦ (refl, refl, refl)
+      | colon ↦ (refl, refl, refl)
+      | semiColon ↦ (refl, refl, refl)
+      | equals ↦ (refl, refl, refl)
+      | comma ↦ (refl, refl, refl)
+      | slash ↦ (refl, refl, refl)
+      | importKeyword ↦ (refl, refl, refl)
+      | letKeyword ↦ (refl, refl, refl)
+      | identifier ↦ (refl, refl, refl)
+      | booleanLiteral b ↦ (refl, refl, refl)
+      | ipv4Literal n ↦ (refl, refl, refl)
+      | hexLiteral n ↦ (refl, refl, refl)
+      | decLiteral n ↦ (refl, refl, refl)
     ]
 
-ends-line : (c : Content) → eqb (contentKind c) 7 ≡ endsLine c
+pub ends-line : (c : Content) → eqb (contentKind c) 7 ≡ endsLine c
 ends-line eof = refl
 ends-line (plain t) = kind-tells t .0
 ends-line (name bs) = refl
@@ -153,3 +154,25 @@ all-spelt p (i ∷ is) ((k, bs, e), w) t m =
 pub token-spelt : (s : List ℕ) (t : Token) → List·Memᴰ t (tokensFrom none (items s)) → Spelt (t .content)
 unfolding items
 token-spelt s t m = all-spelt none (itemsFrom 1 (lines s)) (items-made 1 (lines s)) t m
+
+-- which contents have the kinds of names and strings
+pub name-kind : (s : List ℕ) (t : Token) → List·Memᴰ t (tokens s) → contentKind (t .content) ≡ 13
+    → (bs : List ℕ) × (t .content ≡ name bs)
+unfolding tokens
+name-kind s t m k =
+    elim (List·Memᴰ·append-cases (tokensFrom none (items s)) m) [
+      | inl n ↦ spelt (t .content) (token-spelt s t n) k
+      | inr n ↦ absurd (omega (arith, rw (List·Memᴰ·eq-of-singleton n) at k))
+    ]
+  where
+    spelt : (c : Content) → Spelt c → contentKind c ≡ 13 → (bs : List ℕ) × (c ≡ name bs)
+    spelt eof h e = absurd h
+    spelt (plain t) h e = absurd (h e)
+    spelt (name bs) h e = (bs, refl)
+    spelt (string b bs) h e = absurd (omega arith)
+
+pub string-kind : (c : Content) → contentKind c ≡ 16 → (b : List ℕ) × (bs : List (List ℕ)) × (c ≡ string b bs)
+string-kind eof e = absurd (omega arith)
+string-kind (plain t) e = absurd (eqb-false _ _ (kind-tells t .2) e)
+string-kind (name bs) e = absurd (omega arith)
+string-kind (string b bs) e = (b, bs, refl)

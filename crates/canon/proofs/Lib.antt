@@ -8,3 +8,5 @@ pub mod Rows
 pub mod Texts
 pub mod Answers
 pub mod Entry
+pub mod SameRows
+pub mod Joined
