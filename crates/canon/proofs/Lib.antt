@@ -8,5 +8,3 @@ pub mod Rows
 pub mod Texts
 pub mod Answers
 pub mod Entry
-pub mod SameRows
-pub mod Joined

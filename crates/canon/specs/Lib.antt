@@ -1,3 +1,2 @@
 pub mod Writing
 pub mod Entry
-pub mod Joined

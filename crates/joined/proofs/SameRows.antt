@@ -19,10 +19,10 @@ use Rattle.language.proofs.TokenClaims.{places-right, names-held, bodies-held}
 use Rattle.language.proofs.TokenContents.{contents-decide}
 use Rattle.lex.specs.Lexing.{nth, bodyAt}
 use Rattle.lex.proofs.Bodies.{some-part}
 use Rattle.canon.specs.Writing.{kindText, rowText, Lexes}
-use Rattle.canon.specs.Joined.{SameRow, SameRows}
+use Rattle.joined.specs.Canonical.{SameRow, SameRows}
 use Rattle.canon.proofs.Contents.{ends-line, gap-is, name-kind, string-kind}
 use Rattle.canon.proofs.Rows.{before, counted, tokenAt, RowIs, row-past, row-is, row-text}
 
 -- ---- bodies
 

@@ -1,4 +1,4 @@
--- The proofs of the claims of specs/Joined.antt.
+-- The proofs of the claims of specs/Canonical.antt.
 use Prim.Native.Nat.{ℕ, _/_}
 use mathlib.Core.Path.{_≡_, sym, ap, _∙_}
 use mathlib.Core.List.{List}
@@ -15,12 +15,12 @@ use Rattle.language.proofs.Done.{lex-done, lex-leaves, FitsIn, lexes-in, canon-
 use Rattle.lex.specs.declared.Lexed.{Lexed}
 use Rattle.lex.specs.Lexing.{lexedAs}
 use Rattle.lex.specs.Entry.{LexSource}
 use Rattle.canon.specs.declared.Canonised.{Canonised}
 use Rattle.canon.specs.Writing.{Lexes}
 use Rattle.canon.specs.Entry.{canonisedAs, CanonSource}
-use Rattle.canon.specs.Joined.{Done, textLeft, SameRows, DoneExactly, TextLexes, TextStays, SameTexts, SameTables}
+use Rattle.joined.specs.Canonical.{Done, textLeft, SameRows, DoneExactly, TextLexes, TextStays, SameTexts, SameTables}
 use Rattle.canon.proofs.Rows.{holds}
-use Rattle.canon.proofs.SameRows.{same-rows, same-written}
+use Rattle.joined.proofs.SameRows.{same-rows, same-written}
 
 -- ---- what a call that is done left
 
