@@ -1,18 +1,24 @@
-// The first line of the input: a mode, and the rows of each table that it lends.
+// The first line of the input: a mode, and the room of each table that it lends.
 ghost use Prim.Native.Nat.{_≤_};
 ghost use lib.ListN.{length};
 use crate::input::digit;
 
 pub enum Mode {
+    // rows
     Scan,
+    // rows
     Lex,
+    // rows of tokens, and bytes of text
+    Canon,
+    // rows of tokens, and rows of nodes
+    Parse,
     // the line is not understood, or has not as many numbers as the mode has tables
     Unknown,
 }
 
 // The numbers of the line, in their order, and how many there are: 5 where the line is not understood.
 pub struct Rooms {
-    pub rows: [u64; 4],
+    pub numbers: [u64; 4],
     pub count: usize,
 }
 
@@ -64,10 +70,16 @@ fn mode_of(name: &[u8]) -> Mode {
     if same(name, b"lex") {
         return Mode::Lex;
     }
+    if same(name, b"canon") {
+        return Mode::Canon;
+    }
+    if same(name, b"parse") {
+        return Mode::Parse;
+    }
     Mode::Unknown
 }
 
-// A number of rows that no array here reaches counts as this one.
+// A room that no array here reaches counts as this one.
 fn cut(n: u64) -> u64
     ensures { λ r. ⌜ r ≤ 1000000 ⌝ }
 {
@@ -95,7 +107,7 @@ fn number_of(text: &[u8]) -> Number {
 fn rooms_of(line: &[u8], from: usize) -> Rooms
     requires { ⌜ from ≤ length (now line) ⌝ }
 {
-    let mut rows = [0u64; 4];
+    let mut numbers = [0u64; 4];
     let mut count: usize = 0;
     let mut at = from;
     while at < line.len() {
@@ -107,19 +119,19 @@ fn rooms_of(line: &[u8], from: usize) -> Rooms
         if 3 < count {
             return no_rooms();
         }
-        rows[count] = n;
+        numbers[count] = n;
         count += 1;
         at = end;
     }
     Rooms {
-        rows: rows,
+        numbers: numbers,
         count: count,
     }
 }
 
 fn no_rooms() -> Rooms {
     Rooms {
-        rows: [0; 4],
+        numbers: [0; 4],
         count: 5,
     }
 }
@@ -132,9 +144,20 @@ fn unknown() -> Header {
     }
 }
 
-// The mode, if the line has one number: so many tables each mode has.
+// How many tables a mode lends.
+fn tables(mode: Mode) -> usize {
+    match mode {
+        Mode::Scan => 1,
+        Mode::Lex => 1,
+        Mode::Canon => 2,
+        Mode::Parse => 2,
+        Mode::Unknown => 0,
+    }
+}
+
+// The mode, if the line has a number for each of its tables.
 fn with_rooms(mode: Mode, rooms: Rooms) -> Mode {
-    if rooms.count == 1 {
+    if rooms.count == tables(mode) {
         return mode;
     }
     Mode::Unknown

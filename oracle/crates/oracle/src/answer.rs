@@ -15,7 +15,7 @@ use resynth::stdlib::{STDLIB, WIDE};
 use resynth::str::{Buf, StringLiteralErrorKind};
 use resynth::{Held, call_parts, hold, token};
 
-use crate::bounds;
+use crate::{bounds, canon};
 
 pub type Out = Vec<u8>;
 
@@ -310,6 +310,25 @@ pub fn lex(out: &mut Out, src: &[u8], opts: Options) {
                 tok(out, t.tok(), opts);
                 out.push(b'\n');
             }
+        }
+        Err(err) => refusal(out, &err),
+    }
+}
+
+/// The canonical text of the raw tokens
+fn canonical(src: &[u8], opts: Options) -> Result<Vec<u8>> {
+    let text = canon::text(&tokens(src, Options { raw: true, ..opts })?);
+    if opts.bounds && bounds::too_long(&text) {
+        return Err(Refusal::Bound(10, Loc::nil()));
+    }
+    Ok(text)
+}
+
+pub fn canon(out: &mut Out, src: &[u8], opts: Options) {
+    match canonical(src, opts) {
+        Ok(text) => {
+            hex(out, &text);
+            out.push(b'\n');
         }
         Err(err) => refusal(out, &err),
     }

@@ -1,5 +1,5 @@
-//! The refusals that resynth does not have, counted over its tokens and trees: a source, lists,
-//! steps and names beyond the stated sizes, and a call where none is checked.
+//! The refusals that resynth does not have, counted over its tokens and trees: a source, canonical
+//! text, lists, steps and names beyond the stated sizes, and a call where none is checked.
 
 use std::collections::{HashSet, VecDeque};
 
@@ -7,15 +7,16 @@ use resynth::ast::Stmt;
 use resynth::lex::{Tok, Token};
 use resynth::loc::Loc;
 
-const SOURCE: usize = 65_536;
+/// Of a source, and of canonical text
+const BYTES: usize = 65_536;
 const LISTS: usize = 32;
 const STEPS: usize = 64;
 const LETS: usize = 512;
 const IMPORTS: usize = 64;
 
-/// Number 1
-pub fn too_long(src: &[u8]) -> bool {
-    src.len() > SOURCE
+/// Number 1, and number 10 of canonical text
+pub fn too_long(text: &[u8]) -> bool {
+    text.len() > BYTES
 }
 
 /// Number 7: a list too many or a step too many, among the tokens before `stop`, where the parser

@@ -2,6 +2,7 @@
 
 mod answer;
 mod bounds;
+mod canon;
 mod generate;
 mod selfcheck;
 mod text;
@@ -12,7 +13,8 @@ use std::process::ExitCode;
 
 use answer::{Options, Out};
 
-const USAGE: &str = "usage: oracle scan|lex|parse|check|decode [batch] [--raw] [--wide] [--bounds]
+const USAGE: &str =
+    "usage: oracle scan|lex|parse|check|canon|decode [batch] [--raw] [--wide] [--bounds]
        oracle gen KIND SEED COUNT
        oracle samples FILE
        oracle self SEED COUNT
@@ -29,6 +31,7 @@ pub fn mode(name: &str) -> Option<Mode> {
         "lex" => answer::lex,
         "parse" => answer::parse,
         "check" => answer::check,
+        "canon" => answer::canon,
         "decode" => |out, src, _| answer::decode(out, src),
         _ => return None,
     })

@@ -6,10 +6,10 @@ use Rattle.printing.proofs.header.rooms_of.Statement.{statement}
 use Rattle.printing.proofs.header.rooms_of.Tie as tie
 
 abbrev Inv-loop : tie.InvT-loop
-Inv-loop line from rows₀ count₀ at₀ rows count at = (at ≤ length line) × (count ≤ 4)
+Inv-loop line from numbers₀ count₀ at₀ numbers count at = (at ≤ length line) × (count ≤ 4)
 
 abbrev μ-loop : tie.MeasureT-loop
-μ-loop line from rows₀ count₀ at₀ rows count at = length line - at
+μ-loop line from numbers₀ count₀ at₀ numbers count at = length line - at
 
 loop-holds : tie.Need-loop-holds Inv-loop μ-loop
 loop-holds c = search needs
@@ -50,11 +50,11 @@ no-rooms-requires-2 c κs = search needs
 returns-2 : tie.Need-returns-2 Inv-loop μ-loop
 returns-2 c = search needs
 
-mul-rows : tie.Need-mul-rows Inv-loop μ-loop
-mul-rows c = search needs
+mul-numbers : tie.Need-mul-numbers Inv-loop μ-loop
+mul-numbers c = search needs
 
-array-write-rows : tie.Need-array-write-rows Inv-loop μ-loop
-array-write-rows c = search needs
+array-write-numbers : tie.Need-array-write-numbers Inv-loop μ-loop
+array-write-numbers c = search needs
 
 add-count : tie.Need-add-count Inv-loop μ-loop
 add-count c = search needs
@@ -87,8 +87,8 @@ rooms-of-spec =
     returns
     no-rooms-requires-2
     returns-2
-    mul-rows
-    array-write-rows
+    mul-numbers
+    array-write-numbers
     add-count
     loop-less
     loop-again

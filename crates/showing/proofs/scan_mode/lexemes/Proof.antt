@@ -3,8 +3,8 @@ use mathlib.Core.Path.{_≡_}
 use Prim.Native.Nat.{_≤_}
 use lib.ListN.{length}
 use borrow.Author.Needs.{needs}
-use Rattle.replaying.proofs.lex_mode.tokens.Statement.{statement}
-use Rattle.replaying.proofs.lex_mode.tokens.Tie as tie
+use Rattle.showing.proofs.scan_mode.lexemes.Statement.{statement}
+use Rattle.showing.proofs.scan_mode.lexemes.Tie as tie
 
 abbrev Inv-loop : tie.InvT-loop
 Inv-loop source table count out₀ at p₀ left₀ word₀ out p left word = (word ≤ length table) × (length out ≡ length out₀)
@@ -27,8 +27,8 @@ returns c = search needs
 row-at-requires : tie.Need-row-at-requires Inv-loop μ-loop
 row-at-requires c κs = search needs
 
-line-of-requires : tie.Need-line-of-requires Inv-loop μ-loop
-line-of-requires c κs = search needs
+lexeme-requires : tie.Need-lexeme-requires Inv-loop μ-loop
+lexeme-requires c κs = search needs
 
 add-word : tie.Need-add-word Inv-loop μ-loop
 add-word c = search needs
@@ -48,8 +48,8 @@ same-length-2 c = search needs
 returns-2 : tie.Need-returns-2 Inv-loop μ-loop
 returns-2 c = search needs
 
-pub tokens-spec : {M : Type 1} → statement M
-tokens-spec =
+pub lexemes-spec : {M : Type 1} → statement M
+lexemes-spec =
     tie.close
     (tie.spec
     Inv-loop
@@ -59,7 +59,7 @@ tokens-spec =
     same-length
     returns
     row-at-requires
-    line-of-requires
+    lexeme-requires
     add-word
     sub-left
     loop-less

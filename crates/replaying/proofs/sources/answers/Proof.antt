@@ -2,14 +2,20 @@
 use mathlib.Core.Path.{_≡_}
 use lib.ListN.{length}
 use borrow.Author.Needs.{needs}
-use Rattle.replaying.proofs.one_table.answers.Statement.{statement}
-use Rattle.replaying.proofs.one_table.answers.Tie as tie
+use Rattle.replaying.proofs.sources.answers.Statement.{statement}
+use Rattle.replaying.proofs.sources.answers.Tie as tie
 
 abbrev Inv-loop : tie.InvT-loop
-Inv-loop mode chunk₀ source₀ table₀ out₀ unread₀ at₀ sources₀ chunk source table out unread at sources = (length chunk ≡ length chunk₀) × (length source ≡ length source₀) × (length table ≡ length table₀) × (length out ≡ length out₀)
+Inv-loop mode chunk₀ source₀ tokens₀ nodes₀ text₀ out₀ unread₀ at₀ sources₀ chunk source tokens nodes text out unread at sources =
+    (length chunk ≡ length chunk₀)
+    × (length source ≡ length source₀)
+    × (length tokens ≡ length tokens₀)
+    × (length nodes ≡ length nodes₀)
+    × (length text ≡ length text₀)
+    × (length out ≡ length out₀)
 
 abbrev μ-loop : tie.MeasureT-loop
-μ-loop mode chunk₀ source₀ table₀ out₀ unread₀ at₀ sources₀ chunk source table out unread at sources = sources
+μ-loop mode chunk₀ source₀ tokens₀ nodes₀ text₀ out₀ unread₀ at₀ sources₀ chunk source tokens nodes text out unread at sources = sources
 
 loop-holds : tie.Need-loop-holds Inv-loop μ-loop
 loop-holds c = search needs
@@ -25,6 +31,9 @@ first-requires c κs = search needs
 
 answer-requires : tie.Need-answer-requires Inv-loop μ-loop
 answer-requires c κs = search needs
+
+close-requires : tie.Need-close-requires Inv-loop μ-loop
+close-requires c κs = search needs
 
 sub-sources : tie.Need-sub-sources Inv-loop μ-loop
 sub-sources c = search needs
@@ -53,6 +62,12 @@ same-length-3 c = search needs
 same-length-4 : tie.Need-same-length-4 Inv-loop μ-loop
 same-length-4 c = search needs
 
+same-length-5 : tie.Need-same-length-5 Inv-loop μ-loop
+same-length-5 c = search needs
+
+same-length-6 : tie.Need-same-length-6 Inv-loop μ-loop
+same-length-6 c = search needs
+
 returns : tie.Need-returns Inv-loop μ-loop
 returns c = search needs
 
@@ -62,20 +77,11 @@ enum-told-2 c = search needs
 bad-input-requires : tie.Need-bad-input-requires Inv-loop μ-loop
 bad-input-requires c κs = search needs
 
-same-length-5 : tie.Need-same-length-5 Inv-loop μ-loop
-same-length-5 c = search needs
-
-same-length-6 : tie.Need-same-length-6 Inv-loop μ-loop
-same-length-6 c = search needs
-
 same-length-7 : tie.Need-same-length-7 Inv-loop μ-loop
 same-length-7 c = search needs
 
 same-length-8 : tie.Need-same-length-8 Inv-loop μ-loop
 same-length-8 c = search needs
-
-returns-2 : tie.Need-returns-2 Inv-loop μ-loop
-returns-2 c = search needs
 
 same-length-9 : tie.Need-same-length-9 Inv-loop μ-loop
 same-length-9 c = search needs
@@ -88,6 +94,27 @@ same-length-11 c = search needs
 
 same-length-12 : tie.Need-same-length-12 Inv-loop μ-loop
 same-length-12 c = search needs
+
+returns-2 : tie.Need-returns-2 Inv-loop μ-loop
+returns-2 c = search needs
+
+same-length-13 : tie.Need-same-length-13 Inv-loop μ-loop
+same-length-13 c = search needs
+
+same-length-14 : tie.Need-same-length-14 Inv-loop μ-loop
+same-length-14 c = search needs
+
+same-length-15 : tie.Need-same-length-15 Inv-loop μ-loop
+same-length-15 c = search needs
+
+same-length-16 : tie.Need-same-length-16 Inv-loop μ-loop
+same-length-16 c = search needs
+
+same-length-17 : tie.Need-same-length-17 Inv-loop μ-loop
+same-length-17 c = search needs
+
+same-length-18 : tie.Need-same-length-18 Inv-loop μ-loop
+same-length-18 c = search needs
 
 returns-3 : tie.Need-returns-3 Inv-loop μ-loop
 returns-3 c = search needs
@@ -103,6 +130,7 @@ answers-spec =
     enum-known-line
     first-requires
     answer-requires
+    close-requires
     sub-sources
     loop-less
     loop-again
@@ -112,16 +140,22 @@ answers-spec =
     same-length-2
     same-length-3
     same-length-4
+    same-length-5
+    same-length-6
     returns
     enum-told-2
     bad-input-requires
-    same-length-5
-    same-length-6
     same-length-7
     same-length-8
-    returns-2
     same-length-9
     same-length-10
     same-length-11
     same-length-12
+    returns-2
+    same-length-13
+    same-length-14
+    same-length-15
+    same-length-16
+    same-length-17
+    same-length-18
     returns-3)
