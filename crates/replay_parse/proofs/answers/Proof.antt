@@ -1,0 +1,145 @@
+-- The sources are counted. The slices keep their lengths.
+use mathlib.Core.Path.{_≡_}
+use lib.ListN.{length}
+use borrow.Author.Needs.{needs}
+use Rattle.replay_parse.proofs.answers.Statement.{statement}
+use Rattle.replay_parse.proofs.answers.Tie as tie
+
+abbrev Inv-loop : tie.InvT-loop
+Inv-loop chunk₀ source₀ tokens₀ nodes₀ out₀ unread₀ at₀ sources₀ chunk source tokens nodes out unread at sources =
+    (length chunk ≡ length chunk₀) × (length source ≡ length source₀) × (length tokens ≡ length tokens₀) × (length nodes ≡ length nodes₀) × (length out ≡ length out₀)
+
+abbrev μ-loop : tie.MeasureT-loop
+μ-loop chunk₀ source₀ tokens₀ nodes₀ out₀ unread₀ at₀ sources₀ chunk source tokens nodes out unread at sources =
+    sources
+
+loop-holds : tie.Need-loop-holds Inv-loop μ-loop
+loop-holds c = search needs
+
+next-requires : tie.Need-next-requires Inv-loop μ-loop
+next-requires c κs = search needs
+
+enum-known-line : tie.Need-enum-known-line Inv-loop μ-loop
+enum-known-line c = search needs
+
+first-requires : tie.Need-first-requires Inv-loop μ-loop
+first-requires c κs = search needs
+
+answer-requires : tie.Need-answer-requires Inv-loop μ-loop
+answer-requires c κs = search needs
+
+close-requires : tie.Need-close-requires Inv-loop μ-loop
+close-requires c κs = search needs
+
+sub-sources : tie.Need-sub-sources Inv-loop μ-loop
+sub-sources c = search needs
+
+loop-less : tie.Need-loop-less Inv-loop μ-loop
+loop-less c = search needs
+
+loop-again : tie.Need-loop-again Inv-loop μ-loop
+loop-again c = search needs
+
+enum-told : tie.Need-enum-told Inv-loop μ-loop
+enum-told c = search needs
+
+flush-requires : tie.Need-flush-requires Inv-loop μ-loop
+flush-requires c κs = search needs
+
+same-length : tie.Need-same-length Inv-loop μ-loop
+same-length c = search needs
+
+same-length-2 : tie.Need-same-length-2 Inv-loop μ-loop
+same-length-2 c = search needs
+
+same-length-3 : tie.Need-same-length-3 Inv-loop μ-loop
+same-length-3 c = search needs
+
+same-length-4 : tie.Need-same-length-4 Inv-loop μ-loop
+same-length-4 c = search needs
+
+same-length-5 : tie.Need-same-length-5 Inv-loop μ-loop
+same-length-5 c = search needs
+
+returns : tie.Need-returns Inv-loop μ-loop
+returns c = search needs
+
+enum-told-2 : tie.Need-enum-told-2 Inv-loop μ-loop
+enum-told-2 c = search needs
+
+bad-input-requires : tie.Need-bad-input-requires Inv-loop μ-loop
+bad-input-requires c κs = search needs
+
+same-length-6 : tie.Need-same-length-6 Inv-loop μ-loop
+same-length-6 c = search needs
+
+same-length-7 : tie.Need-same-length-7 Inv-loop μ-loop
+same-length-7 c = search needs
+
+same-length-8 : tie.Need-same-length-8 Inv-loop μ-loop
+same-length-8 c = search needs
+
+same-length-9 : tie.Need-same-length-9 Inv-loop μ-loop
+same-length-9 c = search needs
+
+same-length-10 : tie.Need-same-length-10 Inv-loop μ-loop
+same-length-10 c = search needs
+
+returns-2 : tie.Need-returns-2 Inv-loop μ-loop
+returns-2 c = search needs
+
+same-length-11 : tie.Need-same-length-11 Inv-loop μ-loop
+same-length-11 c = search needs
+
+same-length-12 : tie.Need-same-length-12 Inv-loop μ-loop
+same-length-12 c = search needs
+
+same-length-13 : tie.Need-same-length-13 Inv-loop μ-loop
+same-length-13 c = search needs
+
+same-length-14 : tie.Need-same-length-14 Inv-loop μ-loop
+same-length-14 c = search needs
+
+same-length-15 : tie.Need-same-length-15 Inv-loop μ-loop
+same-length-15 c = search needs
+
+returns-3 : tie.Need-returns-3 Inv-loop μ-loop
+returns-3 c = search needs
+
+pub answers-spec : {M : Type 1} → statement M
+answers-spec =
+    tie.close
+    (tie.spec
+    Inv-loop
+    μ-loop
+    loop-holds
+    next-requires
+    enum-known-line
+    first-requires
+    answer-requires
+    close-requires
+    sub-sources
+    loop-less
+    loop-again
+    enum-told
+    flush-requires
+    same-length
+    same-length-2
+    same-length-3
+    same-length-4
+    same-length-5
+    returns
+    enum-told-2
+    bad-input-requires
+    same-length-6
+    same-length-7
+    same-length-8
+    same-length-9
+    same-length-10
+    returns-2
+    same-length-11
+    same-length-12
+    same-length-13
+    same-length-14
+    same-length-15
+    returns-3)
