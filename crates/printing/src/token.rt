@@ -46,7 +46,7 @@ fn boolean(out: &mut [u8], at: usize, n: u64) -> usize {
 }
 
 // The value that a token carries. A string's is not shown here.
-fn show_value(source: &[u8], token: Token, out: &mut [u8], at: usize) -> usize {
+pub fn show_value(source: &[u8], token: Token, out: &mut [u8], at: usize) -> usize {
     let value = token.value;
     let kind = token.kind;
     match kind {

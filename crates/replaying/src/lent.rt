@@ -62,7 +62,10 @@ fn with_tokens(
         Mode::Canon => {
             with_text(mode, room, chunk, unread, source, tokens, out);
         }
-        Mode::Parse | Mode::Unknown => {
+        Mode::Parse => {
+            with_nodes(mode, room, chunk, unread, source, tokens, out);
+        }
+        Mode::Unknown => {
             output::bad_input(out, 0);
         }
     }

@@ -1,8 +1,8 @@
 // Runs a proved library on the sources of standard input and prints its answers in the oracle's format.
 //
-// The first line says what to run and the room of each lent table: `scan ROWS`, `lex ROWS` or `canon TOKENS BYTES`. Each
-// line after it is a source in hex. An answer ends with a line `--`. Where the input is none of this, one line says `bad
-// input` and nothing follows.
+// The first line says what to run and the room of each lent table: `scan ROWS`, `lex ROWS`, `canon TOKENS BYTES` or `parse
+// TOKENS NODES`. Each line after it is a source in hex. An answer ends with a line `--`. Where the input is none of this, one
+// line says `bad input` and nothing follows.
 mod lent;
 mod sources;
 

@@ -22,7 +22,8 @@ fn answer(
         Mode::Scan => scan_mode::answer(source, tokens, out, at),
         Mode::Lex => lex_mode::answer(source, tokens, out, at),
         Mode::Canon => canon_mode::answer(source, tokens, text, out, at),
-        Mode::Parse | Mode::Unknown => at,
+        Mode::Parse => showing_tree::answer(source, tokens, nodes, out, at),
+        Mode::Unknown => at,
     }
 }
 

@@ -1,0 +1,153 @@
+// What a row of the table of nodes shows of itself, its children aside.
+use crate::rows;
+use crate::rows::Node;
+use crate::rows::TokenRow;
+use printing::output;
+use printing::token;
+use printing::token::Token;
+
+// A bracket and the word for a node's kind: for a literal that for its token's kind, a number above every node's kind. Only
+// a statement has no blank before it.
+fn open(tokens: &[u64], n: Node, out: &mut [u8], at: usize) -> usize {
+    let kind = n.kind;
+    match kind {
+        2 => {
+            let t = rows::token_at(tokens, n.token).token;
+            opened(out, at, b" (", t.kind)
+        }
+        11 | 12 | 13 => opened(out, at, b"(", kind),
+        _ => opened(out, at, b" (", kind),
+    }
+}
+
+// The words, 7 bytes for each number from 0 on: up to 13 for a node's kind, then for a token's.
+fn opened(out: &mut [u8], at: usize, bracket: &[u8], kind: u64) -> usize {
+    let words =
+        b"-      -      -      sock4  local  path   member slash  call   arg    named  import let    expr   bool   ip4    str    int    int    ";
+    let p = output::text(out, at, bracket);
+    if kind < 19 {
+        return output::word(out, p, words, kind as usize * 7);
+    }
+    p
+}
+
+fn place(t: TokenRow, out: &mut [u8], at: usize) -> usize {
+    let p = output::field(out, at, t.line);
+    output::field(out, p, t.column)
+}
+
+// A blank, and the value of a token that is no string.
+fn value(source: &[u8], t: Token, out: &mut [u8], at: usize) -> usize {
+    let p = output::byte(out, at, b' ');
+    token::show_value(source, t, out, p)
+}
+
+// A name and its place.
+pub fn name(source: &[u8], tokens: &[u64], i: usize, out: &mut [u8], at: usize) -> usize {
+    let t = rows::token_at(tokens, i);
+    let p = value(source, t.token, out, at);
+    place(t, out, p)
+}
+
+// A node's word, and what stands after it: a name and its place, or the node's own place, or nothing.
+pub fn start(source: &[u8], tokens: &[u64], n: Node, out: &mut [u8], at: usize) -> usize {
+    let p = open(tokens, n, out, at);
+    let kind = n.kind;
+    match kind {
+        9 | 13 => p,
+        10 | 11 | 12 => name(source, tokens, n.token, out, p),
+        _ => place(rows::token_at(tokens, n.token), out, p),
+    }
+}
+
+fn body(source: &[u8], start: usize, end: usize, i: u64, out: &mut [u8], at: usize) -> usize {
+    let p = output::text(out, at, b" x");
+    output::hex(out, p, lex::string_body(source, start, end, i))
+}
+
+// The bodies of a string in hex, a blank before each.
+fn bodies(source: &[u8], t: Token, out: &mut [u8], at: usize) -> usize {
+    let start = t.start;
+    let end = t.end;
+    let count = t.value.lo;
+    let mut p = at;
+    let mut i: u64 = 0;
+    while i < count {
+        p = body(source, start, end, i, out, p);
+        i += 1;
+    }
+    p
+}
+
+fn literal(source: &[u8], t: Token, out: &mut [u8], at: usize) -> usize {
+    if t.kind == 16 {
+        return bodies(source, t, out, at);
+    }
+    value(source, t, out, at)
+}
+
+// An address and its port, which is two tokens later.
+fn sock4(source: &[u8], tokens: &[u64], i: usize, out: &mut [u8], at: usize) -> usize {
+    let p = value(source, rows::token_at(tokens, i).token, out, at);
+    let q = output::byte(out, p, b':');
+    if i < tokens.len() / 7 {
+        return token::show_value(source, rows::token_at(tokens, i + 2).token, out, q);
+    }
+    q
+}
+
+// The names of a path: its own token, and those of as many rows before it as it says.
+fn names(
+    source: &[u8],
+    tokens: &[u64],
+    nodes: &[u64],
+    i: usize,
+    n: Node,
+    out: &mut [u8],
+    at: usize,
+) -> usize {
+    let mut p = name(source, tokens, n.token, out, at);
+    if i < n.first {
+        return p;
+    }
+    let mut row = i - n.first;
+    while row < i {
+        let further = rows::node_at(nodes, row);
+        p = name(source, tokens, further.token, out, p);
+        row += 1;
+    }
+    p
+}
+
+// What a row with no children has after its start.
+fn contents(
+    source: &[u8],
+    tokens: &[u64],
+    nodes: &[u64],
+    i: usize,
+    n: Node,
+    out: &mut [u8],
+    at: usize,
+) -> usize {
+    let kind = n.kind;
+    match kind {
+        2 => literal(source, rows::token_at(tokens, n.token).token, out, at),
+        3 => sock4(source, tokens, n.token, out, at),
+        4 => value(source, rows::token_at(tokens, n.token).token, out, at),
+        5 => names(source, tokens, nodes, i, n, out, at),
+        _ => at,
+    }
+}
+
+pub fn end(
+    source: &[u8],
+    tokens: &[u64],
+    nodes: &[u64],
+    i: usize,
+    n: Node,
+    out: &mut [u8],
+    at: usize,
+) -> usize {
+    let p = contents(source, tokens, nodes, i, n, out, at);
+    output::byte(out, p, b')')
+}

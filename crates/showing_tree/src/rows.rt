@@ -1,0 +1,121 @@
+// Rows of the tables of tokens and of nodes. A row that a table does not have is all zeros: nothing here asks that a table
+// be one that the parser left.
+ghost use Prim.Native.Nat.{_+_, _<_, _≤_};
+ghost use lib.ListN.{length};
+use printing::token::Token;
+use wide::Wide;
+
+pub struct TokenRow {
+    pub line: u64,
+    pub column: u64,
+    pub token: Token,
+}
+
+// What the numbers after its token mean depends on a node's kind. The last one, the token of a call's `(`, is not shown.
+pub struct Node {
+    pub kind: u64,
+    pub token: usize,
+    pub first: usize,
+    pub second: usize,
+}
+
+// The words of the row that starts at word `at`.
+fn token_from(tokens: &[u64], at: usize) -> TokenRow
+    requires { ⌜ at + 7 ≤ length (now tokens) ⌝ }
+{
+    TokenRow {
+        line: tokens[at + 1],
+        column: tokens[at + 2],
+        token: Token {
+            kind: tokens[at],
+            start: tokens[at + 3] as usize,
+            end: tokens[at + 4] as usize,
+            value: Wide {
+                hi: tokens[at + 6],
+                lo: tokens[at + 5],
+            },
+        },
+    }
+}
+
+fn no_token() -> TokenRow {
+    TokenRow {
+        line: 0,
+        column: 0,
+        token: Token {
+            kind: 0,
+            start: 0,
+            end: 0,
+            value: Wide { hi: 0, lo: 0 },
+        },
+    }
+}
+
+pub fn token_at(tokens: &[u64], i: usize) -> TokenRow {
+    if i < tokens.len() / 7 {
+        return token_from(tokens, i * 7);
+    }
+    no_token()
+}
+
+fn node_from(nodes: &[u64], at: usize) -> Node
+    requires { ⌜ at + 5 ≤ length (now nodes) ⌝ }
+{
+    Node {
+        kind: nodes[at],
+        token: nodes[at + 1] as usize,
+        first: nodes[at + 2] as usize,
+        second: nodes[at + 3] as usize,
+    }
+}
+
+pub fn node_at(nodes: &[u64], i: usize) -> Node {
+    if i < nodes.len() / 5 {
+        return node_from(nodes, i * 5);
+    }
+    Node {
+        kind: 0,
+        token: 0,
+        first: 0,
+        second: 0,
+    }
+}
+
+// Arguments are chained from the last to the first, each with the row of the one before it plus 1, 0 where there is none.
+// They are shown from the first to the last.
+
+// The row of the first argument plus 1, where `last` is that of the last; 0 where there is none.
+pub fn first_argument(nodes: &[u64], last: usize) -> usize {
+    let mut at = last;
+    while 0 < at {
+        let before = node_at(nodes, at - 1).second;
+        if before == 0 {
+            return at;
+        }
+        if at <= before {
+            return at;
+        }
+        at = before;
+    }
+    0
+}
+
+fn follows(argument: Node, row: usize) -> bool {
+    (argument.kind == 9 || argument.kind == 10) && argument.second == row
+}
+
+// The row of the argument after the one in `row`, where there is one before the row `end`; else `end`.
+pub fn argument_after(nodes: &[u64], row: usize, end: usize) -> usize
+    requires { ⌜ row < end ⌝ }
+    ensures { λ r. ⌜ row < r ⌝ }
+{
+    let link = row + 1;
+    let mut i = link;
+    while i < end {
+        if follows(node_at(nodes, i), link) {
+            return i;
+        }
+        i += 1;
+    }
+    i
+}

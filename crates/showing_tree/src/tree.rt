@@ -1,0 +1,109 @@
+// Trees from the table of nodes, where a child's row stands before its parent's. A row that does not is not shown, so the
+// walk ends on any table.
+use crate::leaf;
+use crate::rows;
+use crate::rows::Node;
+use printing::output;
+
+// The tree of a row, a blank before each expression and argument.
+fn show(
+    source: &[u8],
+    tokens: &[u64],
+    nodes: &[u64],
+    i: usize,
+    out: &mut [u8],
+    at: usize,
+) -> usize {
+    let n = rows::node_at(nodes, i);
+    let a = leaf::start(source, tokens, n, out, at);
+    if n.kind < 6 || n.kind == 11 {
+        return leaf::end(source, tokens, nodes, i, n, out, a);
+    }
+    if i <= n.first {
+        return a;
+    }
+    let b = show(source, tokens, nodes, n.first, out, a);
+    let c = rest(source, tokens, nodes, i, n, out, b);
+    output::byte(out, c, b')')
+}
+
+// What a row shows after its first child.
+fn rest(
+    source: &[u8],
+    tokens: &[u64],
+    nodes: &[u64],
+    i: usize,
+    n: Node,
+    out: &mut [u8],
+    at: usize,
+) -> usize {
+    let kind = n.kind;
+    match kind {
+        6 => leaf::name(source, tokens, n.second, out, at),
+        7 => {
+            if n.second < i {
+                return show(source, tokens, nodes, n.second, out, at);
+            }
+            at
+        }
+        8 => arguments(source, tokens, nodes, i, n.second, out, at),
+        _ => at,
+    }
+}
+
+// The arguments of the call in row `i`, where `last` is the row of the last one plus 1.
+fn arguments(
+    source: &[u8],
+    tokens: &[u64],
+    nodes: &[u64],
+    i: usize,
+    last: usize,
+    out: &mut [u8],
+    at: usize,
+) -> usize {
+    let first = rows::first_argument(nodes, last);
+    if first == 0 {
+        return at;
+    }
+    let mut p = at;
+    let mut row = first - 1;
+    while row < i {
+        p = show(source, tokens, nodes, row, out, p);
+        row = rows::argument_after(nodes, row, i);
+    }
+    p
+}
+
+// The line of the statement in row `i`: nothing for a row that is none.
+fn statement(
+    source: &[u8],
+    tokens: &[u64],
+    nodes: &[u64],
+    i: usize,
+    out: &mut [u8],
+    at: usize,
+) -> usize {
+    if rows::node_at(nodes, i).kind < 11 {
+        return at;
+    }
+    let p = show(source, tokens, nodes, i, out, at);
+    output::byte(out, p, b'\n')
+}
+
+// The statements among the first `count` rows.
+pub fn statements(
+    source: &[u8],
+    tokens: &[u64],
+    nodes: &[u64],
+    count: usize,
+    out: &mut [u8],
+    at: usize,
+) -> usize {
+    let mut p = at;
+    let mut i = 0;
+    while i < count {
+        p = statement(source, tokens, nodes, i, out, p);
+        i += 1;
+    }
+    p
+}
