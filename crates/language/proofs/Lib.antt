@@ -27,3 +27,7 @@ pub mod CanonicalJoin
 pub mod CanonicalText
 pub mod Canonical
 pub mod SentenceExamples
+pub mod SentenceOutcomes
+pub mod GrammarSound
+pub mod GrammarPlaces
+pub mod SentenceUnfolds

@@ -7,4 +7,5 @@ pub mod Tokens
 pub mod Canonical
 pub mod Tables
 pub mod Sentences
+pub mod Grammar
 pub mod Numbers
