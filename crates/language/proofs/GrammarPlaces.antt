@@ -1,11 +1,12 @@
 -- Where trees stand: an expression at its first token, and every part further on.
-use Prim.Native.Nat.{ℕ, zero, suc, _+_, _≤_, _<_}
-use mathlib.Core.Path.{_≡_, refl, sym, ap, _∙_}
+use Prim.Native.Nat.{ℕ, _≤_, _<_}
+use mathlib.Core.Path.{_≡_, refl}
 use mathlib.Core.List.{List}
 use native.Mathlib.Omega.{arith}
 use Rattle.language.specs.Tokens.{Content}
 use Rattle.language.specs.Sentences.{Expr, Args, Stmt, firstOf}
-use Rattle.language.specs.Grammar.{PathNames, is-start, is-name, Chain, is-literal, is-address, is-sock4, is-local, is-path, is-member, is-call, Slashed, is-chain, is-slash, Expression, is-expression, Argument, is-given, is-named, Arguments, is-none, is-more, Bracketed, is-closed, is-last, Statement, is-import, is-let, is-expr}
+use Rattle.language.specs.Grammar.{PathNames, is-start, is-name, Chain, is-literal, is-address, is-sock4, is-local, is-path, is-member, is-call, Slashed, is-chain, is-slash, Expression, is-expression, Argument, is-given, is-named, Arguments, is-none, is-more, Bracketed, is-closed, is-last, Statement, is-import, is-let, is-expr, StandsFirst}
+use Rattle.language.proofs.GrammarSound.{found-expr}
 
 module _ (ts : List Content) where
   names-on : {at n next : ℕ} → PathNames ts at n next → at ≤ next
@@ -61,3 +62,7 @@ module _ (ts : List Content) where
 
   pub expr-first : {d at next : ℕ} {e : Expr} → Expression ts d at e next → firstOf e ≡ at
   expr-first (is-expression c l) = slashed-first c
+
+pub stands-first : StandsFirst
+stands-first ts d at next e =
+    (chain-first ts, slashed-first ts, λ s h. let f = rw h at (found-expr ts d at) in expr-first ts (f .holds))

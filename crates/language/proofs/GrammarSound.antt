@@ -1,15 +1,15 @@
 -- What is found stands for its tokens by the rules of the grammar.
-use Prim.Native.Nat.{ℕ, zero, suc, _+_, _≤_, _<_}
+use Prim.Native.Nat.{ℕ, zero, suc, _+_, _<_}
 use mathlib.Core.Path.{_≡_, refl, sym, ap, _∙_}
-use mathlib.Core.Bool.{Bool, true, false, false≢true}
+use mathlib.Core.Bool.{Bool, true, false≢true}
 use mathlib.Core.List.{List, [], _∷_, _++_, append-assoc, append-nil}
 use native.Mathlib.Omega.{arith}
 use native.Mathlib.Numerals.{add-one}
 use lib.ListN.{length, getD}
 use Rattle.language.specs.Lexemes.{rParen, lParen, dot, doubleColon, colon, semiColon, equals, comma, slash, importKeyword, letKeyword, ipv4Literal}
-use Rattle.language.specs.Tokens.{Content, eof, plain, name}
-use Rattle.language.specs.Sentences.{Expr, literal, sock4, local, path, member, call, slash′, Args, none-given, given, named, Stmt, import′, let′, expr′, Port, port, tooLarge, notPort, portOf, Out, ok, no, andThen, mostSteps, mostLists, is, isName, isLiteral, namesFrom, address, named′, primary, links, chainOf, slashes, exprOf, argOf, argsOf, listAt, exprAt, ended, importAt, letAt, stmtAt, stmtsFrom, program}
-use Rattle.language.specs.Grammar.{stepsOf, isPort, Takes, One, Other, PathNames, is-start, is-name, Chain, is-literal, is-address, is-sock4, is-local, is-path, is-member, is-call, Slashed, is-chain, is-slash, Expression, is-expression, Argument, is-given, is-named, Arguments, is-none, is-more, Bracketed, is-closed, is-last, Statement, is-import, is-let, is-expr, Program, is-end, is-next}
+use Rattle.language.specs.Tokens.{Content, eof, plain}
+use Rattle.language.specs.Sentences.{Expr, sock4, member, call, slash′, Args, none-given, Stmt, Port, port, tooLarge, notPort, portOf, Out, ok, no, mostSteps, mostLists, is, isName, isLiteral, namesFrom, address, named′, primary, links, chainOf, slashes, exprOf, argOf, argsOf, listAt, exprAt, importAt, letAt, stmtAt, stmtsFrom, program}
+use Rattle.language.specs.Grammar.{stepsOf, isPort, Takes, Other, PathNames, is-start, is-name, Chain, is-literal, is-address, is-sock4, is-local, is-path, is-member, is-call, Slashed, is-chain, is-slash, Expression, is-expression, Argument, is-given, is-named, Arguments, is-none, is-more, Bracketed, is-closed, is-last, Statement, is-import, is-let, is-expr, Program, is-end, is-next}
 use Rattle.language.proofs.SentenceOutcomes.{Every, good, refused, also, either, both}
 
 takes : {b : Bool} {at next : ℕ} → b ≡ true → next ≡ at + 1 → Takes b at next

@@ -31,3 +31,5 @@ pub mod SentenceOutcomes
 pub mod GrammarSound
 pub mod GrammarPlaces
 pub mod SentenceUnfolds
+pub mod GrammarMet
+pub mod GrammarRows

@@ -2,12 +2,14 @@
 -- says how a tree is found; the claims below say that it finds these trees and no others, and where their parts stand.
 use Prim.Native.Nat.{ℕ, suc, _+_, _≤_, _<_}
 use mathlib.Core.Path.{_≡_}
-use mathlib.Core.Bool.{Bool, true, false}
-use mathlib.Core.List.{List, [], _∷_}
+use mathlib.Core.Bool.{Bool, true, false, _||_}
+use mathlib.Core.List.{List, [], _∷_, List·Memᴰ}
+use lib.Dec.{eqb}
 use lib.ListN.{getD}
+use Rattle.language.specs.Choice.{if′}
 use Rattle.language.specs.Lexemes.{lParen, rParen, dot, doubleColon, colon, semiColon, equals, comma, slash, importKeyword, letKeyword, ipv4Literal}
 use Rattle.language.specs.Tokens.{Content, eof, plain, name}
-use Rattle.language.specs.Sentences.{Expr, literal, sock4, local, path, member, call, slash′, Args, none-given, given, named, Stmt, import′, let′, expr′, Port, port, tooLarge, notPort, portOf, is, isLiteral, mostSteps, mostLists}
+use Rattle.language.specs.Sentences.{Expr, literal, sock4, local, path, member, call, slash′, Args, none-given, given, named, Stmt, import′, let′, expr′, firstOf, Port, port, tooLarge, notPort, portOf, ok, is, isLiteral, mostSteps, mostLists, exprAt, program, Node, nodes}
 
 -- the steps of an expression, "not counting those inside its argument lists"
 abbrev pub stepsOf : Expr → ℕ
@@ -99,3 +101,42 @@ module _ (ts : List Content) where
   pub data Program : ℕ → List Stmt → ℕ → Type 0 where
     is-end : {at : ℕ} → is ts at eof ≡ true → Program at [] at
     is-next : {at mid next : ℕ} {s : Stmt} {ss : List Stmt} → Statement at s mid → Program mid ss next → Program at (s ∷ ss) next
+
+-- ---- the claims
+
+-- the trees that are found are those of the rules, and no others
+abbrev pub GrammarMet : Type 0
+GrammarMet =
+    (ts : List Content) (ss : List Stmt) (next : ℕ)
+    → (program ts ≡ ok ss next 0 → Program ts 0 ss next) × (Program ts 0 ss next → program ts ≡ ok ss next 0)
+
+-- so no tokens have two readings
+abbrev pub OneReading : Type 0
+OneReading =
+    (ts : List Content) (ss us : List Stmt) (m n : ℕ) → Program ts 0 ss m → Program ts 0 us n → (ss ≡ us) × (m ≡ n)
+
+-- an expression stands at its first token, and so does each part of it, whose rule says where it starts
+abbrev pub StandsFirst : Type 0
+StandsFirst =
+    (ts : List Content) (d at next : ℕ) (e : Expr)
+    → (Chain ts d at e next → firstOf e ≡ at) × (Slashed ts d at e next → firstOf e ≡ at)
+    × ((s : ℕ) → exprAt ts d at ≡ ok e next s → firstOf e ≡ at)
+
+-- the rows that stand at a name: a path's further name, a name, a path, a named argument, an import and a let
+abbrev pub atName : ℕ → Bool
+atName k = eqb k 1 || (eqb k 4 || (eqb k 5 || (eqb k 10 || (eqb k 11 || eqb k 12))))
+
+-- the tokens that a row names are of the kinds that its own kind says: a literal or an address, an address, a member's
+-- name and a call's `(`; the rows of `/`, of an argument and of an expression's statement stand where their first part does
+abbrev pub rightTokens : List Content → Node → Bool
+rightTokens ts n =
+    if′ (atName (n .kind)) (is ts (n .tok) (name []))
+    (if′ (eqb (n .kind) 2) (isLiteral ts (n .tok) || is ts (n .tok) (plain (ipv4Literal 0)))
+    (if′ (eqb (n .kind) 3) (is ts (n .tok) (plain (ipv4Literal 0)))
+    (if′ (eqb (n .kind) 6) (is ts (n .second) (name []))
+    (if′ (eqb (n .kind) 8) (is ts (n .third) (plain lParen)) true))))
+
+abbrev pub RowsRight : Type 0
+RowsRight =
+    (ts : List Content) (ss : List Stmt) (next : ℕ) → program ts ≡ ok ss next 0
+    → (n : Node) → List·Memᴰ n (nodes ss) → rightTokens ts n ≡ true
