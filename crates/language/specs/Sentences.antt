@@ -1,11 +1,12 @@
 -- Sentences (01, "Sentences"): the trees that a list of contents stands for, or the first token that is refused. Everything
 -- is named by the index of a token; past the end every token is `Eof`.
-use Prim.Native.Nat.{ℕ, zero, suc, _+_, _-_, _*_}
+use Prim.Native.Nat.{ℕ, zero, suc, _+_, _-_, _*_, _/_, _≤_}
 use mathlib.Core.Path.{_≡_}
 use mathlib.Core.Bool.{Bool, true, false, _||_}
 use mathlib.Core.List.{List, [], _∷_, _++_}
 use lib.Dec.{eqb, leb}
 use lib.ListN.{length, getD}
+use Rattle.table.specs.Table.{tabled}
 use Rattle.language.specs.Choice.{if′}
 use Rattle.language.specs.Lexemes.{Tok, lParen, rParen, dot, doubleColon, colon, semiColon, equals, comma, slash, importKeyword, letKeyword, identifier, booleanLiteral, ipv4Literal, hexLiteral, decLiteral}
 use Rattle.language.specs.Tokens.{Content, eof, plain, name, string}
@@ -374,3 +375,30 @@ StmtsUnfold =
 
 abbrev pub ProgramUnfolds : Type 0
 ProgramUnfolds = (ts : List Content) → program ts ≡ stmts ts [] 0
+
+-- ---- the claims on nodes
+
+-- "one per statement, per expression, per argument, and per path name after the first"
+abbrev pub stmtSize : Stmt → ℕ
+stmtSize (import′ t) = 1
+stmtSize (let′ t e) = exprSize e + 1
+stmtSize (expr′ e) = exprSize e + 1
+
+abbrev pub programSize : List Stmt → ℕ
+programSize [] = 0
+programSize (s ∷ ss) = stmtSize s + programSize ss
+
+abbrev pub NodesCounted : Type 0
+NodesCounted =
+    ((k : ℕ) (e : Expr) → length (exprNodes k e) ≡ exprSize e) × ((k : ℕ) (g : Args) → length (argNodes k g) ≡ argsSize g)
+    × ((k : ℕ) (s : Stmt) → length (stmtNodes k s) ≡ stmtSize s) × ((ss : List Stmt) → length (nodes ss) ≡ programSize ss)
+
+-- the rows determine the trees
+abbrev pub NodesDetermine : Type 0
+NodesDetermine = (ss us : List Stmt) → nodes ss ≡ nodes us → ss ≡ us
+
+-- and so do the words of a table of n words in which they fit, with no count
+abbrev pub TablesDetermine : Type 0
+TablesDetermine =
+    (n : ℕ) (ss us : List Stmt) → length (nodes ss) ≤ n / nodeWidth → length (nodes us) ≤ n / nodeWidth
+    → tabled nodeRow nodeWidth n (nodes ss) ≡ tabled nodeRow nodeWidth n (nodes us) → ss ≡ us
