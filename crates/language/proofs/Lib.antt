@@ -34,3 +34,4 @@ pub mod SentenceUnfolds
 pub mod GrammarMet
 pub mod GrammarRows
 pub mod NodeClaims
+pub mod RowClaims

@@ -13,7 +13,7 @@ use Rattle.language.specs.Sentences.{Expr, literal, sock4, local, path, 
 
 -- ---- how many
 
-names-long : (t n : ℕ) → length (nameNodes t n) ≡ n
+pub names-long : (t n : ℕ) → length (nameNodes t n) ≡ n
 names-long t zero = refl
 names-long t (suc n) = simp length-append (omega (arith, names-long t n))
 

@@ -8,4 +8,5 @@ pub mod Canonical
 pub mod Tables
 pub mod Sentences
 pub mod Grammar
+pub mod Rows
 pub mod Numbers
