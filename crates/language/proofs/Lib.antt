@@ -35,3 +35,4 @@ pub mod GrammarMet
 pub mod GrammarRows
 pub mod NodeClaims
 pub mod RowClaims
+pub mod ParseClaims
