@@ -17,8 +17,6 @@ use Rattle.language.proofs.Tests.{either}
 use Rattle.language.proofs.GrammarSound.{found-program}
 use Rattle.language.proofs.SentenceUnfolds.{names-unfold, slashes-unfold, expr-unfolds, args-unfold, list-unfolds, stmts-unfold, program-unfolds}
 
--- ---- choices that are made
-
 is-good : (p : Port) → isPort p ≡ true → p ≡ port
 is-good port e = refl
 is-good tooLarge e = absurd (false≢true e)
@@ -41,10 +39,21 @@ module _ (ts : List Content) where
     no-list : is ts at (plain lParen) ≡ false
     no-dot : is ts at (plain dot) ≡ false
 
-  ends : {at : ℕ} (c : Content) → is ts at c ≡ true → (contentKind c ≡ 2 → ⊥) → (contentKind c ≡ 4 → ⊥) → Ends at
-  ends {at} c e l d =
+  ends : {at : ℕ} (c : Content) → is ts at c ≡ true → (contentKind c ≡ 2 → ⊥) × (contentKind c ≡ 4 → ⊥) → Ends at
+  ends {at} c e o =
       let k = kind-is at c e in
-      record { no-list = is-not at (plain lParen) (λ q. l (sym k ∙ q)); no-dot = is-not at (plain dot) (λ q. d (sym k ∙ q)) }
+      record { no-list = is-not at (plain lParen) (λ q. o .0 (sym k ∙ q)); no-dot = is-not at (plain dot) (λ q. o .1 (sym k ∙ q)) }
+
+  -- after a whole expression
+  record Stops (at : ℕ) : Type 0 where
+    no-link : Ends at
+    no-slash : is ts at (plain slash) ≡ false
+
+  stops : {at : ℕ} (c : Content) → is ts at c ≡ true → (contentKind c ≡ 2 → ⊥) × (contentKind c ≡ 4 → ⊥) × (contentKind c ≡ 10 → ⊥)
+      → Stops at
+  stops {at} c e o =
+      let k = kind-is at c e in
+      record { no-link = ends c e (o .0, o .1); no-slash = is-not at (plain slash) (λ q. o .2 (sym k ∙ q)) }
 
   -- ---- what an expression starts with
 
@@ -104,7 +113,8 @@ module _ (ts : List Content) where
   record Starts (at : ℕ) (e : Expr) (next : ℕ) : Type 0 where
     finds : (s : ℕ) → primary ts at s ≡ ok e next s
 
-  address-met : {at next : ℕ} {e : Expr} → is ts at (plain (ipv4Literal 0)) ≡ true → ((s : ℕ) → address ts at s ≡ ok e next s) → Starts at e next
+  address-met : {at next : ℕ} {e : Expr} → is ts at (plain (ipv4Literal 0)) ≡ true → ((s : ℕ) → address ts at s ≡ ok e next s)
+      → Starts at e next
   unfolding primary
   address-met {at} a h = record { finds = λ s. rw (no-literal at (inr (kind-is at (plain (ipv4Literal 0)) a)), a) (h s) }
 
@@ -173,8 +183,8 @@ module _ (ts : List Content) where
       let n = rw (a .after) at (b .passes) in
       rw (is-not mid (plain lParen) (λ q. omega arith), a .passes, n, a .after, two)
 
-  link-call : {mid next : ℕ} {g : Args} (list : ℕ → Out Args) (s : ℕ) (e : Expr) → is ts mid (plain lParen) ≡ true → list mid ≡ ok g next 0
-      → links ts list (suc s) e mid ≡ links ts list s (call e mid g) next
+  link-call : {mid next : ℕ} {g : Args} (list : ℕ → Out Args) (s : ℕ) (e : Expr) → is ts mid (plain lParen) ≡ true
+      → list mid ≡ ok g next 0 → links ts list (suc s) e mid ≡ links ts list s (call e mid g) next
   unfolding links
   link-call list s e a l = rw (a, l)
 
@@ -184,14 +194,14 @@ module _ (ts : List Content) where
   slashes-stop d e at zero o = slashes-unfold ts d e at 0 .0 ∙ rw o
   slashes-stop d e at (suc s) o = slashes-unfold ts d e at s .1 ∙ rw o
 
-  slash-on : {mid t next : ℕ} {r : Expr} (d : ℕ) (e : Expr) (s left : ℕ) → One ts (plain slash) mid t → chainAt ts d s t ≡ ok r next left
-      → slashesAt ts d e mid (suc s) ≡ slashesAt ts d (slash′ e r) next left
+  slash-on : {mid t next : ℕ} {r : Expr} (d : ℕ) (e : Expr) (s left : ℕ) → One ts (plain slash) mid t
+      → chainAt ts d s t ≡ ok r next left → slashesAt ts d e mid (suc s) ≡ slashesAt ts d (slash′ e r) next left
   slash-on {mid} d e s left a h = let c = rw (a .after) at h in slashes-unfold ts d e mid s .1 ∙ rw (a .passes, c)
 
   -- ---- arguments
 
-  given-met : {next left : ℕ} {e : Expr} (d : ℕ) (g : Args) (at : ℕ) → (isName ts at ≡ true → Other ts (plain colon) (at + 1)) → exprAt ts d at ≡ ok e next left
-      → argOf ts (exprAt ts d) g at ≡ ok (given g e) next 0
+  given-met : {next left : ℕ} {e : Expr} (d : ℕ) (g : Args) (at : ℕ) → (isName ts at ≡ true → Other ts (plain colon) (at + 1))
+      → exprAt ts d at ≡ ok e next left → argOf ts (exprAt ts d) g at ≡ ok (given g e) next 0
   unfolding argOf
   given-met {next} {e = e} d g at f h = by (isName ts at) refl
     where
@@ -199,8 +209,8 @@ module _ (ts : List Content) where
       by true q = rw (q, f q, h)
       by false q = rw (q, h)
 
-  named-arg-met : {at mid t next left : ℕ} {e : Expr} (d : ℕ) (g : Args) → One ts (name []) at mid → One ts (plain colon) mid t → exprAt ts d t ≡ ok e next left
-      → argOf ts (exprAt ts d) g at ≡ ok (named g at e) next 0
+  named-arg-met : {at mid t next left : ℕ} {e : Expr} (d : ℕ) (g : Args) → One ts (name []) at mid → One ts (plain colon) mid t
+      → exprAt ts d t ≡ ok e next left → argOf ts (exprAt ts d) g at ≡ ok (named g at e) next 0
   unfolding argOf
   named-arg-met {at} {mid} {t} d g a b h =
       let two : t ≡ at + 2 = omega (arith, a .after, b .after) in
@@ -211,7 +221,8 @@ module _ (ts : List Content) where
   args-close : {at next : ℕ} (d : ℕ) (g : Args) → One ts (plain rParen) at next → argsAt ts d g at ≡ ok g next 0
   args-close {at} d g a = args-unfold ts d g at ∙ rw (a .passes, a .after)
 
-  module _ {t : ℕ} {h : Args} (d : ℕ) (g : Args) (at : ℕ) (o : 13 ≤ kindAt at) (f : argOf ts (exprAt ts d) g at ≡ ok h t 0) where
+  module _ {t : ℕ} {h : Args} (d : ℕ) (g : Args) (at : ℕ) (o : 13 ≤ kindAt at)
+      (f : argOf ts (exprAt ts d) g at ≡ ok h t 0) where
     not-closed : is ts at (plain rParen) ≡ false
     not-closed = is-not at (plain rParen) (λ q. omega arith)
 
@@ -225,14 +236,6 @@ module _ (ts : List Content) where
 
   -- ---- by the rules
 
-  -- after a whole expression
-  record Stops (at : ℕ) : Type 0 where
-    no-link : Ends at
-    no-slash : Other ts (plain slash) at
-
-  stops : {at : ℕ} (c : Content) → is ts at c ≡ true → (contentKind c ≡ 2 → ⊥) → (contentKind c ≡ 4 → ⊥) → (contentKind c ≡ 10 → ⊥) → Stops at
-  stops {at} c e l d s = let k = kind-is at c e in record { no-link = ends c e l d; no-slash = is-not at (plain slash) (λ q. s (sym k ∙ q)) }
-
   pub opens : {d at next : ℕ} {g : Args} → Bracketed ts d at g next → is ts at (plain lParen) ≡ true
   opens (is-closed a g b) = a .passes
   opens (is-last a g h b) = a .passes
@@ -245,19 +248,22 @@ module _ (ts : List Content) where
     chain-met (is-sock4 {d} a b c) left s h = chain-start (listAt ts d) left s h (sock4-met a b c)
     chain-met (is-local {d} a b) left s h = chain-start (listAt ts d) left s h (local-met a b)
     chain-met (is-path {d} a p m b) left s h = chain-start (listAt ts d) left s h (path-met a p m b)
-    chain-met (is-member {d} {e = e} c a b) left s h = chain-met c (suc left) s (omega arith) ∙ link-member (listAt ts d) left e a b
-    chain-met (is-call {d} {e = e} c l) left s h = chain-met c (suc left) s (omega arith) ∙ link-call (listAt ts d) left e (opens l) (list-met l)
+    chain-met (is-member {d} {e = e} c a b) left s h =
+        chain-met c (suc left) s (omega arith) ∙ link-member (listAt ts d) left e a b
+    chain-met (is-call {d} {e = e} c l) left s h =
+        chain-met c (suc left) s (omega arith) ∙ link-call (listAt ts d) left e (opens l) (list-met l)
 
     slashed-met : {d at next : ℕ} {e : Expr} → Slashed ts d at e next → Ends next → (left : ℕ) → left + stepsOf e ≡ mostSteps
         → exprAt ts d at ≡ slashesAt ts d e next left
     slashed-met (is-chain {d} {at} {e = e} c) o left h =
         let found = chain-met c left mostSteps (sym h) ∙ links-stop (listAt ts d) left e o in expr-unfolds ts d at ∙ rw found
-    slashed-met (is-slash {d} {mid = mid} {e = e} {r} c a q) o left h =
+    slashed-met (is-slash {d} {e = e} {r} c a q) o left h =
         let found = chain-met q left (left + stepsOf r) refl ∙ links-stop (listAt ts d) left r o in
-        slashed-met c (ends (plain slash) (a .passes) (λ k. omega arith) (λ k. omega arith)) (suc (left + stepsOf r)) (omega arith)
+        slashed-met c (ends (plain slash) (a .passes) (omega arith)) (suc (left + stepsOf r)) (omega arith)
         ∙ slash-on d e (left + stepsOf r) left a found
 
-    expr-met : {d at next : ℕ} {e : Expr} → Expression ts d at e next → Stops next → (left : ℕ) × (exprAt ts d at ≡ ok e next left)
+    expr-met : {d at next : ℕ} {e : Expr} → Expression ts d at e next → Stops next
+        → (left : ℕ) × (exprAt ts d at ≡ ok e next left)
     expr-met (is-expression {d} {next = next} {e} c l) o =
         let left = mostSteps - stepsOf e in
         (left, slashed-met c (o .no-link) left (omega arith) ∙ slashes-stop d e next left (o .no-slash))
@@ -269,14 +275,13 @@ module _ (ts : List Content) where
     args-met : {d at next : ℕ} {g : Args} → Arguments ts d at g next → argsAt ts d none-given at ≡ argsAt ts d g next
     args-met is-none = refl
     args-met (is-more {d} {mid = mid} {g = g} gs a b) =
-        args-met gs
-        ∙ args-comma d g mid (arg-starts a) (arg-met a (stops (plain comma) (b .passes) (λ k. omega arith) (λ k. omega arith) (λ k. omega arith))) b
+        args-met gs ∙ args-comma d g mid (arg-starts a) (arg-met a (stops (plain comma) (b .passes) (omega arith))) b
 
     list-met : {d at next : ℕ} {g : Args} → Bracketed ts d at g next → listAt ts d at ≡ ok g next 0
     list-met (is-closed {d} {at} {g = g} a gs b) = list-unfolds ts d at .1 ∙ (rw (a .after) at (args-met gs)) ∙ args-close d g b
     list-met (is-last {d} {at} {t = t} {g = g} a gs c b) =
         list-unfolds ts d at .1 ∙ (rw (a .after) at (args-met gs))
-        ∙ args-last d g t (arg-starts c) (arg-met c (stops (plain rParen) (b .passes) (λ k. omega arith) (λ k. omega arith) (λ k. omega arith))) b
+        ∙ args-last d g t (arg-starts c) (arg-met c (stops (plain rParen) (b .passes) (omega arith))) b
 
   -- ---- statements
 
@@ -285,7 +290,7 @@ module _ (ts : List Content) where
 
   whole-met : {at mid : ℕ} {e : Expr} → Expression ts mostLists at e mid → is ts mid (plain semiColon) ≡ true
       → (left : ℕ) × (exprAt ts mostLists at ≡ ok e mid left)
-  whole-met c o = expr-met c (stops (plain semiColon) o (λ k. omega arith) (λ k. omega arith) (λ k. omega arith))
+  whole-met c o = expr-met c (stops (plain semiColon) o (omega arith))
 
   stmt-met : {at next : ℕ} {s : Stmt} → Statement ts at s next → stmtAt ts at ≡ ok s next 0
   unfolding stmtAt importAt letAt
@@ -304,13 +309,15 @@ module _ (ts : List Content) where
   stmt-met {at} (is-expr {e = e} x o) =
       let k = expr-starts x in
       let found = whole-met x (o .passes) .1 in
-      rw (is-not at (plain importKeyword) (λ j. omega arith), is-not at (plain letKeyword) (λ j. omega arith), found) (ended-met (expr′ e) o)
+      rw (is-not at (plain importKeyword) (λ j. omega arith), is-not at (plain letKeyword) (λ j. omega arith), found)
+      (ended-met (expr′ e) o)
 
   program-met : {at next : ℕ} {ss : List Stmt} → Program ts at ss next → (us : List Stmt) → stmts ts us at ≡ ok (us ++ ss) next 0
   program-met {at} (is-end e) us = stmts-unfold ts us at ∙ rw (e, append-nil us)
-  program-met {at} (is-next {mid = mid} {s = s} {ss} x p) us =
+  program-met {at} (is-next {s = s} x p) us =
       let k = stmt-starts x in
-      stmts-unfold ts us at ∙ rw (is-not at eof (λ j. omega arith), stmt-met x) (rw append-assoc at (program-met p (us ++ s ∷ [])))
+      let more = rw append-assoc at (program-met p (us ++ s ∷ [])) in
+      stmts-unfold ts us at ∙ rw (is-not at eof (λ j. omega arith), stmt-met x) more
 
 pub grammar-met : GrammarMet
 grammar-met ts ss next =

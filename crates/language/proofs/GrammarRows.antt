@@ -22,7 +22,8 @@ module _ (ts : List Content) where
   one-right h = record { each = λ n m. rw (List·Memᴰ·eq-of-singleton m) h }
 
   more-right : {xs ys : List Node} → All xs → All ys → All (xs ++ ys)
-  more-right {xs} h l = record { each = λ n m. elim (List·Memᴰ·append-cases xs m) [ inl a ↦ h .each n a | inr b ↦ l .each n b ] }
+  more-right {xs} h l =
+      record { each = λ n m. elim (List·Memᴰ·append-cases xs m) [ inl a ↦ h .each n a | inr b ↦ l .each n b ] }
 
   -- each further name of a path is two tokens after the one before
   names-next : {mid n next : ℕ} → PathNames ts mid n next → next ≡ mid + 2 * n
@@ -43,18 +44,21 @@ module _ (ts : List Content) where
     chain-right (is-local a b) k = one-right (a .passes)
     chain-right (is-path {at = at} a p m b) k = more-right (names-right at (a .after) p) (one-right (a .passes))
     chain-right (is-member c a b) k = more-right (chain-right c k) (one-right (b .passes))
-    chain-right (is-call {e = e} c l) k = more-right (more-right (chain-right c k) (list-right l (k + exprSize e))) (one-right (opens ts l))
+    chain-right (is-call {e = e} c l) k =
+        more-right (more-right (chain-right c k) (list-right l (k + exprSize e))) (one-right (opens ts l))
 
     slashed-right : {d at next : ℕ} {e : Expr} → Slashed ts d at e next → (k : ℕ) → All (exprNodes k e)
     slashed-right (is-chain c) k = chain-right c k
-    slashed-right (is-slash {e = e} c a r) k = more-right (more-right (slashed-right c k) (chain-right r (k + exprSize e))) (one-right refl)
+    slashed-right (is-slash {e = e} c a r) k =
+        more-right (more-right (slashed-right c k) (chain-right r (k + exprSize e))) (one-right refl)
 
     expr-right : {d at next : ℕ} {e : Expr} → Expression ts d at e next → (k : ℕ) → All (exprNodes k e)
     expr-right (is-expression c l) k = slashed-right c k
 
     arg-right : {d at next : ℕ} {g h : Args} → Argument ts d at g h next → (k : ℕ) → All (argNodes k g) → All (argNodes k h)
     arg-right (is-given {g = g} f c) k l = more-right (more-right l (expr-right c (k + argsSize g))) (one-right refl)
-    arg-right (is-named {g = g} a b c) k l = more-right (more-right l (expr-right c (k + argsSize g))) (one-right (a .passes))
+    arg-right (is-named {g = g} a b c) k l =
+        more-right (more-right l (expr-right c (k + argsSize g))) (one-right (a .passes))
 
     args-right : {d at next : ℕ} {g : Args} → Arguments ts d at g next → (k : ℕ) → All (argNodes k g)
     args-right is-none k = none-right

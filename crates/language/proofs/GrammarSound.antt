@@ -8,10 +8,11 @@ use native.Mathlib.Numerals.{add-one}
 use lib.ListN.{length, getD}
 use Rattle.language.specs.Lexemes.{rParen, lParen, dot, doubleColon, colon, semiColon, equals, comma, slash, importKeyword, letKeyword, ipv4Literal}
 use Rattle.language.specs.Tokens.{Content, eof, plain}
-use Rattle.language.specs.Sentences.{Expr, sock4, member, call, slash′, Args, none-given, Stmt, Port, port, tooLarge, notPort, portOf, Out, ok, no, mostSteps, mostLists, is, isName, isLiteral, namesFrom, address, named′, primary, links, chainOf, slashes, exprOf, argOf, argsOf, listAt, exprAt, importAt, letAt, stmtAt, stmtsFrom, program}
-use Rattle.language.specs.Grammar.{stepsOf, isPort, Takes, Other, PathNames, is-start, is-name, Chain, is-literal, is-address, is-sock4, is-local, is-path, is-member, is-call, Slashed, is-chain, is-slash, Expression, is-expression, Argument, is-given, is-named, Arguments, is-none, is-more, Bracketed, is-closed, is-last, Statement, is-import, is-let, is-expr, Program, is-end, is-next}
+use Rattle.language.specs.Sentences.{Expr, sock4, member, call, slash′, Args, none-given, Stmt, import′, let′, expr′, Port, port, tooLarge, notPort, portOf, Out, ok, no, mostSteps, mostLists, is, isName, isLiteral, namesFrom, address, named′, primary, links, chainOf, slashes, exprOf, argOf, argsOf, listAt, exprAt, ended, importAt, letAt, stmtAt, stmtsFrom, program}
+use Rattle.language.specs.Grammar.{stepsOf, isPort, Takes, One, Other, PathNames, is-start, is-name, Chain, is-literal, is-address, is-sock4, is-local, is-path, is-member, is-call, Slashed, is-chain, is-slash, Expression, is-expression, Argument, is-given, is-named, Arguments, is-none, is-more, Bracketed, is-closed, is-last, Statement, is-import, is-let, is-expr, Program, is-end, is-next}
 use Rattle.language.proofs.SentenceOutcomes.{Every, good, refused, also, either, both}
 
+-- a token, and the place after it
 takes : {b : Bool} {at next : ℕ} → b ≡ true → next ≡ at + 1 → Takes b at next
 takes p a = record { passes = p; after = a }
 
@@ -24,10 +25,12 @@ module _ (ts : List Content) where
   names-read (suc f) n at s p =
       either (is ts at (plain doubleColon))
       (λ e. either (isName ts (at + 1))
-      (λ q. names-read f (n + 1) (at + 2) s (rw add-one (is-name {next = at + 2} p (takes e refl) (takes q (omega arith))))) (λ q. refused))
+      (λ q. let more = is-name {next = at + 2} p (takes e refl) (takes q (omega arith)) in names-read f (n + 1) (at + 2) s (rw add-one more))
+      (λ _. refused))
       (λ e. good (p, e, refl))
 
-  some-name : {at n next : ℕ} → PathNames ts at n next → is ts at (plain doubleColon) ≡ true → Other ts (plain doubleColon) next → 0 < n
+  some-name : {at n next : ℕ} → PathNames ts at n next → is ts at (plain doubleColon) ≡ true → Other ts (plain doubleColon) next
+      → 0 < n
   some-name is-start e o = absurd (false≢true (sym o ∙ e))
   some-name (is-name p a b) e o = omega arith
 
@@ -62,7 +65,8 @@ module _ (ts : List Content) where
         either (isLiteral ts at) (λ e. good (is-literal (takes e refl), refl, refl))
         (λ _. either (is ts at (plain (ipv4Literal 0))) address-read (λ _. either (isName ts at) named-read (λ _. refused)))
 
-  module _ (d : ℕ) (list : ℕ → Out Args) (h : (at : ℕ) → is ts at (plain lParen) ≡ true → Every (λ g next x. Bracketed ts d at g next) (list at)) where
+  module _ (d : ℕ) (list : ℕ → Out Args)
+      (h : (at : ℕ) → is ts at (plain lParen) ≡ true → Every (λ g next x. Bracketed ts d at g next) (list at)) where
     links-read : {from : ℕ} (s : ℕ) (e : Expr) (at : ℕ) → Chain ts d from e at
         → Every (λ r next x. Chain ts d from r next × (stepsOf r + x ≡ stepsOf e + s)) (links ts list s e at)
     unfolding links
@@ -70,15 +74,19 @@ module _ (ts : List Content) where
         either (is ts at (plain lParen)) (λ _. refused) (λ _. either (is ts at (plain dot)) (λ _. refused) (λ _. good (c, refl)))
     links-read (suc s) e at c =
         either (is ts at (plain lParen))
-        (λ p. both (h at p) (λ g next x l. also (links-read s (call e at g) next (is-call c l)) (λ r n y q. (q .0, omega (arith, q .1)))))
+        (λ p. both (h at p) (λ g next x l.
+        also (links-read s (call e at g) next (is-call c l)) (λ r n y q. (q .0, omega (arith, q .1)))))
         (λ _. either (is ts at (plain dot))
         (λ p. either (isName ts (at + 1))
-        (λ q. also (links-read s (member e (at + 1)) (at + 2) (is-member c (takes p refl) (takes q (omega arith)))) (λ r n y q. (q .0, omega (arith, q .1)))) (λ _. refused))
+        (λ q. let more = is-member c (takes p refl) (takes q (omega arith)) in
+        also (links-read s (member e (at + 1)) (at + 2) more) (λ r n y q. (q .0, omega (arith, q .1))))
+        (λ _. refused))
         (λ _. good (c, refl)))
 
     chain-read : (s at : ℕ) → Every (λ e next x. Chain ts d at e next × (stepsOf e + x ≡ s)) (chainOf ts list s at)
     unfolding chainOf
-    chain-read s at = both (primary-read d at s) (λ e next x f. also (links-read s e next (f .0)) (λ r n y q. (q .0, omega (arith, f .1, q .1))))
+    chain-read s at =
+        both (primary-read d at s) (λ e next x f. also (links-read s e next (f .0)) (λ r n y q. (q .0, omega (arith, f .1, q .1))))
 
     slashes-read : {from : ℕ} (f : ℕ) (e : Expr) (at s : ℕ) → Slashed ts d from e at
         → Every (λ r next x. Slashed ts d from r next × (stepsOf r + x ≡ stepsOf e + s)) (slashes ts (chainOf ts list) f e at s)
@@ -88,21 +96,24 @@ module _ (ts : List Content) where
     slashes-read (suc f) e at (suc s) c =
         either (is ts at (plain slash))
         (λ p. both (chain-read s (at + 1)) (λ r next x l.
-        also (slashes-read f (slash′ e r) next x (is-slash c (takes p refl) (l .0))) (λ t n y q. (q .0, omega (arith, l .1, q .1)))))
+        let more = is-slash c (takes p refl) (l .0) in
+        also (slashes-read f (slash′ e r) next x more) (λ t n y q. (q .0, omega (arith, l .1, q .1)))))
         (λ _. good (c, refl))
 
     expr-read : (at : ℕ) → Every (λ e next x. Expression ts d at e next) (exprOf ts (chainOf ts list) at)
     unfolding exprOf
     expr-read at =
         both (chain-read mostSteps at) (λ e next x c.
-        also (slashes-read (suc mostSteps) e next x (is-chain (c .0))) (λ r n y q. is-expression (q .0) (omega (arith, c .1, q .1))))
+        also (slashes-read (suc mostSteps) e next x (is-chain (c .0)))
+        (λ r n y q. is-expression (q .0) (omega (arith, c .1, q .1))))
 
   module _ (d : ℕ) (expr : ℕ → Out Expr) (h : (at : ℕ) → Every (λ e next x. Expression ts d at e next) (expr at)) where
     arg-read : (g : Args) (at : ℕ) → Every (λ r next x. Argument ts d at g r next) (argOf ts expr g at)
     unfolding argOf
     arg-read g at =
         either (isName ts at)
-        (λ p. either (is ts (at + 1) (plain colon)) (λ q. both (h (at + 2)) (λ e next x l. good (is-named (takes p refl) (takes q (omega arith)) l)))
+        (λ p. either (is ts (at + 1) (plain colon))
+        (λ q. both (h (at + 2)) (λ e next x l. good (is-named (takes p refl) (takes q (omega arith)) l)))
         (λ q. both (h at) (λ e next x l. good (is-given (λ _. q) l))))
         (λ p. both (h at) (λ e next x l. good (is-given (λ q. absurd (false≢true (sym p ∙ q))) l)))
 
@@ -119,7 +130,8 @@ module _ (ts : List Content) where
   list-read : (d at : ℕ) → is ts at (plain lParen) ≡ true → Every (λ g next x. Bracketed ts d at g next) (listAt ts d at)
   unfolding listAt
   list-read zero at o = refused
-  list-read (suc d) at o = args-read d (exprOf ts (chainOf ts (listAt ts d))) (expr-read d (listAt ts d) (list-read d)) o (suc (length ts)) none-given (at + 1) is-none
+  list-read (suc d) at o =
+      args-read d (exprAt ts d) (expr-read d (listAt ts d) (list-read d)) o (suc (length ts)) none-given (at + 1) is-none
 
   -- an expression, where d lists may be open in it
   pub found-expr : (d at : ℕ) → Every (λ e next x. Expression ts d at e next) (exprAt ts d at)
@@ -133,17 +145,24 @@ module _ (ts : List Content) where
 
   -- ---- statements
 
+  -- with its `;`
+  ended-read : {at : ℕ} (s : Stmt) (mid : ℕ) → (One ts (plain semiColon) mid (mid + 1) → Statement ts at s (mid + 1))
+      → Every (λ r next x. Statement ts at r next × (x ≡ 0)) (ended ts s mid)
+  ended-read s mid f = either (is ts mid (plain semiColon)) (λ o. good (f (takes o refl), refl)) (λ _. refused)
+
   pub found-stmt : (at : ℕ) → Every (λ s next x. Statement ts at s next × (x ≡ 0)) (stmtAt ts at)
   unfolding stmtAt importAt letAt
   found-stmt at =
       either (is ts at (plain importKeyword))
-      (λ p. either (isName ts (at + 1)) (λ q. either (is ts (at + 2) (plain semiColon)) (λ r. good (is-import (takes p refl) (takes q (omega arith)) (takes r refl), refl)) (λ _. refused)) (λ _. refused))
+      (λ p. either (isName ts (at + 1))
+      (λ q. ended-read (import′ (at + 1)) (at + 2) (λ o. is-import (takes p refl) (takes q (omega arith)) o)) (λ _. refused))
       (λ _. either (is ts at (plain letKeyword))
       (λ p. either (isName ts (at + 1))
       (λ q. either (is ts (at + 2) (plain equals))
-      (λ r. both (found-expr mostLists (at + 3)) (λ e next x l. either (is ts next (plain semiColon)) (λ o. good (is-let (takes p refl) (takes q (omega arith)) (takes r (omega arith)) l (takes o refl), refl)) (λ _. refused)))
+      (λ r. both (found-expr mostLists (at + 3)) (λ e next x l.
+      ended-read (let′ (at + 1) e) next (λ o. is-let (takes p refl) (takes q (omega arith)) (takes r (omega arith)) l o)))
       (λ _. refused)) (λ _. refused))
-      (λ _. both (found-expr mostLists at) (λ e next x l. either (is ts next (plain semiColon)) (λ o. good (is-expr l (takes o refl), refl)) (λ _. refused))))
+      (λ _. both (found-expr mostLists at) (λ e next x l. ended-read (expr′ e) next (λ o. is-expr l o))))
 
   stmts-read : (f : ℕ) (ss : List Stmt) (at : ℕ)
       → Every (λ us next x. (vs : List Stmt) × (us ≡ ss ++ vs) × Program ts at vs next × (x ≡ 0)) (stmtsFrom ts f ss at)
@@ -152,7 +171,8 @@ module _ (ts : List Content) where
   stmts-read (suc f) ss at =
       either (is ts at eof) (λ p. good ([], sym (append-nil ss), is-end p, refl))
       (λ _. both (found-stmt at) (λ s next x h.
-      also (stmts-read f (ss ++ s ∷ []) next) (λ us n y q. (s ∷ q .0, q .1 ∙ append-assoc ss (s ∷ []) (q .0), is-next (h .0) (q .2), q .3))))
+      also (stmts-read f (ss ++ s ∷ []) next)
+      (λ us n y q. (s ∷ q .0, q .1 ∙ append-assoc ss (s ∷ []) (q .0), is-next (h .0) (q .2), q .3))))
 
   pub found-program : Every (λ ss next x. Program ts 0 ss next × (x ≡ 0)) (program ts)
   unfolding program

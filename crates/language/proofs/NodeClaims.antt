@@ -98,7 +98,8 @@ argsOn none-given ps = ps
 argsOn (given g e) ps = some-args (given g e) ∷ ps
 argsOn (named g t e) ps = some-args (named g t e) ∷ ps
 
-before-args : (k : ℕ) (g : Args) (ps : List Part) (f : Args → List Part → List Part) → before (lastOf k g) (argsOn g ps) f ≡ f g ps
+before-args : (k : ℕ) (g : Args) (ps : List Part) (f : Args → List Part → List Part)
+    → before (lastOf k g) (argsOn g ps) f ≡ f g ps
 unfolding before argsOn withArgs
 before-args k none-given ps f = refl
 before-args k (given g e) ps f = rw (ne-eqb (k + (argsSize g + exprSize e + 1)) 0 (λ q. omega arith))
@@ -111,13 +112,16 @@ unread-names t (suc n) ns ps = rw append-assoc (unread-names t n (node 1 (t + 2 
 
 mutual
   unfolding unread taken withExpr withArgs argsOn
-  unread-expr : (k : ℕ) (e : Expr) (ns : List Node) (ps : List Part) → unread (exprNodes k e ++ ns) ps ≡ unread ns (an-expr e ∷ ps)
+
+  unread-expr : (k : ℕ) (e : Expr) (ns : List Node) (ps : List Part)
+      → unread (exprNodes k e ++ ns) ps ≡ unread ns (an-expr e ∷ ps)
   unread-expr k (literal t) ns ps = refl
   unread-expr k (sock4 t) ns ps = refl
   unread-expr k (local t) ns ps = refl
   unread-expr k (path t n) ns ps = rw append-assoc (unread-names t n (node 5 t n 0 0 ∷ ns) ps)
   unread-expr k (member e t) ns ps = rw append-assoc (unread-expr k e _ ps)
-  unread-expr k (slash′ a b) ns ps = simp append-assoc (unread-expr k a _ ps ∙ unread-expr (k + exprSize a) b _ (an-expr a ∷ ps))
+  unread-expr k (slash′ a b) ns ps =
+      simp append-assoc (unread-expr k a _ ps ∙ unread-expr (k + exprSize a) b _ (an-expr a ∷ ps))
   unread-expr k (call e t g) ns ps =
       simp append-assoc (unread-expr k e _ ps ∙ unread-args (k + exprSize e) g _ (an-expr e ∷ ps)
       ∙ ap (unread ns) (before-args (k + exprSize e) g (an-expr e ∷ ps) _))
@@ -125,9 +129,11 @@ mutual
   unread-args : (k : ℕ) (g : Args) (ns : List Node) (ps : List Part) → unread (argNodes k g ++ ns) ps ≡ unread ns (argsOn g ps)
   unread-args k none-given ns ps = refl
   unread-args k (given g e) ns ps =
-      simp append-assoc (unread-args k g _ ps ∙ unread-expr (k + argsSize g) e _ (argsOn g ps) ∙ ap (unread ns) (before-args k g ps _))
+      simp append-assoc (unread-args k g _ ps ∙ unread-expr (k + argsSize g) e _ (argsOn g ps)
+      ∙ ap (unread ns) (before-args k g ps _))
   unread-args k (named g t e) ns ps =
-      simp append-assoc (unread-args k g _ ps ∙ unread-expr (k + argsSize g) e _ (argsOn g ps) ∙ ap (unread ns) (before-args k g ps _))
+      simp append-assoc (unread-args k g _ ps ∙ unread-expr (k + argsSize g) e _ (argsOn g ps)
+      ∙ ap (unread ns) (before-args k g ps _))
 
 unread-stmt : (k : ℕ) (s : Stmt) (ns : List Node) → unread (stmtNodes k s ++ ns) [] ≡ s ∷ unread ns []
 unfolding unread waiting
@@ -177,7 +183,8 @@ row-long : (n : Node) → length (nodeRow n) ≡ nodeWidth
 unfolding nodeRow
 row-long n = refl
 
-read-table : (n : ℕ) (ss : List Stmt) → length (nodes ss) ≤ n / nodeWidth → unread (grouped (tabled nodeRow nodeWidth n (nodes ss))) [] ≡ ss
+read-table : (n : ℕ) (ss : List Stmt) → length (nodes ss) ≤ n / nodeWidth
+    → unread (grouped (tabled nodeRow nodeWidth n (nodes ss))) [] ≡ ss
 read-table n ss h =
     let words = flat nodeRow (nodes ss) in
     let fits : n ≡ length words + (n - length words) = omega (arith, length-flat nodeRow nodeWidth row-long (nodes ss)) in

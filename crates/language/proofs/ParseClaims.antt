@@ -42,7 +42,7 @@ same v t n l c = record { number = refl; kind = refl; place = nowhere l c l c; c
 
 -- of the same contents the answers are the same
 same-within : {s u : List ℕ} (over : Bool) (t n : ℕ)
-    → SameParse s u (if′ over (parsed (verdict 6 0 0) 0 0) (parsed (verdict 0 0 0) t n)) (if′ over (parsed (verdict 6 0 0) 0 0) (parsed (verdict 0 0 0) t n))
+    → let a = if′ over (parsed (verdict 6 0 0) 0 0) (parsed (verdict 0 0 0) t n) in SameParse s u a a
 same-within true t n = same (verdict 6 0 0) 0 0 refl refl
 same-within false t n = same (verdict 0 0 0) t n refl refl
 
@@ -66,11 +66,12 @@ same-answer s u h l e t n = rw (parsed-by s h t n, parsed-by u l t n, e) (same-a
 
 pub parsed-by-contents : ParsedByContents
 unfolding parseNodes
-parsed-by-contents s u h l e =
-    (λ t n.
-    let same-number = same-answer s u h l e (t / tokenWidth) (n / nodeWidth) .number in
-    rw (same-number, e),
-    λ t n. same-answer s u h l e t n)
+parsed-by-contents s u h l e = (
+  λ t n.
+      let same-number = same-answer s u h l e (t / tokenWidth) (n / nodeWidth) .number in
+      rw (same-number, e),
+  λ t n. same-answer s u h l e t n,
+)
 
 pub text-parsed : TextParsed
 text-parsed s f = let r = round-trip s f in parsed-by-contents (text s) s (r .0) (f .lexes) (r .1)

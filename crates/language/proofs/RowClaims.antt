@@ -30,7 +30,12 @@ module _ (ns : List Node) where
 
   first-part : {k : ℕ} (xs ys : List Node) → Have k (xs ++ ys) → Have k xs
   first-part xs ys h =
-      record { before = h .before; after = ys ++ h .after; whole = rw (← append-assoc xs ys (h .after)) (h .whole); long = h .long }
+      record {
+        before = h .before;
+        after = ys ++ h .after;
+        whole = rw (← append-assoc xs ys (h .after)) (h .whole);
+        long = h .long;
+      }
 
   last-part : {k : ℕ} (n : ℕ) (xs ys : List Node) → length xs ≡ n → Have k (xs ++ ys) → Have (k + n) ys
   last-part n xs ys l h =
@@ -53,7 +58,9 @@ module _ (ns : List Node) where
   names-held t (suc n) k h j l =
       elim (decLt j n) [
         | yes m ↦ names-held t n k (first-part (nameNodes t n) _ h) j m
-        | no m ↦ let same : j ≡ n = omega arith in rw same (own n (k + n) (nameNodes t n) (node 1 (t + 2 * suc n) 0 0 0) (names-long t n) refl h)
+        | no m ↦
+            let same : j ≡ n = omega arith in
+            rw same (own n (k + n) (nameNodes t n) (node 1 (t + 2 * suc n) 0 0 0) (names-long t n) refl h)
       ]
 
   -- the last of n nodes from row k on is row i
@@ -71,8 +78,8 @@ module _ (ns : List Node) where
     right : Have (k + n) ys
     top : rowAt ns i ≡ z
 
-  over : {k : ℕ} (n m i : ℕ) (xs ys : List Node) (z : Node) → length xs ≡ n → length ys ≡ m → k + n + m ≡ i → Have k (xs ++ ys ++ z ∷ [])
-      → Over k n i xs ys z
+  over : {k : ℕ} (n m i : ℕ) (xs ys : List Node) (z : Node) → length xs ≡ n → length ys ≡ m → k + n + m ≡ i
+      → Have k (xs ++ ys ++ z ∷ []) → Over k n i xs ys z
   over n m i xs ys z l r e h =
       let both = first-part (xs ++ ys) (z ∷ []) h in
       record {
@@ -89,7 +96,8 @@ module _ (ns : List Node) where
     expr-held i k (path t n) l h =
         let from : i - n ≡ k = omega arith in
         let names = names-held t n k (first-part (nameNodes t n) _ h) in
-        holds-path {i = i} {t = t} {n = n} (omega arith) (rw from names) (own n i (nameNodes t n) _ (names-long t n) (omega arith) h)
+        holds-path {i = i} {t = t} {n = n} (omega arith) (rw from names)
+        (own n i (nameNodes t n) _ (names-long t n) (omega arith) h)
     expr-held i k (member e t) l h =
         let some = some-node e in
         let object = expr-held (k + exprSize e - 1) k e (omega arith) (first-part (exprNodes k e) _ h) in
@@ -97,32 +105,37 @@ module _ (ns : List Node) where
     expr-held i k (slash′ a b) l h =
         let some = some-node a in
         let more = some-node b in
-        let o = over (exprSize a) (exprSize b) i (exprNodes k a) (exprNodes (k + exprSize a) b) _ (expr-long k a) (expr-long (k + exprSize a) b) (omega arith) h in
-        holds-slash {i = i} (expr-held (k + exprSize a - 1) k a (omega arith) (o .left))
-        (expr-held (k + exprSize a + exprSize b - 1) (k + exprSize a) b (omega arith) (o .right)) (omega arith) (omega arith) (o .top)
+        let j = k + exprSize a in
+        let o = over (exprSize a) (exprSize b) i (exprNodes k a) (exprNodes j b) _ (expr-long k a) (expr-long j b) (omega arith) h in
+        holds-slash {i = i} (expr-held (j - 1) k a (omega arith) (o .left)) (expr-held (j + exprSize b - 1) j b (omega arith) (o .right))
+        (omega arith) (omega arith) (o .top)
     expr-held i k (call e t g) l h =
         let some = some-node e in
-        let below = last-below (k + exprSize e) g in
-        let o = over (exprSize e) (argsSize g) i (exprNodes k e) (argNodes (k + exprSize e) g) _ (expr-long k e) (args-long (k + exprSize e) g) (omega arith) h in
-        holds-call {i = i} (expr-held (k + exprSize e - 1) k e (omega arith) (o .left)) (args-held (k + exprSize e) g (o .right))
-        (omega arith) (omega arith) (o .top)
+        let j = k + exprSize e in
+        let below = last-below j g in
+        let o = over (exprSize e) (argsSize g) i (exprNodes k e) (argNodes j g) _ (expr-long k e) (args-long j g) (omega arith) h in
+        holds-call {i = i} (expr-held (j - 1) k e (omega arith) (o .left)) (args-held j g (o .right)) (omega arith) (omega arith) (o .top)
 
     args-held : (k : ℕ) (g : Args) → Have k (argNodes k g) → HoldsArgs ns (lastOf k g) g
     args-held k none-given h = holds-none
     args-held k (given g e) h =
-        let i = k + argsSize g + exprSize e in
         let some = some-node e in
         let below = last-below k g in
+        let j = k + argsSize g in
+        let i = j + exprSize e in
         let last : k + (argsSize g + exprSize e + 1) ≡ suc i = omega arith in
-        let o = over (argsSize g) (exprSize e) i (argNodes k g) (exprNodes (k + argsSize g) e) _ (args-long k g) (expr-long (k + argsSize g) e) refl h in
-        rw last (holds-given {i = i} (args-held k g (o .left)) (expr-held (i - 1) (k + argsSize g) e (omega arith) (o .right)) (omega arith) (omega arith) (o .top))
+        let o = over (argsSize g) (exprSize e) i (argNodes k g) (exprNodes j e) _ (args-long k g) (expr-long j e) refl h in
+        let value = expr-held (i - 1) j e (omega arith) (o .right) in
+        rw last (holds-given {i = i} (args-held k g (o .left)) value (omega arith) (omega arith) (o .top))
     args-held k (named g t e) h =
-        let i = k + argsSize g + exprSize e in
         let some = some-node e in
         let below = last-below k g in
+        let j = k + argsSize g in
+        let i = j + exprSize e in
         let last : k + (argsSize g + exprSize e + 1) ≡ suc i = omega arith in
-        let o = over (argsSize g) (exprSize e) i (argNodes k g) (exprNodes (k + argsSize g) e) _ (args-long k g) (expr-long (k + argsSize g) e) refl h in
-        rw last (holds-named {i = i} (args-held k g (o .left)) (expr-held (i - 1) (k + argsSize g) e (omega arith) (o .right)) (omega arith) (omega arith) (o .top))
+        let o = over (argsSize g) (exprSize e) i (argNodes k g) (exprNodes j e) _ (args-long k g) (expr-long j e) refl h in
+        let value = expr-held (i - 1) j e (omega arith) (o .right) in
+        rw last (holds-named {i = i} (args-held k g (o .left)) value (omega arith) (omega arith) (o .top))
 
   stmt-held : (i k : ℕ) (s : Stmt) → Last i k (stmtSize s) → Have k (stmtNodes k s) → HoldsStmt ns i s
   stmt-held i k (import′ t) l h = holds-import (row i (omega arith) h)
@@ -148,7 +161,8 @@ stmt-have ns k [] us s h = let same : k + 0 ≡ k = omega arith in rw same (firs
 stmt-have ns k (x ∷ xs) us s h =
     let long = stmt-long k x in
     let on : k + length (stmtNodes k x) + programSize xs ≡ k + (stmtSize x + programSize xs) = omega arith in
-    rw on at (stmt-have ns (k + length (stmtNodes k x)) xs us s (last-part ns (length (stmtNodes k x)) (stmtNodes k x) _ refl h))
+    let rest = last-part ns (length (stmtNodes k x)) (stmtNodes k x) _ refl h in
+    rw on at (stmt-have ns (k + length (stmtNodes k x)) xs us s rest)
 
 pub rows-hold : RowsHold
 rows-hold ss us s =

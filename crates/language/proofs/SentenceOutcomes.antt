@@ -27,11 +27,13 @@ good h = record { holds = h }
 pub refused : {A : Type 0} {P : A → ℕ → ℕ → Type 0} {n k at : ℕ} → Every P (no n k at)
 refused = record { holds = tt }
 
-pub also : {A : Type 0} {P Q : A → ℕ → ℕ → Type 0} {o : Out A} → Every P o → ((a : A) (at s : ℕ) → P a at s → Q a at s) → Every Q o
+pub also : {A : Type 0} {P Q : A → ℕ → ℕ → Type 0} {o : Out A} → Every P o → ((a : A) (at s : ℕ) → P a at s → Q a at s)
+    → Every Q o
 also {o = ok a at s} h f = good (f a at s (h .holds))
 also {o = no n k at} h f = refused
 
-pub either : {A : Type 0} {P : A → ℕ → ℕ → Type 0} (b : Bool) {o q : Out A} → (b ≡ true → Every P o) → (b ≡ false → Every P q) → Every P (if′ b o q)
+pub either : {A : Type 0} {P : A → ℕ → ℕ → Type 0} (b : Bool) {o q : Out A} → (b ≡ true → Every P o) → (b ≡ false → Every P q)
+    → Every P (if′ b o q)
 either true h l = h refl
 either false h l = l refl
 
@@ -55,7 +57,12 @@ module _ (ts : List Content) where
 
   -- a token that is not `Eof` is inside
   pub before-end : {at : ℕ} (c : Content) → eqb 1 (contentKind c) ≡ false → is ts at c ≡ true → at < length ts
-  before-end {at} c k e = elim (decLt at (length ts)) [ Dec.yes h ↦ h | Dec.no h ↦ absurd (false≢true (sym k ∙ sym (past c (omega arith)) ∙ e)) ]
+  before-end {at} c k e =
+      elim (decLt at (length ts)) [
+        | Dec.yes h ↦ h
+        | Dec.no h ↦ absurd (false≢true (sym k ∙ sym (past c (omega arith)) ∙ e))
+      ]
 
   pub not-end : {at : ℕ} → is ts at eof ≡ false → at < length ts
-  not-end {at} e = elim (decLt at (length ts)) [ Dec.yes h ↦ h | Dec.no h ↦ absurd (false≢true (sym e ∙ past eof (omega arith))) ]
+  not-end {at} e =
+      elim (decLt at (length ts)) [ Dec.yes h ↦ h | Dec.no h ↦ absurd (false≢true (sym e ∙ past eof (omega arith))) ]

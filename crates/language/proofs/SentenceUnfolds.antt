@@ -24,7 +24,8 @@ module _ (ts : List Content) where
       both-sides _≡_ (isName ts (at + 1)) (λ _. names-same f (n + 1) (at + 2) s (omega arith) (omega arith)) (λ _. refl))
       (λ _. refl)
 
-  args-same : (d f : ℕ) (g : Args) (at : ℕ) → 0 < f → length ts < at + f → argsOf ts (exprAt ts d) f g at ≡ argsOf ts (exprAt ts d) (suc f) g at
+  args-same : (d f : ℕ) (g : Args) (at : ℕ) → 0 < f → length ts < at + f
+      → argsOf ts (exprAt ts d) f g at ≡ argsOf ts (exprAt ts d) (suc f) g at
   unfolding argsOf
   args-same d zero g at h l = absurd (omega arith)
   args-same d (suc f) g at h l =
@@ -44,14 +45,16 @@ module _ (ts : List Content) where
       let on = stmt-on ts (a .0) in stmts-same f (ss ++ s ∷ []) next (omega arith) (omega arith)))
 
   -- any number of turns is the same that is more than the steps that are left
-  slashes-same : (d f g : ℕ) (e : Expr) (at s : ℕ) → s < f → s < g → slashes ts (chainAt ts d) f e at s ≡ slashes ts (chainAt ts d) g e at s
+  slashes-same : (d f g : ℕ) (e : Expr) (at s : ℕ) → s < f → s < g
+      → slashes ts (chainAt ts d) f e at s ≡ slashes ts (chainAt ts d) g e at s
   unfolding slashes
   slashes-same d zero g e at s h l = absurd (omega arith)
   slashes-same d (suc f) zero e at s h l = absurd (omega arith)
   slashes-same d (suc f) (suc g) e at zero h l = refl
   slashes-same d (suc f) (suc g) e at (suc s) h l =
       both-sides _≡_ (is ts at (plain slash))
-      (λ _. same-then (found-chain ts d s (at + 1)) (λ r next x c. slashes-same d f g (slash′ e r) next x (omega (arith, c .1)) (omega (arith, c .1))))
+      (λ _. same-then (found-chain ts d s (at + 1)) (λ r next x c.
+      slashes-same d f g (slash′ e r) next x (omega (arith, c .1)) (omega (arith, c .1))))
       (λ _. refl)
 
 -- ---- the claims
@@ -62,15 +65,19 @@ names-unfold ts n at s = names-same ts (suc (length ts)) n at s (omega arith) (o
 
 pub slashes-unfold : SlashesUnfold
 unfolding slashes
-slashes-unfold ts d e at s =
-    (refl, both-sides _≡_ (is ts at (plain slash))
-    (λ _. same-then (found-chain ts d s (at + 1)) (λ r next x c. slashes-same ts d (suc s) (suc x) (slash′ e r) next x (omega (arith, c .1)) (omega arith)))
-    (λ _. refl))
+slashes-unfold ts d e at s = (
+  refl,
+  both-sides _≡_ (is ts at (plain slash))
+      (λ _. same-then (found-chain ts d s (at + 1)) (λ r next x c.
+      slashes-same ts d (suc s) (suc x) (slash′ e r) next x (omega (arith, c .1)) (omega arith)))
+      (λ _. refl),
+)
 
 pub expr-unfolds : ExprUnfolds
 unfolding exprOf
 expr-unfolds ts d at =
-    same-then (found-chain ts d mostSteps at) (λ e next x c. slashes-same ts d (suc mostSteps) (suc x) e next x (omega (arith, c .1)) (omega arith))
+    same-then (found-chain ts d mostSteps at) (λ e next x c.
+    slashes-same ts d (suc mostSteps) (suc x) e next x (omega (arith, c .1)) (omega arith))
 
 pub args-unfold : ArgsUnfold
 unfolding argsOf
