@@ -321,7 +321,7 @@ module _ (ts : List Content) where
 
 pub grammar-met : GrammarMet
 grammar-met ts ss next =
-    (λ e. let h = rw e at (found-program ts) in h .holds .0, λ p. program-unfolds ts ∙ program-met ts p [])
+    (λ x e. let h = rw e at (found-program ts) in h .holds, λ p. program-unfolds ts ∙ program-met ts p [])
 
 pub one-reading : OneReading
 one-reading ts ss us m n p q =

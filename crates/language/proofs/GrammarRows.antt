@@ -79,4 +79,4 @@ module _ (ts : List Content) where
   program-right (is-next {s = s} x p) k = more-right (stmt-right x k) (program-right p (k + length (stmtNodes k s)))
 
 pub rows-right : RowsRight
-rows-right ts ss next e = program-right ts (grammar-met ts ss next .0 e) 0 .each
+rows-right ts ss next x e = program-right ts (grammar-met ts ss next .0 x e) 0 .each

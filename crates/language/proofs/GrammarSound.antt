@@ -147,10 +147,10 @@ module _ (ts : List Content) where
 
   -- with its `;`
   ended-read : {at : ℕ} (s : Stmt) (mid : ℕ) → (One ts (plain semiColon) mid (mid + 1) → Statement ts at s (mid + 1))
-      → Every (λ r next x. Statement ts at r next × (x ≡ 0)) (ended ts s mid)
-  ended-read s mid f = either (is ts mid (plain semiColon)) (λ o. good (f (takes o refl), refl)) (λ _. refused)
+      → Every (λ r next x. Statement ts at r next) (ended ts s mid)
+  ended-read s mid f = either (is ts mid (plain semiColon)) (λ o. good (f (takes o refl))) (λ _. refused)
 
-  pub found-stmt : (at : ℕ) → Every (λ s next x. Statement ts at s next × (x ≡ 0)) (stmtAt ts at)
+  pub found-stmt : (at : ℕ) → Every (λ s next x. Statement ts at s next) (stmtAt ts at)
   unfolding stmtAt importAt letAt
   found-stmt at =
       either (is ts at (plain importKeyword))
@@ -165,15 +165,14 @@ module _ (ts : List Content) where
       (λ _. both (found-expr mostLists at) (λ e next x l. ended-read (expr′ e) next (λ o. is-expr l o))))
 
   stmts-read : (f : ℕ) (ss : List Stmt) (at : ℕ)
-      → Every (λ us next x. (vs : List Stmt) × (us ≡ ss ++ vs) × Program ts at vs next × (x ≡ 0)) (stmtsFrom ts f ss at)
+      → Every (λ us next x. (vs : List Stmt) × (us ≡ ss ++ vs) × Program ts at vs next) (stmtsFrom ts f ss at)
   unfolding stmtsFrom
   stmts-read zero ss at = refused
   stmts-read (suc f) ss at =
-      either (is ts at eof) (λ p. good ([], sym (append-nil ss), is-end p, refl))
+      either (is ts at eof) (λ p. good ([], sym (append-nil ss), is-end p))
       (λ _. both (found-stmt at) (λ s next x h.
-      also (stmts-read f (ss ++ s ∷ []) next)
-      (λ us n y q. (s ∷ q .0, q .1 ∙ append-assoc ss (s ∷ []) (q .0), is-next (h .0) (q .2), q .3))))
+      also (stmts-read f (ss ++ s ∷ []) next) (λ us n y q. (s ∷ q .0, q .1 ∙ append-assoc ss (s ∷ []) (q .0), is-next h (q .2)))))
 
-  pub found-program : Every (λ ss next x. Program ts 0 ss next × (x ≡ 0)) (program ts)
+  pub found-program : Every (λ ss next x. Program ts 0 ss next) (program ts)
   unfolding program
-  found-program = also (stmts-read (suc (length ts)) [] 0) (λ us n y q. (rw (q .1) (q .2), q .3))
+  found-program = also (stmts-read (suc (length ts)) [] 0) (λ us n y q. rw (q .1) (q .2))

@@ -42,7 +42,7 @@ module _ (ts : List Content) where
       both-sides _≡_ (is ts at eof) (λ _. refl)
       (λ e. let i = not-end ts e in
       same-then (found-stmt ts at) (λ s next x a.
-      let on = stmt-on ts (a .0) in stmts-same f (ss ++ s ∷ []) next (omega arith) (omega arith)))
+      let on = stmt-on ts a in stmts-same f (ss ++ s ∷ []) next (omega arith) (omega arith)))
 
   -- any number of turns is the same that is more than the steps that are left
   slashes-same : (d f g : ℕ) (e : Expr) (at s : ℕ) → s < f → s < g

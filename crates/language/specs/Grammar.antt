@@ -108,7 +108,7 @@ module _ (ts : List Content) where
 abbrev pub GrammarMet : Type 0
 GrammarMet =
     (ts : List Content) (ss : List Stmt) (next : ℕ)
-    → (program ts ≡ ok ss next 0 → Program ts 0 ss next) × (Program ts 0 ss next → program ts ≡ ok ss next 0)
+    → ((x : ℕ) → program ts ≡ ok ss next x → Program ts 0 ss next) × (Program ts 0 ss next → program ts ≡ ok ss next 0)
 
 -- so no tokens have two readings
 abbrev pub OneReading : Type 0
@@ -138,5 +138,5 @@ rightTokens ts n =
 
 abbrev pub RowsRight : Type 0
 RowsRight =
-    (ts : List Content) (ss : List Stmt) (next : ℕ) → program ts ≡ ok ss next 0
+    (ts : List Content) (ss : List Stmt) (next x : ℕ) → program ts ≡ ok ss next x
     → (n : Node) → List·Memᴰ n (nodes ss) → rightTokens ts n ≡ true
