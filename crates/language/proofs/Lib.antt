@@ -28,3 +28,12 @@ pub mod CanonicalText
 pub mod Canonical
 pub mod Done
 pub mod SentenceExamples
+pub mod SentenceOutcomes
+pub mod GrammarSound
+pub mod GrammarPlaces
+pub mod SentenceUnfolds
+pub mod GrammarMet
+pub mod GrammarRows
+pub mod NodeClaims
+pub mod RowClaims
+pub mod ParseClaims

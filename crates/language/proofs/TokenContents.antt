@@ -11,7 +11,7 @@ of-contents : {A : Type 0} (f : Content → A) (ts : List Token) → map (λ t. 
 of-contents f [] = refl
 of-contents f (t ∷ ts) = ap (λ (xs : List _). f (t .content) ∷ xs) (of-contents f ts)
 
-as-many : (ts : List Token) → length ts ≡ length (contents ts)
+pub as-many : (ts : List Token) → length ts ≡ length (contents ts)
 as-many [] = refl
 as-many (t ∷ ts) = ap suc (as-many ts)
 

@@ -7,4 +7,6 @@ pub mod Tokens
 pub mod Canonical
 pub mod Tables
 pub mod Sentences
+pub mod Grammar
+pub mod Rows
 pub mod Numbers

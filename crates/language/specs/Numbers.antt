@@ -8,7 +8,7 @@ use lib.Dec.{ltb, eqb}
 use lib.ListN.{length, getD}
 use Rattle.table.specs.Table.{padTo, tabled}
 use Rattle.language.specs.Choice.{if′}
-use Rattle.language.specs.Canonical.{text}
+use Rattle.language.specs.Canonical.{text, Lexes, Fits}
 use Rattle.language.specs.Utf8.{firstBad}
 use Rattle.language.specs.Lexemes.{Placed, scan}
 use Rattle.language.specs.Tables.{lexemeRow, lexemeWidth, tokenRow, tokenWidth, errorKind, errorChar}
@@ -159,3 +159,32 @@ canonTokens s t n = tabled tokenRow tokenWidth t (if′ (eqb (canonAnswer s (t /
 
 unfoldable pub canonText : List ℕ → ℕ → ℕ → List ℕ
 canonText s t n = padTo n (if′ (eqb (canonAnswer s (t / tokenWidth) n .verdict .number) 0) (text s) [])
+
+-- ---- the claims: parsing goes by contents alone
+
+-- two places: none in both sources, or that of the same token in each
+pub data SamePlace (s u : List ℕ) (v w : Verdict) : Type 0 where
+  nowhere : v .line ≡ 0 → v .column ≡ 0 → w .line ≡ 0 → w .column ≡ 0 → SamePlace s u v w
+  at-token : (at : ℕ) → v .line ≡ tokenPlace s at .line → v .column ≡ tokenPlace s at .column → w .line ≡ tokenPlace u at .line
+      → w .column ≡ tokenPlace u at .column → SamePlace s u v w
+
+-- two answers that differ in places at most
+pub record SameParse (s u : List ℕ) (a b : Parsed) : Type 0 where
+  pub number : a .verdict .number ≡ b .verdict .number
+  pub kind : a .verdict .kind ≡ b .verdict .kind
+  pub place : SamePlace s u (a .verdict) (b .verdict)
+  pub character : a .verdict .character ≡ b .verdict .character
+  pub tokens : a .tokens ≡ b .tokens
+  pub nodes : a .nodes ≡ b .nodes
+
+-- sources that lex to the same contents are parsed to the same nodes, with the same answer, places aside
+abbrev pub ParsedByContents : Type 0
+ParsedByContents =
+    (s u : List ℕ) → Lexes s → Lexes u → contents (tokens s) ≡ contents (tokens u)
+    → ((t n : ℕ) → parseNodes s t n ≡ parseNodes u t n) × ((t n : ℕ) → SameParse s u (parseAnswer s t n) (parseAnswer u t n))
+
+-- and so is a source and its canonical text
+abbrev pub TextParsed : Type 0
+TextParsed =
+    (s : List ℕ) → Fits s
+    → ((t n : ℕ) → parseNodes (text s) t n ≡ parseNodes s t n) × ((t n : ℕ) → SameParse (text s) s (parseAnswer (text s) t n) (parseAnswer s t n))

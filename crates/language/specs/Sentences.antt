@@ -1,10 +1,12 @@
 -- Sentences (01, "Sentences"): the trees that a list of contents stands for, or the first token that is refused. Everything
 -- is named by the index of a token; past the end every token is `Eof`.
-use Prim.Native.Nat.{ℕ, zero, suc, _+_, _-_, _*_}
+use Prim.Native.Nat.{ℕ, zero, suc, _+_, _-_, _*_, _/_, _≤_}
+use mathlib.Core.Path.{_≡_}
 use mathlib.Core.Bool.{Bool, true, false, _||_}
 use mathlib.Core.List.{List, [], _∷_, _++_}
 use lib.Dec.{eqb, leb}
 use lib.ListN.{length, getD}
+use Rattle.table.specs.Table.{tabled}
 use Rattle.language.specs.Choice.{if′}
 use Rattle.language.specs.Lexemes.{Tok, lParen, rParen, dot, doubleColon, colon, semiColon, equals, comma, slash, importKeyword, letKeyword, identifier, booleanLiteral, ipv4Literal, hexLiteral, decLiteral}
 use Rattle.language.specs.Tokens.{Content, eof, plain, name, string}
@@ -315,3 +317,88 @@ nodeWidth = 5
 
 unfoldable pub nodeRow : Node → List ℕ
 nodeRow n = n .kind ∷ n .tok ∷ n .first ∷ n .second ∷ n .third ∷ []
+
+-- ---- the claims
+
+-- what the grammar repeats, each with as many turns as it may need; `slashesAt` has one for each step that is left
+module _ (ts : List Content) where
+  abbrev pub names : ℕ → ℕ → ℕ → Out ℕ
+  names n at s = namesFrom ts (suc (length ts)) n at s
+
+  abbrev pub slashesAt : ℕ → Expr → ℕ → ℕ → Out Expr
+  slashesAt d e at s = slashes ts (chainAt ts d) (suc s) e at s
+
+  abbrev pub argsAt : ℕ → Args → ℕ → Out Args
+  argsAt d g at = argsOf ts (exprAt ts d) (suc (length ts)) g at
+
+  abbrev pub stmts : List Stmt → ℕ → Out (List Stmt)
+  stmts ss at = stmtsFrom ts (suc (length ts)) ss at
+
+-- the equations that a reader expects of each production, from any token on, with no bound on the turns. The others
+-- (`address`, `named′`, `primary`, `links`, `chainOf`, `argOf`, `stmtAt`) are their own equations.
+abbrev pub NamesUnfold : Type 0
+NamesUnfold =
+    (ts : List Content) (n at s : ℕ)
+    → names ts n at s
+    ≡ if′ (is ts at (plain doubleColon)) (if′ (isName ts (at + 1)) (names ts (n + 1) (at + 2) s) (unexpected (at + 1))) (ok n at s)
+
+-- with no step left, and with some
+abbrev pub SlashesUnfold : Type 0
+SlashesUnfold =
+    (ts : List Content) (d : ℕ) (e : Expr) (at s : ℕ)
+    → (slashesAt ts d e at 0 ≡ if′ (is ts at (plain slash)) (tooDeep at) (ok e at 0))
+    × (slashesAt ts d e at (suc s)
+    ≡ if′ (is ts at (plain slash)) (andThen (chainAt ts d s (at + 1)) (λ r next left. slashesAt ts d (slash′ e r) next left)) (ok e at (suc s)))
+
+abbrev pub ExprUnfolds : Type 0
+ExprUnfolds =
+    (ts : List Content) (d at : ℕ) → exprAt ts d at ≡ andThen (chainAt ts d mostSteps at) (λ e next s. slashesAt ts d e next s)
+
+abbrev pub ArgsUnfold : Type 0
+ArgsUnfold =
+    (ts : List Content) (d : ℕ) (g : Args) (at : ℕ)
+    → argsAt ts d g at
+    ≡ if′ (is ts at (plain rParen)) (ok g (at + 1) 0)
+    (andThen (argOf ts (exprAt ts d) g at) (λ h next x.
+    if′ (is ts next (plain comma)) (argsAt ts d h (next + 1))
+    (if′ (is ts next (plain rParen)) (ok h (next + 1) 0) (unexpected next))))
+
+-- where no list may be open, and where one more may
+abbrev pub ListUnfolds : Type 0
+ListUnfolds =
+    (ts : List Content) (d at : ℕ) → (listAt ts 0 at ≡ tooDeep at) × (listAt ts (suc d) at ≡ argsAt ts d none-given (at + 1))
+
+abbrev pub StmtsUnfold : Type 0
+StmtsUnfold =
+    (ts : List Content) (ss : List Stmt) (at : ℕ)
+    → stmts ts ss at ≡ if′ (is ts at eof) (ok ss at 0) (andThen (stmtAt ts at) (λ s next x. stmts ts (ss ++ s ∷ []) next))
+
+abbrev pub ProgramUnfolds : Type 0
+ProgramUnfolds = (ts : List Content) → program ts ≡ stmts ts [] 0
+
+-- ---- the claims on nodes
+
+-- "one per statement, per expression, per argument, and per path name after the first"
+abbrev pub stmtSize : Stmt → ℕ
+stmtSize (import′ t) = 1
+stmtSize (let′ t e) = exprSize e + 1
+stmtSize (expr′ e) = exprSize e + 1
+
+abbrev pub programSize : List Stmt → ℕ
+programSize [] = 0
+programSize (s ∷ ss) = stmtSize s + programSize ss
+
+abbrev pub NodesCounted : Type 0
+NodesCounted =
+    ((k : ℕ) (e : Expr) → length (exprNodes k e) ≡ exprSize e) × ((k : ℕ) (g : Args) → length (argNodes k g) ≡ argsSize g)
+    × ((k : ℕ) (s : Stmt) → length (stmtNodes k s) ≡ stmtSize s) × ((ss : List Stmt) → length (nodes ss) ≡ programSize ss)
+
+-- the rows determine the trees
+abbrev pub NodesDetermine : Type 0
+NodesDetermine = (ss us : List Stmt) → nodes ss ≡ nodes us → ss ≡ us
+
+-- and so do the words of a table of n words in which they fit, with no count
+abbrev pub TablesDetermine : Type 0
+TablesDetermine =
+    (n : ℕ) (ss us : List Stmt) → length (nodes ss) ≤ n / nodeWidth → length (nodes us) ≤ n / nodeWidth
+    → tabled nodeRow nodeWidth n (nodes ss) ≡ tabled nodeRow nodeWidth n (nodes us) → ss ≡ us
