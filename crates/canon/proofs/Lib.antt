@@ -7,4 +7,3 @@ pub mod Contents
 pub mod Rows
 pub mod Texts
 pub mod Answers
-pub mod Entry

@@ -1,4 +1,4 @@
--- What the entry promises, and that it leaves no choice.
+-- What the entry promises.
 use mathlib.Core.Path.{_≡_}
 use mathlib.Core.List.{List}
 use Prim.Native.Nat.{ℕ, _/_}
@@ -16,9 +16,3 @@ pub record CanonSource (source : List ℕ) (t n : ℕ) (r : Canonised) (toks lef
   pub answer : r ≡ canonisedAs (canonAnswer source (t / tokenWidth) n)
   pub table : toks ≡ canonTokens source t n
   pub text : left ≡ canonText source t n
-
--- two results that satisfy it are equal
-abbrev pub CanonDetermined : Type 0
-CanonDetermined =
-    (source : List ℕ) (t n : ℕ) (r q : Canonised) (a b x y : List ℕ) → CanonSource source t n r a x → CanonSource source t n q b y
-    → (r ≡ q) × (a ≡ b) × (x ≡ y)

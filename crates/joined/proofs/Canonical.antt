@@ -8,9 +8,14 @@ use Rattle.table.proofs.Laws.{pad-prefix}
 use Rattle.language.specs.Tables.{tokenWidth}
 use Rattle.language.specs.Tokens.{tokens, contents}
 use Rattle.language.specs.Canonical.{text}
-use Rattle.language.specs.Numbers.{verdict, lexed, canonised}
+use Rattle.language.specs.Sentences.{nodeWidth}
+use Rattle.language.specs.Numbers as numbers
+use Rattle.language.specs.Numbers.{verdict, lexed, canonised, parseAnswer, parseNodes}
+use Rattle.parse.specs.declared.ParseAnswer.{ParseAnswer}
+use Rattle.parse.specs.Entry.{parsedAs, ParseSource}
 use Rattle.language.proofs.Canonical.{round-trip, own-text, same-text}
 use Rattle.language.proofs.TokenContents.{contents-decide}
+use Rattle.language.proofs.ParseClaims.{text-parsed}
 use Rattle.language.proofs.Done.{lex-done, lex-leaves, FitsIn, lexes-in, canon-done, canon-done-only, canon-leaves-tokens, canon-leaves-text}
 use Rattle.lex.specs.declared.Lexed.{Lexed}
 use Rattle.lex.specs.Lexing.{lexedAs}
@@ -18,7 +23,7 @@ use Rattle.lex.specs.Entry.{LexSource}
 use Rattle.canon.specs.declared.Canonised.{Canonised}
 use Rattle.canon.specs.Writing.{Lexes}
 use Rattle.canon.specs.Entry.{canonisedAs, CanonSource}
-use Rattle.joined.specs.Canonical.{Done, textLeft, SameRows, DoneExactly, TextLexes, TextStays, SameTexts, SameTables}
+use Rattle.joined.specs.Canonical.{Done, textLeft, SameRows, DoneExactly, TextLexes, TextStays, SameTexts, SameTables, TextParses}
 use Rattle.canon.proofs.Rows.{holds}
 use Rattle.joined.proofs.SameRows.{same-rows, same-written}
 
@@ -107,3 +112,23 @@ same-tables s u t n k m r q a b x y c d z w =
     let g = all-tokens d w in
     (λ e. (counted c z ∙ contents-decide (tokens s) (tokens u) (told e) .0 ∙ sym (counted d w), same-rows h g (told e)),
     λ e. written c z ∙ same-written h g (e .0) (e .1) ∙ sym (written d w))
+
+-- a field of two answers of parse, to the text and to its source
+parsed-field : {A : Type 0} (f : ParseAnswer → A) {s u : List ℕ} {t m : ℕ} {p q : ParseAnswer} {a b x y : List ℕ}
+    → ParseSource s t m p a x → ParseSource u t m q b y → u ≡ text s
+    → f (parsedAs (parseAnswer (text s) (t / tokenWidth) (m / nodeWidth))) ≡ f (parsedAs (parseAnswer s (t / tokenWidth) (m / nodeWidth))) → f q ≡ f p
+parsed-field f {s} {u} {t} {m} c d w e =
+    ap f (d .answer) ∙ ap (λ (v : List ℕ). f (parsedAs (parseAnswer v (t / tokenWidth) (m / nodeWidth)))) w ∙ e ∙ sym (ap f (c .answer))
+
+pub text-parses : TextParses
+text-parses s t n r toks left c z m p q a b x y f g =
+    let w = written c z in
+    let h = text-parsed s (fits c z .fits) in
+    let k = h .1 (t / tokenWidth) (m / nodeWidth) in
+    (
+      g .nodes ∙ ap (λ (v : List ℕ). parseNodes v t m) w ∙ h .0 t m ∙ sym (f .nodes),
+      parsed-field (λ (v : ParseAnswer). v .verdict .number) f g w (k .number),
+      parsed-field (λ (v : ParseAnswer). v .verdict .kind) f g w (k .kind),
+      parsed-field (λ (v : ParseAnswer). v .tokens) f g w (k .tokens),
+      parsed-field (λ (v : ParseAnswer). v .nodes) f g w (k .nodes),
+    )

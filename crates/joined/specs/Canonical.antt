@@ -1,5 +1,5 @@
--- The theorems on canonical text (`RoundTrip`, `OwnText`, `SameText` of the crate `language`), said of what calls of
--- canonicalise and lex answer and leave.
+-- The theorems on canonical text (`RoundTrip`, `OwnText`, `SameText`, `TextParsed` of the crate `language`), said of what calls
+-- of canonicalise, lex and parse answer and leave.
 use Prim.Native.Nat.{ℕ, _+_, _*_, _/_, _≤_}
 use mathlib.Core.Path.{_≡_}
 use mathlib.Core.List.{List}
@@ -10,6 +10,8 @@ use Rattle.language.specs.Canonical.{text, Fits}
 use Rattle.lex.specs.declared.Lexed.{Lexed}
 use Rattle.lex.specs.Entry.{LexSource}
 use Rattle.lex.specs.Lexing.{bodyAt}
+use Rattle.parse.specs.declared.ParseAnswer.{ParseAnswer}
+use Rattle.parse.specs.Entry.{ParseSource}
 use Rattle.canon.specs.declared.Canonised.{Canonised}
 use Rattle.canon.specs.Entry.{CanonSource}
 
@@ -84,3 +86,11 @@ SameTables =
     → Done r → Done q
     → (textLeft r x ≡ textLeft q y → (r .tokens ≡ q .tokens) × SameRows s u a b)
     × ((r .tokens ≡ q .tokens) × SameRows s u a b → textLeft r x ≡ textLeft q y)
+
+-- parsing that text with the same rooms leaves the same nodes, and answers the same number, kind and counts, a refusal too
+abbrev pub TextParses : Type 0
+TextParses =
+    (source : List ℕ) (t n : ℕ) (r : Canonised) (toks left : List ℕ) → CanonSource source t n r toks left → Done r
+    → (m : ℕ) (p q : ParseAnswer) (a b x y : List ℕ) → ParseSource source t m p a x → ParseSource (textLeft r left) t m q b y
+    → (y ≡ x) × (q .verdict .number ≡ p .verdict .number) × (q .verdict .kind ≡ p .verdict .kind) × (q .tokens ≡ p .tokens)
+    × (q .nodes ≡ p .nodes)

@@ -5,4 +5,3 @@ pub mod Lines
 pub mod Places
 pub mod Answers
 pub mod Bodies
-pub mod Entry

@@ -1,4 +1,4 @@
--- What the entry promises, and that it leaves no choice.
+-- What the entry promises.
 use mathlib.Core.Path.{_≡_}
 use mathlib.Core.List.{List}
 use Prim.Native.Nat.{ℕ, _/_}
@@ -11,8 +11,3 @@ use Rattle.lex.specs.Lexing.{lexedAs}
 pub record LexSource (source : List ℕ) (n : ℕ) (r : Lexed) (left : List ℕ) : Type 0 where
   pub answer : r ≡ lexedAs (lexAnswer source (n / tokenWidth))
   pub table : left ≡ lexTable source n
-
--- two results that satisfy it are equal
-abbrev pub LexDetermined : Type 0
-LexDetermined =
-    (source : List ℕ) (n : ℕ) (r q : Lexed) (t u : List ℕ) → LexSource source n r t → LexSource source n q u → (r ≡ q) × (t ≡ u)

@@ -29,7 +29,7 @@ use Rattle.parse.specs.declared.Parsed.{Parsed}
 use Rattle.parse.specs.declared.Parsed.the-variants.{Done, Refused}
 use Rattle.parse.specs.declared.ParseAnswer.{ParseAnswer}
 use Rattle.parse.specs.Parsing.{Rep, Holds, MetAll, verdictAt}
-use Rattle.parse.specs.Entry.{refusal, GivesUp, Lexes, ParseSource, ParseDetermined}
+use Rattle.parse.specs.Entry.{refusal, GivesUp, Lexes, ParseSource}
 use Rattle.parse.proofs.TokenRows.{some-token, few-tokens, part-rep, place-at}
 use Rattle.parse.proofs.Refusals.{refused-number}
 
@@ -192,8 +192,3 @@ module _ {s toks : List ℕ} {count : ℕ} (l : Lexes s toks count) where
       accepted h d f =
           let e = all-done q m in
           accepted-as n (e .2) (e .3) h (tabled-own nodeRow 5 (length b) n (nodes (e .0)) (e .4 .rows) u) d f
-
--- ---- the claim
-
-pub parse-determined : ParseDetermined
-parse-determined source t n r q a b x y f g = (f .answer ∙ sym (g .answer), f .tokens ∙ sym (g .tokens), f .nodes ∙ sym (g .nodes))

@@ -1,4 +1,4 @@
--- What the entry promises, and that it leaves no choice.
+-- What the entry promises.
 use mathlib.Core.Path.{_≡_}
 use mathlib.Core.List.{List, []}
 use Prim.Native.Nat.{ℕ, _/_}
@@ -37,9 +37,3 @@ pub record ParseSource (source : List ℕ) (t n : ℕ) (r : ParseAnswer) (toks l
   pub answer : r ≡ parsedAs (parseAnswer source (t / tokenWidth) (n / nodeWidth))
   pub tokens : toks ≡ parseTokens source t n
   pub nodes : left ≡ parseNodes source t n
-
--- two results that satisfy it are equal
-abbrev pub ParseDetermined : Type 0
-ParseDetermined =
-    (source : List ℕ) (t n : ℕ) (r q : ParseAnswer) (a b x y : List ℕ) → ParseSource source t n r a x → ParseSource source t n q b y
-    → (r ≡ q) × (a ≡ b) × (x ≡ y)

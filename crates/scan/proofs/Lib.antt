@@ -9,4 +9,3 @@ pub mod Quads
 pub mod Starts
 pub mod Filling
 pub mod Answers
-pub mod Entry

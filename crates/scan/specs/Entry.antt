@@ -1,4 +1,4 @@
--- What the entry promises, and that it leaves no choice.
+-- What the entry promises.
 use mathlib.Core.Path.{_≡_}
 use mathlib.Core.List.{List}
 use Prim.Native.Nat.{ℕ, _/_}
@@ -12,8 +12,3 @@ use Rattle.scan.specs.Scanning.{scannedAs}
 pub record ScanLine (line : List ℕ) (n : ℕ) (r : Scanned) (left : List ℕ) : Type 0 where
   pub answer : r ≡ scannedAs (scanAnswer line (n / lexemeWidth))
   pub table : left ≡ scanTable line n
-
--- two results that satisfy it are equal
-abbrev pub ScanDetermined : Type 0
-ScanDetermined =
-    (line : List ℕ) (n : ℕ) (r q : Scanned) (t u : List ℕ) → ScanLine line n r t → ScanLine line n q u → (r ≡ q) × (t ≡ u)
