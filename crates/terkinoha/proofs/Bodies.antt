@@ -1,5 +1,5 @@
 -- The loop that looks for the next body, and the one that walks on to the body with a number.
-use Prim.Native.Nat.{ℕ, zero, suc, _+_, _-_, _≤_, _<_}
+use Prim.Native.Nat.{ℕ, _+_, _-_, _≤_, _<_}
 use mathlib.Core.Path.{_≡_, refl, sym, ap, _∙_}
 use mathlib.Core.List.{List, [], _∷_, _++_}
 use mathlib.Core.Logic.{inl, inr}
@@ -8,7 +8,7 @@ use types.Run.{OneOf}
 use denote.Enum.Declared.{tagOf}
 use lib.ListN.{length, take, drop, length-take}
 use lib.Seq.{drop-nil, drop-drop}
-use Rattle.language.specs.Lexemes.{Kind, trivia, str, tok, error, scanFrom, lexeme}
+use Rattle.language.specs.Lexemes.{Kind, trivia, str, tok, error, lexeme}
 use Rattle.scan.specs.declared.Lexeme.{Lexeme}
 use Rattle.scan.specs.declared.LexemeKind.the-variants as kind-is
 use Rattle.scan.specs.declared.Scanner.{Scanner}
@@ -67,12 +67,12 @@ module _ (text : List ℕ) (at pos : ℕ) (k : Walking text at pos) where
         let p = turn text pos l next e in
         let literal = is-literal (lexeme (drop pos text) .kind) (sym h ∙ p .kind) in
         record {
-          is =
-            ( omega (arith, k .past, p .begins)
-            , omega (arith, p .begins, p .ends, p .forth)
-            , omega (arith, p .ends, p .within)
-            , k .same ∙ from-here ∙ rw (literal, p .begins, p .ends)
-            );
+          is = (
+            omega (arith, k .past, p .begins),
+            omega (arith, p .begins, p .ends, p .forth),
+            omega (arith, p .ends, p .within),
+            k .same ∙ from-here ∙ rw (literal, p .begins, p .ends),
+          );
         }
 
 -- ---- the next body

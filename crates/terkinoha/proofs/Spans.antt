@@ -1,22 +1,21 @@
 -- Where bodies lie: the spans of a text, lexeme by lexeme, and the proofs of the claims of specs/Bodies.antt.
 use Prim.Native.Nat.{ℕ, zero, suc, _+_, _-_, _≤_, _<_}
 use mathlib.Core.Path.{_≡_, refl, sym, ap, _∙_}
-use mathlib.Core.List.{List, [], _∷_, _++_, map, map-append, List·Memᴰ, List·Memᴰ·append-cases, List·Memᴰ·eq-of-singleton}
+use mathlib.Core.List.{List, [], _∷_, _++_, map, map-append, List·Memᴰ·append-cases, List·Memᴰ·eq-of-singleton}
 use mathlib.Core.Logic.{_⊎_, inl, inr}
 use mathlib.Core.Option.{none}
 use native.Mathlib.Decide.{decLt, decLe}
 use native.Mathlib.Omega.{arith}
 use borrow.Author.Tests.{lt-ltb, le-leb, lt-leb}
-use lib.Dec.{leb}
-use lib.ListN.{length, take, drop, length-take, length-drop, take-append-drop, drop-of-length-le}
+use lib.ListN.{length, take, drop, length-drop, take-append-drop, drop-of-length-le}
 use lib.Seq.{length-take-le, take-take, take-add, take-append-le, drop-drop, drop-append-add, drop-append-le}
 use Rattle.language.specs.Lexemes.{Kind, trivia, str, tok, error, scanFrom, lexeme}
-use Rattle.language.specs.Tokens.{Token, eof, string, items, tokensFrom, eofToken, tokens, unquoted, between, bodyOf, bodiesOf, bodiesIn}
+use Rattle.language.specs.Tokens.{Token, eof, string, items, tokensFrom, tokens, unquoted, between, bodyOf, bodiesOf}
 use Rattle.language.proofs.LexemeSpans.{scan-unfolds}
 use Rattle.language.proofs.TokenClaims.{places-right, bodies-held}
-use Rattle.scan.specs.Scanning.{lexemeAs, found, stepAt}
+use Rattle.scan.specs.Scanning.{lexemeAs, stepAt}
 use Rattle.lex.proofs.Feeding.{Turn, turn}
-use Rattle.terkinoha.specs.Bodies.{Span, spanOf, spansOf, spansFrom, bodySpans, first, WalkGoesOn, BodiesLie}
+use Rattle.terkinoha.specs.Bodies.{Span, spanOf, spansFrom, bodySpans, first, WalkGoesOn, BodiesLie}
 
 never : {A : Type 0} → _≡_ {A = ℕ} 0 1 → A
 never z = absurd (omega arith)
@@ -131,7 +130,7 @@ module _ (s : List ℕ) (a e : ℕ) (h : a ≤ e) (k : e ≤ length s) where
   same-bytes i n l =
       let rest = drop (e - a) (drop a s) in
       let w : drop i part ++ rest ≡ drop (a + i) s =
-          sym (drop-append-le i part rest (omega arith)) ∙ ap (drop i) (take-append-drop (e - a) (drop a s)) ∙ drop-drop i a s in
+      sym (drop-append-le i part rest (omega arith)) ∙ ap (drop i) (take-append-drop (e - a) (drop a s)) ∙ drop-drop i a s in
       sym (rw (← w) (take-append-le n (drop i part) rest (omega (arith, length-drop i part))))
 
   -- a literal's body

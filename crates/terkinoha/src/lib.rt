@@ -83,7 +83,11 @@ pub extern "C" fn terkinoha_lex_words(source: &[u8], tokens: &mut [u64]) -> Lexe
 
 // Parses a source into a lent table of tokens and a lent table of nodes.
 #[no_mangle]
-pub extern "C" fn terkinoha_parse_words(source: &[u8], tokens: &mut [u64], nodes: &mut [u64]) -> Parsed
+pub extern "C" fn terkinoha_parse_words(
+    source: &[u8],
+    tokens: &mut [u64],
+    nodes: &mut [u64],
+) -> Parsed
     ensures { λ r. ⌜ ParseSource (now (source .entry)) (length (now (tokens .entry))) (length (now (nodes .entry))) r (now (tokens .exit)) (now (nodes .exit)) ⌝ }
 {
     let parsed = parse::parse_source(source, tokens, nodes);
@@ -96,7 +100,11 @@ pub extern "C" fn terkinoha_parse_words(source: &[u8], tokens: &mut [u64], nodes
 
 // Lexes a source into a lent table of tokens, and writes its canonical text to a lent text.
 #[no_mangle]
-pub extern "C" fn terkinoha_canonicalise_words(source: &[u8], tokens: &mut [u64], text: &mut [u8]) -> Canonised
+pub extern "C" fn terkinoha_canonicalise_words(
+    source: &[u8],
+    tokens: &mut [u64],
+    text: &mut [u8],
+) -> Canonised
     ensures { λ r. ⌜ CanonSource (now (source .entry)) (length (now (tokens .entry))) (length (now (text .entry))) r (now (tokens .exit)) (now (text .exit)) ⌝ }
 {
     let canonised = canon::canonicalise(source, tokens, text);
