@@ -184,7 +184,7 @@ pub extern "C" fn terkinoha_next_body(source: &[u8], at: u64, end: u64) -> Body
 
 // The body numbered `i`, from 0, of a string token that spans the source from `start` up to `end`.
 #[no_mangle]
-pub extern "C" fn terkinoha_body(source: &[u8], start: u64, end: u64, i: u64) -> Body
+pub extern "C" fn terkinoha_body_at(source: &[u8], start: u64, end: u64, i: u64) -> Body
     ensures { λ r. ⌜ r ≡ first (drop i (bodySpans (now (source .entry)) start end)) ⌝ }
 {
     let mut left = i;

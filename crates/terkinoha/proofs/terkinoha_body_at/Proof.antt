@@ -1,8 +1,8 @@
 use native.Mathlib.Omega.{arith}
 use borrow.Author.Needs.{needs}
 use Rattle.terkinoha.proofs.Bodies.{Seeking, begin, none-there, this-one, another}
-use Rattle.terkinoha.proofs.terkinoha_body.Statement.{statement}
-use Rattle.terkinoha.proofs.terkinoha_body.Tie as tie
+use Rattle.terkinoha.proofs.terkinoha_body_at.Statement.{statement}
+use Rattle.terkinoha.proofs.terkinoha_body_at.Tie as tie
 
 abbrev Inv-loop : tie.InvT-loop
 Inv-loop source start end i left₀ body₀ left body = Seeking source start end i left body
@@ -34,8 +34,8 @@ loop-again c = another (c .before .before .before .before .loop .inv) (c .before
 returns-2 : tie.Need-returns-2 Inv-loop μ-loop
 returns-2 c = this-one (c .before .loop .inv) (omega arith)
 
-pub terkinoha-body-spec : {M : Type 1} → statement M
-terkinoha-body-spec =
+pub terkinoha-body-at-spec : {M : Type 1} → statement M
+terkinoha-body-at-spec =
     tie.close
     (tie.spec
     Inv-loop
