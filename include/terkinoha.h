@@ -17,7 +17,8 @@
  *     forgets to look at the number finds nothing in a table, and never what a call before left there.
  *   There is an answer for every sequence of bytes. No call aborts, allocates, prints, calls back or fails to return. Nothing
  *   is kept between calls: the same bytes and the same sizes give the same answer, whatever was called before, and calls
- *   may run on any threads at the same time. What a call promises is proved of its code (see the README).
+ *   may run on any threads at the same time. A call needs less than 32 KiB of stack. What it promises is proved of its code
+ *   (see the README).
  *
  * What a host owes
  *
@@ -61,19 +62,20 @@ extern "C" {
  * checks a script.
  */
 enum terkinoha_number {
-    /* done; no place */
+    /* exactly when: done; no place */
     TERKINOHA_DONE = 0,
     /* exactly when: source over 65,536 bytes; no place */
     TERKINOHA_TOO_LONG = 1,
-    /* exactly when: not well-formed UTF-8; place: the first byte, stepping by whole characters, where none starts */
+    /* exactly when: not well-formed UTF-8;
+     * place: the first byte, stepping by whole characters, where none starts */
     TERKINOHA_NOT_UTF8 = 2,
-    /* exactly when: a lexical error, its kind named (enum terkinoha_error); place: start of the first such lexeme.
-     * Scan has rows for them instead */
+    /* exactly when: a lexical error, its kind named; place: start of the first such lexeme.
+     * Its kind is of enum terkinoha_error. Scan has rows for such errors instead */
     TERKINOHA_LEXICAL = 3,
     /* exactly when: tokens with `Eof` (for scan: lexemes) exceed the room; no place */
     TERKINOHA_TOKEN_ROOM = 4,
-    /* exactly when: a token that cannot follow, or a port over 65,535, the kind named (enum terkinoha_syntax); place: that
-     * token */
+    /* exactly when: kind 1: a token that cannot follow; kind 2: a port over 65,535; place: that token.
+     * Its kind is of enum terkinoha_syntax */
     TERKINOHA_SYNTAX = 5,
     /* exactly when: nodes exceed the room; no place */
     TERKINOHA_NODE_ROOM = 6,
@@ -81,8 +83,8 @@ enum terkinoha_number {
     TERKINOHA_TOO_DEEP = 7,
     /* exactly when: the tree holds a call; place: the first call's `(` */
     TERKINOHA_CALLS = 8,
-    /* exactly when: a 513th distinct let name or 65th distinct import name, failed ones counted; place: the earlier such
-     * name */
+    /* exactly when: a 513th distinct let name or 65th distinct import name, failed ones counted;
+     * place: the earlier such name */
     TERKINOHA_NAMES = 9,
     /* exactly when: canonical text exceeds its room or 65,536 bytes; no place */
     TERKINOHA_TEXT_ROOM = 10,
