@@ -341,8 +341,8 @@ static int show_text(const struct script *script, size_t room)
 
 /* ---- the program ---- */
 
-/* Two steps: the first lexes with as much room as a script of this size can need; the second lends just as many rows as
- * there were tokens.
+/* Two steps: the first lexes with as much room as a script of this size can need, the second lends
+ * just as many rows as there were tokens.
  */
 static int show(const char *mode, const struct script *script)
 {

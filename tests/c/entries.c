@@ -1,5 +1,5 @@
-/* Every entry, with areas that lie against shut pages and start out as garbage: all sizes of rooms and sources, random and
- * damaged sources. What each call leaves is checked by what the header promises, never by a second call alone.
+/* Every entry, with areas that lie against shut pages and start out as garbage: all sizes of rooms
+ * and sources, random and damaged sources. What a call leaves is held to what the header promises.
  */
 #include "lent.h"
 
@@ -206,13 +206,14 @@ static size_t enough_second(int entry, size_t size)
     return entry == PARSE ? second_unit[PARSE] * (size + 1) : entry == CANONICALISE ? TERKINOHA_MOST_BYTES : 0;
 }
 
-/* Whatever a call with enough room says of a source, it is not that there is no room, unless the text is too long. */
+/* Whatever a call with enough room says of a source, it is not that there is none. */
 static struct first first_call(int entry, const void *source, size_t size, int side)
 {
     struct first first;
     first.lent = lend(source, size, enough(entry, size), enough_second(entry, size), side);
     first.outcome = tried(entry, first.lent);
-    CHECK(first.outcome.verdict.number != TERKINOHA_TOKEN_ROOM && first.outcome.verdict.number != TERKINOHA_NODE_ROOM);
+    CHECK(first.outcome.verdict.number != TERKINOHA_TOKEN_ROOM);
+    CHECK(first.outcome.verdict.number != TERKINOHA_NODE_ROOM);
     return first;
 }
 
@@ -226,8 +227,8 @@ static void check_same(int entry, struct first first, struct lent lent, struct o
     CHECK(memcmp(lent.second.at, first.lent.second.at, second) == 0);
 }
 
-/* A room of `rows` bytes for rows and `second` bytes: as much as was found, so the same; or less, so a refusal for room,
- * unless the source is refused for something that goes first.
+/* A room of `rows` bytes for rows and `second` bytes: as much as was found, so the same; or less, so
+ * a refusal for room, unless the source is refused for something that goes first.
  */
 static void try_room(int entry, struct first first, size_t rows, size_t second, int side)
 {
@@ -235,13 +236,14 @@ static void try_room(int entry, struct first first, size_t rows, size_t second, 
     struct outcome outcome = tried(entry, lent);
     size_t rows_wanted = first.outcome.rows * row_words[entry] * sizeof(uint64_t);
     uint64_t number = first.outcome.verdict.number;
+    uint64_t refusal = entry == PARSE ? TERKINOHA_NODE_ROOM : TERKINOHA_TEXT_ROOM;
+    if (rows < rows_wanted)
+        refusal = TERKINOHA_TOKEN_ROOM;
     int goes_first = number != 0 && number <= TERKINOHA_LEXICAL;
     if (goes_first || (number == 0 && rows_wanted <= rows && first.outcome.second * second_unit[entry] <= second))
         check_same(entry, first, lent, outcome);
     else if (number == 0)
-        CHECK(same_verdict(outcome.verdict, rows < rows_wanted ? TERKINOHA_TOKEN_ROOM : entry == PARSE ? TERKINOHA_NODE_ROOM
-                                                                                         : TERKINOHA_TEXT_ROOM,
-                           0, 0, 0, 0));
+        CHECK(same_verdict(outcome.verdict, refusal, 0, 0, 0, 0));
     give_back(lent);
 }
 
@@ -326,9 +328,10 @@ static void try_sizes(void)
 static size_t script(size_t size)
 {
     static const char *const pieces[] = {
-        "let x = ", "import bench;\n", "f(", ")", ",", ";\n", ".m", "/", ":", "::", "1.2.3.4", "80", "0x1F", "\"ab\"", "\"c\" ",
-        "# note\n", "// note\n", "true", "name", " ", "\t", "\n", "a: ", "bench::deep::ZERO", "let y = 1.2.3.4/80;\n",
-        "f(a, b: 2,);\n", "\xc2\xa0", "\xe2\x82\xac", "170141183460469231731687303715884105727", "00", "@", "\"\n", "1.2.3.4:80"};
+        "let x = ", "import bench;\n", "f(", ")", ",", ";\n", ".m", "/", ":", "::", "1.2.3.4", "80",
+        "0x1F", "\"ab\"", "\"c\" ", "# note\n", "// note\n", "true", "name", " ", "\t", "\n", "a: ",
+        "bench::deep::ZERO", "let y = 1.2.3.4/80;\n", "f(a, b: 2,);\n", "\xc2\xa0", "\xe2\x82\xac",
+        "170141183460469231731687303715884105727", "00", "@", "\"\n", "1.2.3.4:80"};
     size_t at = 0;
     while (at + 40 < size) {
         const char *piece = pieces[random_below(sizeof pieces / sizeof *pieces)];

@@ -71,7 +71,8 @@ static void try_lexings(void)
 
 static void try_token_rows(void)
 {
-    static const char source[] = "let a = 1.2.3.4/80; # web\n \"b\"\n\"c\" true 170141183460469231731687303715884105727 0xfF";
+    static const char source[] = "let a = 1.2.3.4/80; # web\n \"b\"\n\"c\" true "
+                                 "170141183460469231731687303715884105727 0xfF";
     static const uint64_t rows[][TERKINOHA_TOKEN_WORDS] = {
         {TERKINOHA_LET_KEYWORD, 1, 1, 0, 3, 0, 0},
         {TERKINOHA_IDENTIFIER, 1, 5, 4, 5, 0, 0},

@@ -1,6 +1,6 @@
-/* A host was told "nothing found" by mistake: a call was refused, its number was not looked at, a table was full, and
- * the next call answered with what was left over. Here a call's answer is that of a first call, whatever was called before
- * it and whatever runs beside it.
+/* A host was told "nothing found" by mistake: a call was refused, its number was not looked at, a
+ * table was full, and the next call answered with what was left over. Here a call's answer is that
+ * of a first call, whatever was called before it and whatever runs beside it.
  */
 #include "lent.h"
 
@@ -55,7 +55,8 @@ static const char script[] = "import bench;\nlet a = 1.2.3.4/80;\nf(a, \"x\" \"y
 static const char nothing[] = "# nothing to find\n";
 
 /* What may have happened before: sources that each number refuses, ignored, and tables that are full. */
-static const char *const before[] = {script, nothing, "@", "\xff", "\"", "f(,);", "1.2.3.4:65536;", "a.b.c.d.e;", "1 2 3 4 5"};
+static const char *const before[] = {script,  nothing,          "@",          "\xff",    "\"",
+                                     "f(,);", "1.2.3.4:65536;", "a.b.c.d.e;", "1 2 3 4"};
 
 static void spoil(int entry, size_t room)
 {
@@ -102,7 +103,8 @@ static void try_story(void)
 
     lexed = terkinoha_lex("a;", 2, tokens, ROOM);
     CHECK(lexed.verdict.number == TERKINOHA_DONE && lexed.tokens == 3);
-    CHECK(tokens[0].kind == TERKINOHA_IDENTIFIER && tokens[1].kind == TERKINOHA_SEMI_COLON && tokens[2].kind == TERKINOHA_EOF);
+    CHECK(tokens[0].kind == TERKINOHA_IDENTIFIER && tokens[1].kind == TERKINOHA_SEMI_COLON);
+    CHECK(tokens[2].kind == TERKINOHA_EOF);
     CHECK(tokens[3].kind == 0 && tokens[17].kind == 0);
 }
 
