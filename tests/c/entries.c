@@ -27,29 +27,35 @@ struct lent {
     struct area source, rows, second;
 };
 
+static struct outcome outcome_of(terkinoha_verdict verdict, uint64_t rows, uint64_t second)
+{
+    struct outcome outcome = {verdict, rows, second};
+    return outcome;
+}
+
 static struct outcome call(int entry, struct lent lent)
 {
     const void *source = area_lend(lent.source);
     size_t size = lent.source.size, words = lent.rows.size / sizeof(uint64_t);
-    void *rows = area_lend(lent.rows), *second = area_lend(lent.second);
-    struct outcome outcome;
-    memset(&outcome, 0, sizeof outcome);
+    terkinoha_token *tokens = (terkinoha_token *)area_lend(lent.rows);
     if (entry == SCAN) {
-        terkinoha_scanned a = terkinoha_scan_words(source, size, (terkinoha_lexeme *)rows, words);
-        outcome.verdict = a.verdict, outcome.rows = a.lexemes;
-    } else if (entry == LEX) {
-        terkinoha_lexed a = terkinoha_lex_words(source, size, (terkinoha_token *)rows, words);
-        outcome.verdict = a.verdict, outcome.rows = a.tokens;
-    } else if (entry == PARSE) {
-        terkinoha_parsed a = terkinoha_parse_words(source, size, (terkinoha_token *)rows, words,
-                                                   (terkinoha_node *)second, lent.second.size / sizeof(uint64_t));
-        outcome.verdict = a.verdict, outcome.rows = a.tokens, outcome.second = a.nodes;
-    } else {
-        terkinoha_canonised a = terkinoha_canonicalise_words(source, size, (terkinoha_token *)rows, words,
-                                                             (char *)second, lent.second.size);
-        outcome.verdict = a.verdict, outcome.rows = a.tokens, outcome.second = a.bytes;
+        terkinoha_lexeme *lexemes = (terkinoha_lexeme *)area_lend(lent.rows);
+        terkinoha_scanned a = terkinoha_scan_words(source, size, lexemes, words);
+        return outcome_of(a.verdict, a.lexemes, 0);
     }
-    return outcome;
+    if (entry == LEX) {
+        terkinoha_lexed a = terkinoha_lex_words(source, size, tokens, words);
+        return outcome_of(a.verdict, a.tokens, 0);
+    }
+    if (entry == PARSE) {
+        terkinoha_node *nodes = (terkinoha_node *)area_lend(lent.second);
+        size_t node_words = lent.second.size / sizeof(uint64_t);
+        terkinoha_parsed a = terkinoha_parse_words(source, size, tokens, words, nodes, node_words);
+        return outcome_of(a.verdict, a.tokens, a.nodes);
+    }
+    char *text = (char *)area_lend(lent.second);
+    terkinoha_canonised a = terkinoha_canonicalise_words(source, size, tokens, words, text, lent.second.size);
+    return outcome_of(a.verdict, a.tokens, a.bytes);
 }
 
 /* ---- what every answer is held to ---- */
@@ -115,11 +121,38 @@ static void check_tokens(struct lent lent, uint64_t count)
             continue;
         CHECK(rows[i].start < rows[i].end);
         for (; at < rows[i].start; at++)
-            if (lent.source.at[at] == '\n')
-                line++, line_start = at + 1;
+            if (lent.source.at[at] == '\n') {
+                line++;
+                line_start = at + 1;
+            }
         CHECK(rows[i].line == line && rows[i].column == rows[i].start - line_start + 1);
     }
     CHECK(count >= 1 && rows[count - 1].start == lent.source.size && rows[count - 1].column == 1);
+}
+
+/* How many children a node takes, of those that stand before it. */
+static uint64_t children(const terkinoha_node *node)
+{
+    switch (node->kind) {
+    case TERKINOHA_NODE_PATH: return node->first;
+    case TERKINOHA_NODE_SLASH: return 2;
+    case TERKINOHA_NODE_CALL:
+    case TERKINOHA_NODE_ARGUMENT:
+    case TERKINOHA_NODE_NAMED_ARGUMENT: return node->second == 0 ? 1 : 2;
+    case TERKINOHA_NODE_MEMBER:
+    case TERKINOHA_NODE_LET:
+    case TERKINOHA_NODE_EXPRESSION: return 1;
+    default: return 0;
+    }
+}
+
+/* The rows that a node names are smaller than its own. */
+static int names_smaller(const terkinoha_node *node, uint64_t row)
+{
+    int by_first = node->kind >= TERKINOHA_NODE_MEMBER && node->kind != TERKINOHA_NODE_IMPORT;
+    int by_second = node->kind == TERKINOHA_NODE_SLASH; /* the row itself; others have it plus 1, or 0 */
+    int plus_1 = node->kind >= TERKINOHA_NODE_CALL && node->kind <= TERKINOHA_NODE_NAMED_ARGUMENT;
+    return (!by_first || node->first < row) && (!by_second || node->second < row) && (!plus_1 || node->second <= row);
 }
 
 /* Children stand before their parents, and every node but a statement has one parent. */
@@ -128,19 +161,11 @@ static void check_nodes(struct lent lent, uint64_t tokens, uint64_t count)
     const terkinoha_node *rows = (const terkinoha_node *)(const void *)lent.second.at;
     uint64_t waiting = 0; /* nodes that a parent must still take */
     for (uint64_t i = 0; i < count; i++) {
-        const terkinoha_node *n = &rows[i];
-        int statement = n->kind >= TERKINOHA_NODE_IMPORT;
-        CHECK(n->kind >= TERKINOHA_NODE_NAME && n->kind <= TERKINOHA_NODE_EXPRESSION && n->token < tokens);
-        if (n->kind == TERKINOHA_NODE_PATH)
-            waiting -= n->first;
-        else if (n->kind >= TERKINOHA_NODE_MEMBER && n->kind != TERKINOHA_NODE_IMPORT)
-            CHECK(n->first < i), waiting--;
-        if (n->kind == TERKINOHA_NODE_SLASH)
-            CHECK(n->second < i), waiting--;
-        if (n->kind == TERKINOHA_NODE_CALL && n->second != 0)
-            CHECK(n->second <= i), waiting--;
-        if ((n->kind == TERKINOHA_NODE_ARGUMENT || n->kind == TERKINOHA_NODE_NAMED_ARGUMENT) && n->second != 0)
-            CHECK(n->second <= i), waiting--;
+        int statement = rows[i].kind >= TERKINOHA_NODE_IMPORT;
+        CHECK(rows[i].kind >= TERKINOHA_NODE_NAME && rows[i].kind <= TERKINOHA_NODE_EXPRESSION);
+        CHECK(rows[i].token < tokens && names_smaller(&rows[i], i));
+        CHECK(children(&rows[i]) <= waiting);
+        waiting -= children(&rows[i]);
         waiting += !statement;
         CHECK(!statement || waiting == 0);
     }
@@ -351,11 +376,17 @@ static size_t damaged(void)
     unsigned char byte = (unsigned char)random_below(256);
     memcpy(bytes, good_script, size);
     switch (random_below(3)) {
-    case 0: bytes[at] = byte; break;
-    case 1: memmove(bytes + at, bytes + at + 1, size - at - 1), size--; break;
-    default: memmove(bytes + at + 1, bytes + at, size - at), bytes[at] = byte, size++; break;
+    case 0:
+        bytes[at] = byte;
+        return size;
+    case 1:
+        memmove(bytes + at, bytes + at + 1, size - at - 1);
+        return size - 1;
+    default:
+        memmove(bytes + at + 1, bytes + at, size - at);
+        bytes[at] = byte;
+        return size + 1;
     }
-    return size;
 }
 
 static size_t noise(size_t size)

@@ -23,24 +23,30 @@ struct left {
 
 enum { SCAN, LEX, PARSE, CANONICALISE, ENTRIES };
 
+static void kept(struct left *left, terkinoha_verdict verdict, uint64_t count, uint64_t second_count)
+{
+    left->verdict = verdict;
+    left->counts[0] = count;
+    left->counts[1] = second_count;
+}
+
 /* One call. What it lends is full of garbage at first. */
 static void call(int entry, const char *source, size_t room, struct left *left)
 {
     size_t size = strlen(source);
     memset(left, 0xA5, sizeof *left);
-    left->counts[1] = 0;
     if (entry == SCAN) {
         terkinoha_scanned a = terkinoha_scan(source, size, left->lexemes, room);
-        left->verdict = a.verdict, left->counts[0] = a.lexemes;
+        kept(left, a.verdict, a.lexemes, 0);
     } else if (entry == LEX) {
         terkinoha_lexed a = terkinoha_lex(source, size, left->tokens, room);
-        left->verdict = a.verdict, left->counts[0] = a.tokens;
+        kept(left, a.verdict, a.tokens, 0);
     } else if (entry == PARSE) {
         terkinoha_parsed a = terkinoha_parse(source, size, left->tokens, room, left->nodes, room);
-        left->verdict = a.verdict, left->counts[0] = a.tokens, left->counts[1] = a.nodes;
+        kept(left, a.verdict, a.tokens, a.nodes);
     } else {
         terkinoha_canonised a = terkinoha_canonicalise(source, size, left->tokens, room, left->text, TEXT_ROOM);
-        left->verdict = a.verdict, left->counts[0] = a.tokens, left->counts[1] = a.bytes;
+        kept(left, a.verdict, a.tokens, a.bytes);
     }
 }
 
@@ -134,7 +140,8 @@ static void try_threads(const char *one, const char *other)
 {
     static struct job jobs[2];
     pthread_t threads[2];
-    jobs[0].source = one, jobs[1].source = other;
+    jobs[0].source = one;
+    jobs[1].source = other;
     for (int i = 0; i < 2; i++)
         for (int entry = SCAN; entry < ENTRIES; entry++)
             call(entry, jobs[i].source, ROOM, &jobs[i].alone[entry]);
