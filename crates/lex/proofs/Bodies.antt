@@ -111,7 +111,7 @@ unquoted-is s at e h k =
     rw (b, l, p) (take-take (e - 1 - (at + 1)) m r (omega arith) ∙ rw (← add-one at) (some-body s at e h (omega arith)))
 
 -- the code's kind of a literal, and of what is none
-is-literal : (k : Kind) → kind-is.Str ≡ kindAs k → k ≡ str
+pub is-literal : (k : Kind) → kind-is.Str ≡ kindAs k → k ≡ str
 is-literal str e = refl
 is-literal trivia e = never (cc)
 is-literal (tok t) e = never (cc)

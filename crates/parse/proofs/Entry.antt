@@ -39,18 +39,18 @@ module _ (s : List ℕ) (room : ℕ) (z : lexAnswer s room .verdict .number ≡ 
   number-0 : {v : numbers.Verdict} {k : ℕ} → lexAnswer s room ≡ lexed v k → v .number ≡ 0
   number-0 e = rw e at z
 
-  short : length s ≤ 65536
+  pub short : length s ≤ 65536
   short =
       elim (decLe (length s) 65536) [
         | yes h ↦ h
         | no h ↦ let x : _≡_ {A = ℕ} 1 0 = number-0 (too-long s room (omega arith)) in absurd (omega arith)
       ]
 
-  all-good : (o : Option ℕ) → firstBad s ≡ o → Nowhere ≡ badOf (firstBad s)
+  pub all-good : (o : Option ℕ) → firstBad s ≡ o → Nowhere ≡ badOf (firstBad s)
   all-good (some at) e = let x : _≡_ {A = ℕ} 2 0 = number-0 (bad-byte s room short at (rw e)) in absurd (omega arith)
   all-good none e = rw e
 
-  no-wrong : (o : Option Wrong) → firstWrong (items s) ≡ o → firstWrong (items s) ≡ none
+  pub no-wrong : (o : Option Wrong) → firstWrong (items s) ≡ o → firstWrong (items s) ≡ none
   no-wrong (some w) e =
       let x : _≡_ {A = ℕ} 3 0 = number-0 (wrong-one s room short (all-good (firstBad s) refl) w e) in absurd (omega arith)
   no-wrong none e = e
@@ -64,7 +64,7 @@ module _ (s : List ℕ) (room : ℕ) (z : lexAnswer s room .verdict .number ≡ 
             absurd (omega arith)
       ]
 
-  all-lexed : lexAnswer s room ≡ lexed (verdict 0 0 0) (length (tokens s))
+  pub all-lexed : lexAnswer s room ≡ lexed (verdict 0 0 0) (length (tokens s))
   all-lexed = fits s room short (all-good (firstBad s) refl) (no-wrong (firstWrong (items s)) refl) (length (tokens s)) refl in-room
 
 module _ {s : List ℕ} {t : ℕ} {q : Lexed} {a : List ℕ} (o : LexSource s t q a) where

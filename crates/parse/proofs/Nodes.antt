@@ -40,7 +40,7 @@ names-long t zero = refl
 names-long t (suc n) = simp length-append (omega (arith, names-long t n))
 
 mutual
-  expr-long : (k : ℕ) (e : Expr) → length (exprNodes k e) ≡ exprSize e
+  pub expr-long : (k : ℕ) (e : Expr) → length (exprNodes k e) ≡ exprSize e
   expr-long k (literal t) = refl
   expr-long k (sock4 t) = refl
   expr-long k (local t) = refl
@@ -156,7 +156,7 @@ module _ {t : List ℕ} {ns : List Node} {e : Expr} {n first : ℕ} (s : Stands 
   expr-node = let row : n - 1 ≡ length ns + exprSize e - 1 = omega (arith, s .long, with-expr ns e) in rw (row, s .starts) (simp append-assoc)
 
 -- the nodes of a statement come after those of the statements before
-nodes-more : (k : ℕ) (ss : List Stmt) (s : Stmt) → nodesFrom k (ss ++ s ∷ []) ≡ nodesFrom k ss ++ stmtNodes (k + length (nodesFrom k ss)) s
+pub nodes-more : (k : ℕ) (ss : List Stmt) (s : Stmt) → nodesFrom k (ss ++ s ∷ []) ≡ nodesFrom k ss ++ stmtNodes (k + length (nodesFrom k ss)) s
 unfolding nodesFrom
 nodes-more k [] s = let e : k + 0 ≡ k = omega arith in rw (e, append-nil)
 nodes-more k (x ∷ xs) s =

@@ -1,0 +1,6 @@
+-- The laws that the proofs of the functions cite.
+pub mod Entry
+pub mod Bodies
+pub mod Spans
+pub mod Few
+pub mod Rooms

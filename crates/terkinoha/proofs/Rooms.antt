@@ -1,0 +1,97 @@
+-- Rooms that are always enough: the proofs of the claims of specs/Rooms.antt.
+use Prim.Native.Nat.{ℕ, suc, _≤_, _<_}
+use mathlib.Core.Path.{_≡_, refl, ap}
+use mathlib.Core.List.{List}
+use mathlib.Core.Logic.{inl, inr}
+use mathlib.Core.Option.{Option, none, some}
+use native.Mathlib.Omega.{arith}
+use borrow.Author.Tests.{ltb-true, le-ltb}
+use lib.Dec.{ltb}
+use lib.ListN.{length, length-map}
+use Rattle.language.specs.Canonical.{text}
+use Rattle.language.specs.Utf8.{firstBad}
+use Rattle.language.specs.Lexemes.{scan}
+use Rattle.language.specs.Tokens.{Token, items, firstWrong, Wrong, tokens, contents, placeOf}
+use Rattle.language.specs.Sentences as sentences
+use Rattle.language.specs.Sentences.{Out, Stmt, ok, program, nodes}
+use Rattle.language.specs.Numbers.{mostBytes, Scanned, Lexed, Parsed, Canonised, verdict, scanned, counted, lexed, lexical, placed, lexedWithin, parsedAs, scanAnswer, lexAnswer, parseAnswer, canonAnswer}
+use Rattle.language.proofs.LexemeSizes.{by-cases}
+use Rattle.language.proofs.LexemeSpans.{spans-join}
+use Rattle.lex.proofs.Answers.{fits}
+use Rattle.parse.proofs.Entry.{short, all-good, no-wrong, all-lexed}
+use Rattle.parse.proofs.TokenRows.{few-tokens}
+use Rattle.terkinoha.specs.Rooms.{ScanRoom, LexRoom, ParseRoom, CanonRoom}
+use Rattle.terkinoha.proofs.Few.{grammar-refuses, nodes-few}
+
+-- ---- scan and lex
+
+pub scan-room : ScanRoom
+unfolding scanAnswer
+scan-room line room h =
+    by-cases P (ltb mostBytes (length line)) (λ _ e. absurd (omega arith)) (λ _. go (firstBad line))
+  where
+    P : Scanned → Type 0
+    P a = a .verdict .number ≡ 4 → ⊥
+
+    go : (o : Option ℕ) → P (elim o [ some at ↦ scanned (verdict 2 1 (suc at)) 0 | none ↦ counted room (length (scan line)) ])
+    go (some at) = λ e. absurd (omega arith)
+    go none =
+        by-cases P (ltb room (length (scan line))) (λ t _. absurd (omega (arith, ltb-true room (length (scan line)) t, spans-join line .1))) (λ _ e. absurd (omega arith))
+
+pub lex-room : LexRoom
+unfolding lexAnswer
+lex-room s room h =
+    by-cases P (ltb mostBytes (length s)) (λ _ e. absurd (omega arith)) (λ _. go (firstBad s) (firstWrong (items s)))
+  where
+    P : Lexed → Type 0
+    P a = a .verdict .number ≡ 4 → ⊥
+
+    go : (o : Option ℕ) (f : Option Wrong)
+        → P (elim o [
+          | some at ↦ lexed (placed 2 (placeOf s at)) 0
+          | none ↦ elim f [ some w ↦ lexed (lexical w) 0 | none ↦ lexedWithin room (length (tokens s)) ]
+        ])
+    go (some at) f = λ e. absurd (omega arith)
+    go none (some w) = λ e. absurd (omega arith)
+    go none none =
+        by-cases P (ltb room (length (tokens s))) (λ t _. absurd (omega (arith, ltb-true room (length (tokens s)) t, few-tokens s))) (λ _ e. absurd (omega arith))
+
+-- ---- where lexing came to a count
+
+module _ (s : List ℕ) (room : ℕ) (z : lexAnswer s room .verdict .number ≡ 0) where
+  counted-is : lexAnswer s room .count ≡ length (tokens s)
+  counted-is = ap (λ (a : Lexed). a .count) (all-lexed s room z)
+
+  -- it comes to it in every room that is enough
+  in-another : (t : ℕ) → lexAnswer s room .count ≤ t → lexAnswer s t ≡ lexed (verdict 0 0 0) (length (tokens s))
+  in-another t h =
+      fits s t (short s room z) (all-good s room z (firstBad s) refl) (no-wrong s room z (firstWrong (items s)) refl) (length (tokens s)) refl
+      (omega (arith, counted-is))
+
+  -- as many nodes as tokens, at most
+  no-more : (ss : List Stmt) (at x : ℕ) → program (contents (tokens s)) ≡ ok ss at x → length (nodes ss) ≤ lexAnswer s room .count
+  no-more ss at x e = omega (arith, counted-is, nodes-few (contents (tokens s)) ss at x e, length-map (tokens s) (λ (t : Token). t .content))
+
+pub parse-room : ParseRoom
+unfolding parseAnswer
+parse-room s room t n z h l = rw (in-another s room z t h, parseAnswer) (go (program (contents (tokens s))) refl)
+  where
+    P : Parsed → Type 0
+    P a = (a .verdict .number ≡ 4 → ⊥) × (a .verdict .number ≡ 6 → ⊥)
+
+    go : (o : Out (List Stmt)) → program (contents (tokens s)) ≡ o → P (parsedAs s n (length (tokens s)) o)
+    go (ok ss at x) e = rw (le-ltb n (length (nodes ss)) (omega (arith, no-more s room z ss at x e))) (λ q. absurd (omega arith), λ q. absurd (omega arith))
+    go (sentences.no m k at) e =
+        elim (grammar-refuses (contents (tokens s)) m k at e) [
+          | inl q ↦ (λ r. absurd (omega arith), λ r. absurd (omega arith))
+          | inr q ↦ (λ r. absurd (omega arith), λ r. absurd (omega arith))
+        ]
+
+pub canon-room : CanonRoom
+unfolding canonAnswer
+canon-room s room t n z h l =
+    let P : Canonised → Type 0 = λ a. (a .verdict .number ≡ 4 → ⊥) × (a .verdict .number ≡ 10 → mostBytes < length (text s)) in
+    rw (in-another s room z t h, canonAnswer)
+    (by-cases P (ltb n (length (text s))) (λ e. (λ r. absurd (omega arith), λ r. omega (arith, ltb-true n (length (text s)) e)))
+    (λ _. by-cases P (ltb mostBytes (length (text s))) (λ e. (λ r. absurd (omega arith), λ r. ltb-true _ _ e))
+    (λ _. (λ r. absurd (omega arith), λ r. absurd (omega arith)))))

@@ -1,0 +1,200 @@
+// The C face: what include/terkinoha.h declares and explains. Each entry is thin over the proved one, and promises the same
+// equations. Tables are lent as words; the header turns rows into words. Nothing here keeps anything between calls.
+ghost use mathlib.Core.Path.{_≡_};
+ghost use lib.ListN.{length, drop};
+ghost use Rattle.terkinoha.specs.Entry.{verdictOf, ScanLine, LexSource, ParseSource, CanonSource};
+ghost use Rattle.terkinoha.specs.Bodies.{none, first, bodySpans, FirstOf};
+use scan::LexemeKind;
+use scan::Scanner;
+use scan::Step;
+
+// What a call came to: its number, which kind of it, where, and the character of an `UnexpectedChar`. All zero: done.
+#[repr(C)]
+pub struct Verdict {
+    pub number: u64,
+    pub kind: u64,
+    pub line: u64,
+    pub column: u64,
+    pub character: u64,
+}
+
+#[repr(C)]
+pub struct Scanned {
+    pub verdict: Verdict,
+    pub lexemes: u64,
+}
+
+#[repr(C)]
+pub struct Lexed {
+    pub verdict: Verdict,
+    pub tokens: u64,
+}
+
+#[repr(C)]
+pub struct Parsed {
+    pub verdict: Verdict,
+    pub tokens: u64,
+    pub nodes: u64,
+}
+
+#[repr(C)]
+pub struct Canonised {
+    pub verdict: Verdict,
+    pub tokens: u64,
+    pub bytes: u64,
+}
+
+// The verdict of a crate below, as C sees it.
+fn as_c(v: scan::Verdict) -> Verdict
+    ensures { λ r. ⌜ r ≡ verdictOf v ⌝ }
+{
+    Verdict {
+        number: v.number,
+        kind: v.kind,
+        line: v.line,
+        column: v.column,
+        character: v.character,
+    }
+}
+
+// Scans a line, which may hold byte 10, into a lent table of lexemes.
+#[no_mangle]
+pub extern "C" fn terkinoha_scan_words(line: &[u8], lexemes: &mut [u64]) -> Scanned
+    ensures { λ r. ⌜ ScanLine (now (line .entry)) (length (now (lexemes .entry))) r (now (lexemes .exit)) ⌝ }
+{
+    let scanned = scan::scan_line(line, lexemes);
+    Scanned {
+        verdict: as_c(scanned.verdict),
+        lexemes: scanned.count,
+    }
+}
+
+// Lexes a source into a lent table of tokens.
+#[no_mangle]
+pub extern "C" fn terkinoha_lex_words(source: &[u8], tokens: &mut [u64]) -> Lexed
+    ensures { λ r. ⌜ LexSource (now (source .entry)) (length (now (tokens .entry))) r (now (tokens .exit)) ⌝ }
+{
+    let lexed = lex::lex_source(source, tokens);
+    Lexed {
+        verdict: as_c(lexed.verdict),
+        tokens: lexed.count,
+    }
+}
+
+// Parses a source into a lent table of tokens and a lent table of nodes.
+#[no_mangle]
+pub extern "C" fn terkinoha_parse_words(
+    source: &[u8],
+    tokens: &mut [u64],
+    nodes: &mut [u64],
+) -> Parsed
+    ensures { λ r. ⌜ ParseSource (now (source .entry)) (length (now (tokens .entry))) (length (now (nodes .entry))) r (now (tokens .exit)) (now (nodes .exit)) ⌝ }
+{
+    let parsed = parse::parse_source(source, tokens, nodes);
+    Parsed {
+        verdict: as_c(parsed.verdict),
+        tokens: parsed.tokens,
+        nodes: parsed.nodes,
+    }
+}
+
+// Lexes a source into a lent table of tokens, and writes its canonical text to a lent text.
+#[no_mangle]
+pub extern "C" fn terkinoha_canonicalise_words(
+    source: &[u8],
+    tokens: &mut [u64],
+    text: &mut [u8],
+) -> Canonised
+    ensures { λ r. ⌜ CanonSource (now (source .entry)) (length (now (tokens .entry))) (length (now (text .entry))) r (now (tokens .exit)) (now (text .exit)) ⌝ }
+{
+    let canonised = canon::canonicalise(source, tokens, text);
+    Canonised {
+        verdict: as_c(canonised.verdict),
+        tokens: canonised.tokens,
+        bytes: canonised.bytes,
+    }
+}
+
+// ---- the bodies of a string
+
+// Where the body of a string literal lies in the source, and where the walk over a string's bodies goes on. All zero: there
+// is none.
+#[repr(C)]
+pub struct Body {
+    pub found: u64,
+    pub start: u64,
+    pub end: u64,
+    pub next: u64,
+}
+
+// A string literal by the offsets of its quotes: the first, and past the last.
+pub enum Literal {
+    At(usize, usize),
+    Nowhere,
+}
+
+fn no_body() -> Body
+    ensures { λ r. ⌜ r ≡ none ⌝ }
+{
+    Body {
+        found: 0,
+        start: 0,
+        end: 0,
+        next: 0,
+    }
+}
+
+// The first literal among the lexemes of a text from `at` on.
+fn literal_from(text: &[u8], at: usize) -> Literal
+    ensures { λ r. ⌜ FirstOf (now (text .entry)) at r ⌝ }
+{
+    let mut scanner = Scanner { pos: at };
+    loop {
+        let step = scanner.next(text);
+        let Step::Found(found, next) = step else {
+            return Literal::Nowhere;
+        };
+        let kind = found.kind;
+        if let LexemeKind::Str = kind {
+            return Literal::At(found.start, found.end);
+        }
+        scanner = next;
+    }
+}
+
+// The first body that a part of the source has, from `at` up to `end`.
+#[no_mangle]
+pub extern "C" fn terkinoha_next_body(source: &[u8], at: u64, end: u64) -> Body
+    ensures { λ r. ⌜ r ≡ first (bodySpans (now (source .entry)) at end) ⌝ }
+{
+    let to = end as usize;
+    if source.len() < to {
+        return no_body();
+    }
+    match literal_from(&source[..to], at as usize) {
+        Literal::At(from, past) => Body {
+            found: 1,
+            start: from as u64 + 1,
+            end: past as u64 - 1,
+            next: past as u64,
+        },
+        Literal::Nowhere => no_body(),
+    }
+}
+
+// The body numbered `i`, from 0, of a string token that spans the source from `start` up to `end`.
+#[no_mangle]
+pub extern "C" fn terkinoha_body_at(source: &[u8], start: u64, end: u64, i: u64) -> Body
+    ensures { λ r. ⌜ r ≡ first (drop i (bodySpans (now (source .entry)) start end)) ⌝ }
+{
+    let mut left = i;
+    let mut body = terkinoha_next_body(source, start, end);
+    while 0 < left {
+        if body.found == 0 {
+            return body;
+        }
+        body = terkinoha_next_body(source, body.next, end);
+        left -= 1;
+    }
+    body
+}

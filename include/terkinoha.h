@@ -1,0 +1,463 @@
+/* terkinoha.h: a front end for resynth scripts.
+ *
+ * Terkinoha takes the raw bytes of a script and scans, lexes, parses or canonicalises them. What it
+ * finds goes into tables that the host lends. C99 or later, or C++, on x86-64 Linux. Link with
+ * libterkinoha.a; it needs no other library.
+ *
+ *     terkinoha_token tokens[100];
+ *     terkinoha_lexed lexed = terkinoha_lex(script, script_size, tokens, 100);
+ *     if (lexed.verdict.number != TERKINOHA_DONE)
+ *         puts(terkinoha_verdict_text(lexed.verdict));
+ *
+ * What a call does
+ *
+ *   A call reads its source, fills what is lent to it and answers a struct by value: a verdict, and
+ *   the counts of what was found. The verdict is all zero where the call is done; else it says why
+ *   the call was refused, and where.
+ *   - Done: the first rows of a table, as many as counted, are what was found. Every word after
+ *     them is zero.
+ *   - Refused: every word of every lent table and every byte of a lent text is zero, and all counts
+ *     are 0. A host that forgets to look at the number finds nothing there, and never what a call
+ *     before it left.
+ *   Every sequence of bytes gets an answer. No call aborts, allocates, prints, calls back or fails
+ *   to return. Nothing is kept between calls: the same bytes and sizes give the same answer,
+ *   whatever was called before, and calls may run on any threads at the same time. A call needs
+ *   less than 32 KiB of stack. What calls promise is proved of their code; the README says how.
+ *
+ * What a host owes
+ *
+ *   - Sizes are true: so many bytes of a source can be read, so many rows or bytes written.
+ *   - Tables are aligned as their rows are, to 8 bytes. A source or a text may stand anywhere.
+ *   - The areas of one call, its source among them, do not overlap.
+ *   - An area of size 0 may be NULL.
+ *   - Until a call returns, nobody else writes its source or uses its tables.
+ *
+ * How large tables must be
+ *
+ *   A source has at most TERKINOHA_MOST_BYTES bytes, or number 1 refuses it. For a source of `size`
+ *   bytes these rooms are always enough, and no call is refused for room (numbers 4 and 6):
+ *   - lexemes: `size` rows;
+ *   - tokens: `size` + 1 rows;
+ *   - nodes: as many rows as the source has tokens;
+ *   - canonical text: TERKINOHA_MOST_BYTES bytes; number 10 then means a longer text.
+ *   Most scripts need far less. A host that minds memory takes two steps: it lexes with room for
+ *   `size` + 1 tokens, then lends tables of just as many rows as were counted (examples/show.c).
+ */
+#ifndef TERKINOHA_H
+#define TERKINOHA_H
+
+#include <stddef.h>
+#include <stdint.h>
+
+#ifdef __cplusplus
+extern "C" {
+#endif
+
+/* ---- limits ---------------------------------------------------------------------------------- */
+
+#define TERKINOHA_MOST_BYTES 65536 /* of a source, and of canonical text */
+#define TERKINOHA_MOST_LISTS 32    /* argument lists open at once */
+#define TERKINOHA_MOST_STEPS 64    /* steps (`.`, `(`, `/`) in one expression, without its lists' */
+
+/* ---- numbers --------------------------------------------------------------------------------- */
+
+/* What a call came to. Smaller numbers go first, but between 5 and 7 the earlier token decides.
+ * Scan gives 0, 1, 2 and 4; lex 0 to 4; parse 0 to 7; canonicalise 0 to 4 and 10. Numbers 8, 9 and
+ * 11 belong to a call that checks a script, which this header does not have yet.
+ */
+enum terkinoha_number {
+    /* exactly when: done; no place */
+    TERKINOHA_DONE = 0,
+    /* exactly when: source over 65,536 bytes; no place */
+    TERKINOHA_TOO_LONG = 1,
+    /* exactly when: not well-formed UTF-8;
+     * place: the first byte, stepping by whole characters, where none starts */
+    TERKINOHA_NOT_UTF8 = 2,
+    /* exactly when: a lexical error, its kind named; place: start of the first such lexeme.
+     * The kind is of enum terkinoha_error. Scan has rows for such errors instead */
+    TERKINOHA_LEXICAL = 3,
+    /* exactly when: tokens with `Eof` (for scan: lexemes) exceed the room; no place */
+    TERKINOHA_TOKEN_ROOM = 4,
+    /* exactly when: kind 1: a token that cannot follow; kind 2: a port over 65,535;
+     * place: that token. The kind is of enum terkinoha_syntax */
+    TERKINOHA_SYNTAX = 5,
+    /* exactly when: nodes exceed the room; no place */
+    TERKINOHA_NODE_ROOM = 6,
+    /* exactly when: a 33rd open list or a 65th step; place: that token */
+    TERKINOHA_TOO_DEEP = 7,
+    /* exactly when: the tree holds a call; place: the first call's `(` */
+    TERKINOHA_CALLS = 8,
+    /* exactly when: a 513th distinct let name or 65th distinct import name, failed ones counted;
+     * place: the earlier such name */
+    TERKINOHA_NAMES = 9,
+    /* exactly when: canonical text exceeds its room or 65,536 bytes; no place */
+    TERKINOHA_TEXT_ROOM = 10,
+    /* exactly when: no errors, and statements exceed the room; no place */
+    TERKINOHA_STATEMENT_ROOM = 11
+};
+
+/* The kinds of number 3, and of a lexeme that is an error. */
+enum terkinoha_error {
+    TERKINOHA_ERROR_UNEXPECTED_CHAR = 1,     /* a character that starts no lexeme */
+    TERKINOHA_ERROR_UNTERMINATED_STRING = 2, /* a string literal with no closing quote on its line */
+    TERKINOHA_ERROR_INT_OUT_OF_RANGE = 3,    /* an integer of 2^127 or more */
+    TERKINOHA_ERROR_INT_LEADING_ZERO = 4,    /* a decimal integer that starts with `0` and another digit */
+    TERKINOHA_ERROR_INT_INVALID_SUFFIX = 5,  /* a byte that is no digit in an integer */
+    TERKINOHA_ERROR_IPV4_LITERAL = 6         /* a dotted quad that is no address */
+};
+
+/* The kinds of number 5. */
+enum terkinoha_syntax {
+    TERKINOHA_SYNTAX_UNEXPECTED_TOKEN = 1, /* a token that cannot follow */
+    TERKINOHA_SYNTAX_INT_OUT_OF_RANGE = 2  /* a port over 65,535 */
+};
+
+/* ---- answers --------------------------------------------------------------------------------- */
+
+/* Lines and columns count from 1; a column is a byte offset in its line plus 1. What does not apply
+ * is 0.
+ */
+typedef struct terkinoha_verdict {
+    uint64_t number;    /* enum terkinoha_number */
+    uint64_t kind;      /* of number 3 (enum terkinoha_error) or 5 (enum terkinoha_syntax) */
+    uint64_t line;      /* where the number has a place; scan's line is line 1 */
+    uint64_t column;
+    uint64_t character; /* of an unexpected character: its Unicode number */
+} terkinoha_verdict;
+
+typedef struct terkinoha_scanned {
+    terkinoha_verdict verdict;
+    uint64_t lexemes; /* how many rows of the table are lexemes */
+} terkinoha_scanned;
+
+typedef struct terkinoha_lexed {
+    terkinoha_verdict verdict;
+    uint64_t tokens; /* how many rows of the table are tokens; the last is `Eof` */
+} terkinoha_lexed;
+
+typedef struct terkinoha_parsed {
+    terkinoha_verdict verdict;
+    uint64_t tokens;
+    uint64_t nodes; /* how many rows of the table are nodes */
+} terkinoha_parsed;
+
+typedef struct terkinoha_canonised {
+    terkinoha_verdict verdict;
+    uint64_t tokens;
+    uint64_t bytes; /* how many bytes the canonical text has */
+} terkinoha_canonised;
+
+/* ---- lexemes --------------------------------------------------------------------------------- */
+
+enum terkinoha_class {
+    TERKINOHA_CLASS_TRIVIA = 1, /* blanks or a comment */
+    TERKINOHA_CLASS_STRING = 2, /* a string literal: its body is its span without the quotes */
+    TERKINOHA_CLASS_TOKEN = 3,
+    TERKINOHA_CLASS_ERROR = 4
+};
+
+/* A row of scan's table. The spans are not empty and join in order to the line. */
+typedef struct terkinoha_lexeme {
+    uint64_t start;  /* offset of its first byte in the line */
+    uint64_t end;    /* offset past its last byte */
+    uint64_t class_; /* enum terkinoha_class */
+    uint64_t kind;   /* of a token (enum terkinoha_kind) or an error (enum terkinoha_error); else 0 */
+    uint64_t low;    /* value, low word: of a token as there; of an unexpected character its number */
+    uint64_t high;   /* value, high word */
+} terkinoha_lexeme;
+
+/* ---- tokens ---------------------------------------------------------------------------------- */
+
+/* The kinds of tokens. A lexeme is never `Eof` or a string: the lexer makes those two. */
+enum terkinoha_kind {
+    TERKINOHA_EOF = 1,
+    TERKINOHA_LPAREN = 2,
+    TERKINOHA_RPAREN = 3,
+    TERKINOHA_DOT = 4,
+    TERKINOHA_DOUBLE_COLON = 5,
+    TERKINOHA_COLON = 6,
+    TERKINOHA_SEMI_COLON = 7,
+    TERKINOHA_EQUALS = 8,
+    TERKINOHA_COMMA = 9,
+    TERKINOHA_SLASH = 10,
+    TERKINOHA_IMPORT_KEYWORD = 11,
+    TERKINOHA_LET_KEYWORD = 12,
+    TERKINOHA_IDENTIFIER = 13,
+    TERKINOHA_BOOLEAN_LITERAL = 14,
+    TERKINOHA_IPV4_LITERAL = 15,
+    TERKINOHA_STRING_LITERAL = 16,
+    TERKINOHA_HEX_LITERAL = 17,
+    TERKINOHA_DEC_LITERAL = 18
+};
+
+/* A row of a token table, in the order of the source. A name lies at `source + start` up to
+ * `source + end`. String literals with no token between them, also across lines, are one token that
+ * stands at the first: its span runs from the first quote past the last, and terkinoha_next_body
+ * finds its bodies. `Eof` stands at line (lines + 1), column 1, with the empty span at the end of
+ * the source.
+ */
+typedef struct terkinoha_token {
+    uint64_t kind;   /* enum terkinoha_kind */
+    uint64_t line;   /* from 1 */
+    uint64_t column; /* from 1 */
+    uint64_t start;  /* offset of its first byte in the source */
+    uint64_t end;    /* offset past its last byte */
+    uint64_t low;    /* value, low word: of an integer, below 2^127; of an IPv4 address, its first
+                        byte highest; 1 for `true`; of a string how many literals were joined */
+    uint64_t high;   /* value, high word: of an integer; else 0 */
+} terkinoha_token;
+
+/* ---- nodes ----------------------------------------------------------------------------------- */
+
+/* The kinds of nodes. Beside each is what `token`, `first`, `second` and `third` are; what is not
+ * named is 0. A "row" is one of the node table, a "token" one of the token table, both from 0.
+ */
+enum terkinoha_node_kind {
+    /* a path's further name. token: the name */
+    TERKINOHA_NODE_NAME = 1,
+    /* a bool, integer, address or string. token: it */
+    TERKINOHA_NODE_LITERAL = 2,
+    /* an address with a port. token: the address; the port is two tokens later */
+    TERKINOHA_NODE_SOCK4 = 3,
+    /* a name that is no path. token: it */
+    TERKINOHA_NODE_LOCAL = 4,
+    /* a path. token: its first name; each further one is two tokens later.
+     * first: how many names follow */
+    TERKINOHA_NODE_PATH = 5,
+    /* `.name`. token: its first. first: the object's row. second: the name's token */
+    TERKINOHA_NODE_MEMBER = 6,
+    /* `/`. token: its first. first: the left operand's row. second: the right operand's row */
+    TERKINOHA_NODE_SLASH = 7,
+    /* a call. token: its first. first: the callee's row. second: the last argument's row plus 1,
+     * or 0 for none. third: the token of `(` */
+    TERKINOHA_NODE_CALL = 8,
+    /* an argument. token: its value's first. first: its value's row. second: the row of the
+     * argument before it plus 1, or 0 for none */
+    TERKINOHA_NODE_ARGUMENT = 9,
+    /* `name: value`. token: the name. first, second: as for 9 */
+    TERKINOHA_NODE_NAMED_ARGUMENT = 10,
+    /* `import`. token: the name */
+    TERKINOHA_NODE_IMPORT = 11,
+    /* `let`. token: the name. first: its value's row */
+    TERKINOHA_NODE_LET = 12,
+    /* an expression as a statement. token: its first. first: the expression's row */
+    TERKINOHA_NODE_EXPRESSION = 13
+};
+
+/* A row of a node table. Nodes stand in post-order: a child's row is a smaller number than its
+ * parent's. The statements are the nodes of kinds 11 to 13, in order.
+ */
+typedef struct terkinoha_node {
+    uint64_t kind; /* enum terkinoha_node_kind */
+    uint64_t token;
+    uint64_t first;
+    uint64_t second;
+    uint64_t third;
+} terkinoha_node;
+
+/* ---- sizes ----------------------------------------------------------------------------------- */
+
+/* How many 64-bit words a row has. */
+#define TERKINOHA_LEXEME_WORDS 6
+#define TERKINOHA_TOKEN_WORDS 7
+#define TERKINOHA_NODE_WORDS 5
+
+/* Where structs were not words with nothing between them, this would not compile. */
+#define TERKINOHA_ASSERT_WORDS(type, words) \
+    typedef char terkinoha_assert_##type[sizeof(type) == (words) * sizeof(uint64_t) ? 1 : -1]
+TERKINOHA_ASSERT_WORDS(terkinoha_lexeme, TERKINOHA_LEXEME_WORDS);
+TERKINOHA_ASSERT_WORDS(terkinoha_token, TERKINOHA_TOKEN_WORDS);
+TERKINOHA_ASSERT_WORDS(terkinoha_node, TERKINOHA_NODE_WORDS);
+TERKINOHA_ASSERT_WORDS(terkinoha_verdict, 5);
+TERKINOHA_ASSERT_WORDS(terkinoha_scanned, 6);
+TERKINOHA_ASSERT_WORDS(terkinoha_lexed, 6);
+TERKINOHA_ASSERT_WORDS(terkinoha_parsed, 7);
+TERKINOHA_ASSERT_WORDS(terkinoha_canonised, 7);
+TERKINOHA_ASSERT_WORDS(size_t, 1);
+
+/* A compiler that can says where an answer is thrown away. */
+#if defined(__GNUC__)
+#define TERKINOHA_MUST_USE __attribute__((warn_unused_result))
+#else
+#define TERKINOHA_MUST_USE
+#endif
+
+/* ---- the calls, as the archive has them ------------------------------------------------------ */
+
+/* Here tables are counted in 64-bit words: the room is the number of whole rows, and words left
+ * over are zero too. C hosts will rather use the calls below these, which count rows; other
+ * languages bind these.
+ */
+TERKINOHA_MUST_USE terkinoha_scanned terkinoha_scan_words(const void *line, size_t line_size,
+                                                          terkinoha_lexeme *lexemes, size_t lexemes_words);
+TERKINOHA_MUST_USE terkinoha_lexed terkinoha_lex_words(const void *source, size_t source_size,
+                                                       terkinoha_token *tokens, size_t tokens_words);
+TERKINOHA_MUST_USE terkinoha_parsed terkinoha_parse_words(const void *source, size_t source_size,
+                                                          terkinoha_token *tokens, size_t tokens_words,
+                                                          terkinoha_node *nodes, size_t nodes_words);
+TERKINOHA_MUST_USE terkinoha_canonised terkinoha_canonicalise_words(const void *source, size_t source_size,
+                                                                    terkinoha_token *tokens, size_t tokens_words,
+                                                                    char *text, size_t text_size);
+
+/* ---- the calls, by rows ---------------------------------------------------------------------- */
+
+/* Scans a line, which may hold byte 10, into lexemes: everything that stands in it, blanks, comments
+ * and errors too.
+ */
+TERKINOHA_MUST_USE static inline terkinoha_scanned
+terkinoha_scan(const void *line, size_t line_size, terkinoha_lexeme *lexemes, size_t lexeme_room)
+{
+    return terkinoha_scan_words(line, line_size, lexemes, lexeme_room * TERKINOHA_LEXEME_WORDS);
+}
+
+/* Lexes a source into tokens. It is cut into lines at each byte 10. */
+TERKINOHA_MUST_USE static inline terkinoha_lexed
+terkinoha_lex(const void *source, size_t source_size, terkinoha_token *tokens, size_t token_room)
+{
+    return terkinoha_lex_words(source, source_size, tokens, token_room * TERKINOHA_TOKEN_WORDS);
+}
+
+/* Parses a source into tokens and nodes. */
+TERKINOHA_MUST_USE static inline terkinoha_parsed
+terkinoha_parse(const void *source, size_t source_size, terkinoha_token *tokens, size_t token_room,
+                terkinoha_node *nodes, size_t node_room)
+{
+    return terkinoha_parse_words(source, source_size, tokens, token_room * TERKINOHA_TOKEN_WORDS,
+                                 nodes, node_room * TERKINOHA_NODE_WORDS);
+}
+
+/* Lexes a source into tokens and writes their canonical text: byte 10 after each `;`, one space
+ * between other neighbours, no comments, one spelling for each number. Two sources have the same
+ * text exactly when they have the same tokens, places aside. No byte 0 ends the text; zeros follow
+ * where it is shorter than its room.
+ */
+TERKINOHA_MUST_USE static inline terkinoha_canonised
+terkinoha_canonicalise(const void *source, size_t source_size, terkinoha_token *tokens, size_t token_room,
+                       char *text, size_t text_room)
+{
+    return terkinoha_canonicalise_words(source, source_size, tokens, token_room * TERKINOHA_TOKEN_WORDS,
+                                        text, text_room);
+}
+
+/* ---- the bodies of a string ------------------------------------------------------------------ */
+
+/* Where the body of one of a string's literals lies: `source + start` up to `source + end`, raw,
+ * between its quotes. All zero where there is none.
+ */
+typedef struct terkinoha_body {
+    uint64_t found; /* 1, or 0 where there is none */
+    uint64_t start;
+    uint64_t end;
+    uint64_t next; /* where to look for the next body */
+} terkinoha_body;
+
+TERKINOHA_ASSERT_WORDS(terkinoha_body, 4);
+
+/* The first body that a part of the source has, from offset `at` up to `end`. This walks over all
+ * bodies of a string token and reads its span once:
+ *
+ *     terkinoha_body body = terkinoha_next_body(source, size, token.start, token.end);
+ *     for (; body.found; body = terkinoha_next_body(source, size, body.next, token.end))
+ *         fwrite(source + body.start, 1, body.end - body.start, stdout);
+ */
+TERKINOHA_MUST_USE terkinoha_body terkinoha_next_body(const void *source, size_t source_size, uint64_t at,
+                                                      uint64_t end);
+
+/* The body numbered `i`, from 0, of a string token that spans the source from `start` up to `end`.
+ * It walks there from the first one: for all bodies, walk as above.
+ */
+TERKINOHA_MUST_USE terkinoha_body terkinoha_body_at(const void *source, size_t source_size, uint64_t start,
+                                                    uint64_t end, uint64_t i);
+
+/* ---- texts, for people to read --------------------------------------------------------------- */
+
+/* Each is a constant that ends with byte 0, and never NULL. */
+
+/* Of a lexical error's kind. */
+static inline const char *terkinoha_error_text(uint64_t kind)
+{
+    switch (kind) {
+    case TERKINOHA_ERROR_UNEXPECTED_CHAR: return "unexpected character";
+    case TERKINOHA_ERROR_UNTERMINATED_STRING: return "unterminated string literal";
+    case TERKINOHA_ERROR_INT_OUT_OF_RANGE: return "integer literal out of range";
+    case TERKINOHA_ERROR_INT_LEADING_ZERO: return "decimal integer literal with leading zero";
+    case TERKINOHA_ERROR_INT_INVALID_SUFFIX: return "integer literal with invalid suffix";
+    case TERKINOHA_ERROR_IPV4_LITERAL: return "invalid IPv4 literal";
+    default: return "unknown error";
+    }
+}
+
+/* Of what a call came to. */
+static inline const char *terkinoha_verdict_text(terkinoha_verdict verdict)
+{
+    switch (verdict.number) {
+    case TERKINOHA_DONE: return "done";
+    case TERKINOHA_TOO_LONG: return "script longer than 65536 bytes";
+    case TERKINOHA_NOT_UTF8: return "not well-formed UTF-8";
+    case TERKINOHA_LEXICAL: return terkinoha_error_text(verdict.kind);
+    case TERKINOHA_TOKEN_ROOM: return "more tokens than the table has room for";
+    case TERKINOHA_SYNTAX:
+        return verdict.kind == TERKINOHA_SYNTAX_INT_OUT_OF_RANGE ? "integer literal out of range"
+                                                                 : "unexpected token";
+    case TERKINOHA_NODE_ROOM: return "more nodes than the table has room for";
+    case TERKINOHA_TOO_DEEP: return "more than 32 open argument lists, or 64 steps in one expression";
+    case TERKINOHA_CALLS: return "a call, which cannot be checked";
+    case TERKINOHA_NAMES: return "more than 512 let names, or 64 import names";
+    case TERKINOHA_TEXT_ROOM: return "canonical text longer than its room, or 65536 bytes";
+    case TERKINOHA_STATEMENT_ROOM: return "more statements than the table has room for";
+    default: return "unknown refusal";
+    }
+}
+
+/* Of a token's kind. */
+static inline const char *terkinoha_kind_text(uint64_t kind)
+{
+    switch (kind) {
+    case TERKINOHA_EOF: return "end of script";
+    case TERKINOHA_LPAREN: return "`(`";
+    case TERKINOHA_RPAREN: return "`)`";
+    case TERKINOHA_DOT: return "`.`";
+    case TERKINOHA_DOUBLE_COLON: return "`::`";
+    case TERKINOHA_COLON: return "`:`";
+    case TERKINOHA_SEMI_COLON: return "`;`";
+    case TERKINOHA_EQUALS: return "`=`";
+    case TERKINOHA_COMMA: return "`,`";
+    case TERKINOHA_SLASH: return "`/`";
+    case TERKINOHA_IMPORT_KEYWORD: return "`import`";
+    case TERKINOHA_LET_KEYWORD: return "`let`";
+    case TERKINOHA_IDENTIFIER: return "name";
+    case TERKINOHA_BOOLEAN_LITERAL: return "boolean";
+    case TERKINOHA_IPV4_LITERAL: return "IPv4 address";
+    case TERKINOHA_STRING_LITERAL: return "string";
+    case TERKINOHA_HEX_LITERAL: return "hexadecimal integer";
+    case TERKINOHA_DEC_LITERAL: return "decimal integer";
+    default: return "unknown token";
+    }
+}
+
+/* Of a node's kind. */
+static inline const char *terkinoha_node_text(uint64_t kind)
+{
+    switch (kind) {
+    case TERKINOHA_NODE_NAME: return "name of a path";
+    case TERKINOHA_NODE_LITERAL: return "literal";
+    case TERKINOHA_NODE_SOCK4: return "address with a port";
+    case TERKINOHA_NODE_LOCAL: return "name";
+    case TERKINOHA_NODE_PATH: return "path";
+    case TERKINOHA_NODE_MEMBER: return "member";
+    case TERKINOHA_NODE_SLASH: return "`/`";
+    case TERKINOHA_NODE_CALL: return "call";
+    case TERKINOHA_NODE_ARGUMENT: return "argument";
+    case TERKINOHA_NODE_NAMED_ARGUMENT: return "named argument";
+    case TERKINOHA_NODE_IMPORT: return "import";
+    case TERKINOHA_NODE_LET: return "let";
+    case TERKINOHA_NODE_EXPRESSION: return "expression statement";
+    default: return "unknown node";
+    }
+}
+
+#ifdef __cplusplus
+}
+#endif
+
+#endif

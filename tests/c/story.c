@@ -1,0 +1,204 @@
+/* A host was told "nothing found" by mistake: a call was refused, its number was not looked at, a
+ * table was full, and the next call answered with what was left over. Here a call's answer is that
+ * of a first call, whatever was called before it and whatever runs beside it.
+ */
+#include "lent.h"
+
+#include <pthread.h>
+#include <stdio.h>
+#include <string.h>
+
+#define ROOM 64
+#define TEXT_ROOM 256
+
+/* All that one call leaves. */
+struct left {
+    terkinoha_verdict verdict;
+    uint64_t counts[2];
+    terkinoha_lexeme lexemes[ROOM];
+    terkinoha_token tokens[ROOM];
+    terkinoha_node nodes[ROOM];
+    char text[TEXT_ROOM];
+};
+
+enum { SCAN, LEX, PARSE, CANONICALISE, ENTRIES };
+
+static void kept(struct left *left, terkinoha_verdict verdict, uint64_t count, uint64_t second_count)
+{
+    left->verdict = verdict;
+    left->counts[0] = count;
+    left->counts[1] = second_count;
+}
+
+/* One call. What it lends is full of garbage at first. */
+static void call(int entry, const char *source, size_t room, struct left *left)
+{
+    size_t size = strlen(source);
+    memset(left, 0xA5, sizeof *left);
+    if (entry == SCAN) {
+        terkinoha_scanned a = terkinoha_scan(source, size, left->lexemes, room);
+        kept(left, a.verdict, a.lexemes, 0);
+    } else if (entry == LEX) {
+        terkinoha_lexed a = terkinoha_lex(source, size, left->tokens, room);
+        kept(left, a.verdict, a.tokens, 0);
+    } else if (entry == PARSE) {
+        terkinoha_parsed a = terkinoha_parse(source, size, left->tokens, room, left->nodes, room);
+        kept(left, a.verdict, a.tokens, a.nodes);
+    } else {
+        terkinoha_canonised a = terkinoha_canonicalise(source, size, left->tokens, room, left->text, TEXT_ROOM);
+        kept(left, a.verdict, a.tokens, a.bytes);
+    }
+}
+
+static int same(const struct left *a, const struct left *b)
+{
+    return memcmp(a, b, sizeof *a) == 0;
+}
+
+/* ---- one after the other ---- */
+
+static const char script[] = "import bench;\nlet a = 1.2.3.4/80;\nf(a, \"x\" \"y\");\n";
+static const char nothing[] = "# nothing to find\n";
+
+/* What may have happened before: sources that each number refuses, ignored, and tables that are full. */
+static const char *const before[] = {script,  nothing,          "@",          "\xff",    "\"",
+                                     "f(,);", "1.2.3.4:65536;", "a.b.c.d.e;", "1 2 3 4"};
+
+static void spoil(int entry, size_t room)
+{
+    static struct left ignored;
+    for (size_t i = 0; i < sizeof before / sizeof *before; i++)
+        call(entry, before[i], room, &ignored);
+}
+
+static void try_after(void)
+{
+    static struct left first[ENTRIES][2], now;
+    static const char *const sources[2] = {script, nothing};
+    lent_trying("first calls", script, sizeof script - 1);
+    for (int entry = SCAN; entry < ENTRIES; entry++)
+        for (int i = 0; i < 2; i++)
+            call(entry, sources[i], ROOM, &first[entry][i]);
+
+    for (int entry = SCAN; entry < ENTRIES; entry++)
+        for (int spoiler = SCAN; spoiler < ENTRIES; spoiler++)
+            for (size_t room = 0; room < 8; room++)
+                for (int i = 0; i < 2; i++) {
+                    lent_trying("a call after others", sources[i], strlen(sources[i]));
+                    spoil(spoiler, room);
+                    call(entry, sources[i], ROOM, &now);
+                    CHECK(same(&now, &first[entry][i]));
+                }
+}
+
+/* The story itself, in the host's own table: no findings are left of the first script, and none are made up. */
+static void try_story(void)
+{
+    static terkinoha_token tokens[ROOM];
+    lent_trying("the story", script, sizeof script - 1);
+    terkinoha_lexed lexed = terkinoha_lex(script, sizeof script - 1, tokens, ROOM);
+    CHECK(lexed.verdict.number == TERKINOHA_DONE && lexed.tokens == 18 && tokens[0].kind == TERKINOHA_IMPORT_KEYWORD);
+
+    terkinoha_lexed ignored = terkinoha_lex("let @", 5, tokens, ROOM); /* refused; its number is not looked at */
+    (void)ignored;
+    for (int i = 0; i < ROOM; i++)
+        CHECK(tokens[i].kind == 0); /* a host that reads on finds no token */
+
+    ignored = terkinoha_lex(script, sizeof script - 1, tokens, 3); /* the table is full; not looked at either */
+    (void)ignored;
+
+    lexed = terkinoha_lex("a;", 2, tokens, ROOM);
+    CHECK(lexed.verdict.number == TERKINOHA_DONE && lexed.tokens == 3);
+    CHECK(tokens[0].kind == TERKINOHA_IDENTIFIER && tokens[1].kind == TERKINOHA_SEMI_COLON);
+    CHECK(tokens[2].kind == TERKINOHA_EOF);
+    CHECK(tokens[3].kind == 0 && tokens[17].kind == 0);
+}
+
+/* ---- at the same time ---- */
+
+#define ROUNDS 3000
+
+struct job {
+    const char *source;         /* both threads read the same bytes */
+    struct left alone[ENTRIES]; /* what a call answers with no other beside it */
+    struct left now;
+    int wrong;
+};
+
+static void *work(void *given)
+{
+    struct job *job = (struct job *)given;
+    for (int round = 0; round < ROUNDS; round++)
+        for (int entry = SCAN; entry < ENTRIES; entry++) {
+            call(entry, job->source, ROOM, &job->now);
+            job->wrong += !same(&job->now, &job->alone[entry]);
+        }
+    return NULL;
+}
+
+static void try_threads(const char *one, const char *other)
+{
+    static struct job jobs[2];
+    pthread_t threads[2];
+    jobs[0].source = one;
+    jobs[1].source = other;
+    for (int i = 0; i < 2; i++)
+        for (int entry = SCAN; entry < ENTRIES; entry++)
+            call(entry, jobs[i].source, ROOM, &jobs[i].alone[entry]);
+    lent_trying("two threads", one, strlen(one));
+    for (int i = 0; i < 2; i++)
+        CHECK(pthread_create(&threads[i], NULL, work, &jobs[i]) == 0);
+    for (int i = 0; i < 2; i++)
+        CHECK(pthread_join(threads[i], NULL) == 0);
+    CHECK(jobs[0].wrong == 0 && jobs[1].wrong == 0);
+}
+
+/* ---- on a small stack ---- */
+
+/* The header says that a call needs less than 32 KiB; a thread itself takes some more. A sanitiser takes far more. */
+#if defined(__SANITIZE_ADDRESS__)
+#define STACK ((size_t)1 << 20)
+#else
+#define STACK ((size_t)40 << 10)
+#endif
+
+static void *parse_deep(void *given)
+{
+    static terkinoha_token tokens[1024];
+    static terkinoha_node nodes[1024];
+    const char *source = (const char *)given;
+    terkinoha_parsed parsed = terkinoha_parse(source, strlen(source), tokens, 1024, nodes, 1024);
+    return parsed.verdict.number == TERKINOHA_DONE ? NULL : given;
+}
+
+/* As many lists as may be open at once, each in an expression with other steps. */
+static void try_stack(void)
+{
+    static char source[2048];
+    pthread_attr_t small;
+    pthread_t thread;
+    void *wrong;
+    for (int i = 0; i < TERKINOHA_MOST_LISTS; i++)
+        strcat(source, "a.b/c::d(e, f: ");
+    strcat(source, "1");
+    for (int i = 0; i < TERKINOHA_MOST_LISTS; i++)
+        strcat(source, ",)");
+    strcat(source, ";");
+    lent_trying("a small stack", source, strlen(source));
+    CHECK(pthread_attr_init(&small) == 0 && pthread_attr_setstacksize(&small, STACK) == 0);
+    CHECK(pthread_create(&thread, &small, parse_deep, source) == 0 && pthread_join(thread, &wrong) == 0);
+    CHECK(wrong == NULL);
+}
+
+int main(void)
+{
+    lent_start();
+    try_after();
+    try_story();
+    try_threads(script, script);
+    try_threads(script, "f(,);");
+    try_threads(nothing, "let b = g(0x1F, c: \"z\").m;");
+    try_stack();
+    printf("story: each answer is that of a first call, alone and beside another thread\n");
+    return 0;
+}
