@@ -1,0 +1,263 @@
+//! Our calls beside resynth's own, on the same scripts in one run.
+//!
+//!     bench                              the tables, in markdown
+//!     bench once CALL KIND SIZE WHO N    one call N times, for a profiler; WHO is ours or rust
+//!
+//! Each row's calls take turns, and the least time of many turns is kept: what else the machine does then falls out.
+
+mod ours;
+mod scripts;
+mod theirs;
+
+use std::collections::VecDeque;
+use std::hint::black_box;
+use std::time::{Duration, Instant};
+
+use resynth::ast::Stmt;
+use resynth::lex::Token;
+
+use ours::{Rooms, Tables};
+use scripts::{KINDS, Kind};
+
+const CALLS: [&str; 6] = ["utf8", "scan by line", "scan whole", "lex", "parse", "canonicalise"];
+
+/// A script with what both sides need to know of it
+struct Script {
+    bytes: Vec<u8>,
+    /// Just enough for this script
+    rooms: Rooms,
+    /// How many lexemes each line has
+    lines: Vec<usize>,
+}
+
+impl Script {
+    fn new(kind: &Kind, size: usize) -> Self {
+        let bytes = kind.script(size);
+        let text = str::from_utf8(&bytes).expect("a script is UTF-8");
+        let lines: Vec<usize> = text.split_terminator('\n').map(theirs::scan).collect();
+        let rooms = Rooms {
+            lexemes: theirs::scan(text),
+            tokens: theirs::lex(text).len(),
+            nodes: theirs::nodes(&theirs::parse(text)) as usize,
+            text: ours::MOST,
+        };
+        let mut script = Self { bytes, rooms, lines };
+        script.rooms.text = script.agree();
+        script
+    }
+
+    fn text(&self) -> &str {
+        str::from_utf8(&self.bytes).expect("a script is UTF-8")
+    }
+
+    /// Both sides find the same lexemes, tokens and number of nodes. Gives the size of the canonical text.
+    fn agree(&self) -> usize {
+        let mut tables = Tables::new();
+        assert_eq!(ours::first_bad(&self.bytes), self.bytes.len());
+
+        let scanned = tables.scan(&self.bytes, self.rooms.lexemes);
+        let lexemes = theirs::lexemes(self.text());
+        assert_eq!((scanned.verdict.number, scanned.count), (0, lexemes.len() as u64));
+        for (row, (end, is_token)) in tables.lexemes.chunks(ours::LEXEME_WORDS).zip(&lexemes) {
+            assert_eq!((row[1], row[2] == 3), (*end, *is_token));
+        }
+
+        let parsed = tables.parse(&self.bytes, self.rooms);
+        assert_eq!(parsed.verdict.number, 0);
+        assert_eq!(parsed.count, self.rooms.nodes as u64);
+        let lexed = tables.lex(&self.bytes, self.rooms);
+        let tokens = theirs::lex(self.text());
+        assert_eq!((lexed.verdict.number, lexed.count), (0, tokens.len() as u64));
+        for (row, token) in tables.tokens.chunks(ours::TOKEN_WORDS).zip(&tokens) {
+            assert_eq!((row[0], row[1], row[2]), theirs::place(token));
+        }
+
+        let written = tables.canonicalise(&self.bytes, self.rooms);
+        assert_eq!(written.verdict.number, 0);
+        written.count as usize
+    }
+}
+
+/// Ours, once. The numbers are only there so that nothing is optimised away.
+fn ours_once(call: &str, script: &Script, tables: &mut Tables, rooms: Rooms) -> u64 {
+    let bytes = &script.bytes;
+    match call {
+        "utf8" => ours::first_bad(bytes) as u64,
+        "scan by line" => {
+            let lines = bytes.split(|&b| b == b'\n').zip(&script.lines);
+            lines.map(|(line, room)| tables.scan(line, *room).count).sum()
+        }
+        "scan whole" => tables.scan(bytes, rooms.lexemes).count,
+        "lex" => tables.lex(bytes, rooms).count,
+        "parse" => tables.parse(bytes, rooms).count,
+        _ => tables.canonicalise(bytes, rooms).count,
+    }
+}
+
+/// The Rust's answer, kept until it is freed
+#[expect(dead_code, reason = "it is freed, and not read")]
+enum Kept {
+    Count(usize),
+    Tokens(VecDeque<Token>),
+    Trees(Vec<Stmt>),
+}
+
+/// The Rust's, once. Nothing there canonicalises: its lexer stands beside ours that lexes and writes.
+fn rust_once(call: &str, text: &str) -> Kept {
+    match call {
+        "utf8" => Kept::Count(str::from_utf8(black_box(text.as_bytes())).map_or(0, str::len)),
+        "scan by line" => Kept::Count(text.split_terminator('\n').map(theirs::scan).sum()),
+        "scan whole" => Kept::Count(theirs::scan(text)),
+        "lex" | "canonicalise" => Kept::Tokens(theirs::lex(text)),
+        _ => Kept::Trees(theirs::parse(text)),
+    }
+}
+
+/// Least times in nanoseconds
+#[derive(Clone, Copy)]
+struct Row {
+    /// With just enough room, and with the most that any script could need
+    ours: f64,
+    ours_most: f64,
+    rust: f64,
+    /// The Rust with `from_utf8` before it, as ours takes raw bytes
+    rust_bytes: f64,
+    /// The Rust with its answer freed
+    rust_freed: f64,
+}
+
+fn least(best: &mut f64, turns: u32, run: impl Fn() -> f64) {
+    for _ in 0..turns {
+        *best = best.min(run());
+    }
+}
+
+fn nanos(since: Instant) -> f64 {
+    since.elapsed().as_nanos() as f64
+}
+
+fn measure(call: &str, script: &Script, tables: &mut Tables, budget: Duration) -> Row {
+    let tables = std::cell::RefCell::new(tables);
+    // Short calls are timed several at once, so that the clock does not count
+    let several = if call == "utf8" { 16 } else { 1 };
+    let time_ours = |rooms| {
+        let tables = &mut tables.borrow_mut();
+        let began = Instant::now();
+        for _ in 0..several {
+            black_box(ours_once(call, black_box(script), tables, rooms));
+        }
+        nanos(began) / f64::from(several)
+    };
+    let time_rust = |from_bytes: bool, freed: bool| {
+        let known = script.text();
+        let began = Instant::now();
+        let mut took = 0.0;
+        for i in 1..=several {
+            let text = if from_bytes { script.text() } else { known };
+            let kept = black_box(rust_once(call, black_box(text)));
+            if i == several && !freed {
+                took = nanos(began);
+            }
+            drop(kept);
+        }
+        if freed {
+            took = nanos(began);
+        }
+        took / f64::from(several)
+    };
+    let mut row = Row {
+        ours: f64::MAX,
+        ours_most: f64::MAX,
+        rust: f64::MAX,
+        rust_bytes: f64::MAX,
+        rust_freed: f64::MAX,
+    };
+    let began = Instant::now();
+    while began.elapsed() < budget {
+        least(&mut row.ours, 8, || time_ours(script.rooms));
+        least(&mut row.rust, 8, || time_rust(false, false));
+        least(&mut row.rust_bytes, 8, || time_rust(true, false));
+        least(&mut row.rust_freed, 8, || time_rust(false, true));
+        // This one empties the caches, so it comes last
+        least(&mut row.ours_most, 2, || time_ours(Rooms::MOST));
+    }
+    row
+}
+
+/// How often `a` goes into `b`, to two places
+fn ratio(b: f64, a: f64) -> String {
+    format!("{:.2}", b / a)
+}
+
+fn micros(ns: f64) -> String {
+    format!("{:.2}", ns / 1000.0)
+}
+
+fn table() {
+    let budget = Duration::from_millis(200);
+    let mut tables = Tables::new();
+    let mut growth = Vec::new();
+    println!("| script | KB | call | ours µs | full room µs | Rust µs | ratio | with `from_utf8` | and freed | full room |");
+    println!("|---|---|---|---|---|---|---|---|---|---|");
+    for kind in &KINDS {
+        let sizes: &[usize] = if kind.name == "realistic" { &[1, 16, 64] } else { &[16, 64] };
+        let scripts: Vec<Script> = sizes.iter().map(|kb| Script::new(kind, kb * 1024)).collect();
+        for call in CALLS {
+            let mut rows = Vec::new();
+            for (script, kb) in scripts.iter().zip(sizes) {
+                let row = measure(call, script, &mut tables, budget);
+                let freed = row.rust_bytes + row.rust_freed - row.rust;
+                let from_bytes = if call == "utf8" { row.rust } else { row.rust_bytes };
+                println!(
+                    "| {} | {kb} | {call} | {} | {} | {} | {} | {} | {} | {} |",
+                    kind.name,
+                    micros(row.ours),
+                    micros(row.ours_most),
+                    micros(row.rust),
+                    ratio(row.rust, row.ours),
+                    ratio(from_bytes, row.ours),
+                    ratio(if call == "utf8" { row.rust } else { freed }, row.ours),
+                    ratio(row.rust, row.ours_most),
+                );
+                rows.push(row);
+            }
+            let (small, large) = (rows[rows.len() - 2], rows[rows.len() - 1]);
+            growth.push((kind.name, call, large.ours / small.ours, large.rust / small.rust));
+        }
+    }
+    println!("\n| script | call | ours | Rust |");
+    println!("|---|---|---|---|");
+    for (name, call, ours, rust) in growth {
+        println!("| {name} | {call} | {ours:.2} | {rust:.2} |");
+    }
+}
+
+fn once(words: &[String]) -> Option<()> {
+    let [call, kind, size, who, count] = words else {
+        return None;
+    };
+    let call = CALLS.iter().find(|c| *c == call)?;
+    let kind = KINDS.iter().find(|k| k.name == kind)?;
+    let script = Script::new(kind, size.parse::<usize>().ok()? * 1024);
+    let mut tables = Tables::new();
+    for _ in 0..count.parse().ok()? {
+        if who == "ours" {
+            black_box(ours_once(call, &script, &mut tables, script.rooms));
+        } else {
+            black_box(rust_once(call, script.text()));
+        }
+    }
+    Some(())
+}
+
+fn main() {
+    let words: Vec<String> = std::env::args().skip(1).collect();
+    match words.split_first() {
+        None => table(),
+        Some((word, rest)) if word == "once" && once(rest).is_some() => {}
+        _ => {
+            eprintln!("bench [once CALL KIND SIZE ours|rust N]");
+            std::process::exit(2);
+        }
+    }
+}
