@@ -1,6 +1,6 @@
 //! Our calls beside resynth's own, on the same scripts in one run.
 //!
-//!     bench                              the tables, in markdown
+//!     bench [CALL..]                     the tables, in markdown, of all calls or of these
 //!     bench once CALL KIND SIZE WHO N    one call N times, for a profiler; WHO is ours or rust
 //!
 //! Each row's calls take turns, and the least time of many turns is kept: what else the machine does then falls out.
@@ -193,7 +193,7 @@ fn micros(ns: f64) -> String {
     format!("{:.2}", ns / 1000.0)
 }
 
-fn table() {
+fn table(calls: &[&str]) {
     let budget = Duration::from_millis(200);
     let mut tables = Tables::new();
     let mut growth = Vec::new();
@@ -202,7 +202,7 @@ fn table() {
     for kind in &KINDS {
         let sizes: &[usize] = if kind.name == "realistic" { &[1, 16, 64] } else { &[16, 64] };
         let scripts: Vec<Script> = sizes.iter().map(|kb| Script::new(kind, kb * 1024)).collect();
-        for call in CALLS {
+        for &call in calls {
             let mut rows = Vec::new();
             for (script, kb) in scripts.iter().zip(sizes) {
                 let row = measure(call, script, &mut tables, budget);
@@ -253,11 +253,15 @@ fn once(words: &[String]) -> Option<()> {
 fn main() {
     let words: Vec<String> = std::env::args().skip(1).collect();
     match words.split_first() {
-        None => table(),
+        None => table(&CALLS),
         Some((word, rest)) if word == "once" && once(rest).is_some() => {}
         _ => {
-            eprintln!("bench [once CALL KIND SIZE ours|rust N]");
-            std::process::exit(2);
+            let calls: Vec<&str> = CALLS.into_iter().filter(|c| words.iter().any(|w| w == c)).collect();
+            if calls.len() != words.len() {
+                eprintln!("bench [CALL..], or bench once CALL KIND SIZE ours|rust N; the calls are {CALLS:?}");
+                std::process::exit(2);
+            }
+            table(&calls);
         }
     }
 }

@@ -158,7 +158,8 @@ fn long_names(rng: &mut Rng, out: &mut String) {
         "CERTIFICATE_REQUEST_WITHOUT_DISTINGUISHED_NAMES",
     ];
     let (a, b, c) = (rng.pick(&LONG), rng.pick(&LONG), rng.pick(&LONG));
-    put!(out, "let {a}_{} = {b}::{c}({}: {}.{});\n", rng.below(900), rng.pick(&LONG), rng.pick(&LONG), rng.pick(&LONG));
+    put!(out, "let {a}_{} = {b}::{c}(\n", rng.below(900));
+    put!(out, "        {}: {}.{},\n);\n", rng.pick(&LONG), rng.pick(&LONG), rng.pick(&LONG));
 }
 
 /// Comments that are not ASCII
