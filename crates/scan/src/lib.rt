@@ -537,14 +537,16 @@ fn dotted_quad(line: &[u8], at: usize) -> Quad
         if end == i {
             return Quad::Not;
         }
-        let n = quad_part(line, i, end);
-        address = join(address, n);
         if dots == 0 {
-            return Quad::Dotted(end, address);
+            let last = quad_part(line, i, end);
+            return Quad::Dotted(end, join(address, last));
         }
+        // most numbers are no quad: that is seen before one is read
         if peek(line, end) != 46 {
             return Quad::Not;
         }
+        let n = quad_part(line, i, end);
+        address = join(address, n);
         i = end + 1;
         dots -= 1;
     }
