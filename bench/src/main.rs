@@ -2,6 +2,7 @@
 //!
 //!     bench [CALL..]                     the tables, in markdown, of all calls or of these
 //!     bench once CALL KIND SIZE WHO N    one call N times, for a profiler; WHO is ours or rust
+//!     bench script KIND SIZE             the script itself
 //!
 //! Each row's calls take turns, and the least time of many turns is kept: what else the machine does then falls out.
 
@@ -11,6 +12,7 @@ mod theirs;
 
 use std::collections::VecDeque;
 use std::hint::black_box;
+use std::io::Write;
 use std::time::{Duration, Instant};
 
 use resynth::ast::Stmt;
@@ -78,14 +80,31 @@ impl Script {
     }
 }
 
+/// How much room a call is lent
+#[derive(Clone, Copy, PartialEq)]
+enum Lent {
+    /// As many rows as this script fills
+    Just,
+    /// As many as a source of its size could fill, which a host knows beforehand
+    Sure,
+    /// As many as the largest source could fill
+    Full,
+}
+
 /// Ours, once. The numbers are only there so that nothing is optimised away.
-fn ours_once(call: &str, script: &Script, tables: &mut Tables, rooms: Rooms) -> u64 {
+fn ours_once(call: &str, script: &Script, tables: &mut Tables, lent: Lent) -> u64 {
     let bytes = &script.bytes;
+    let rooms = match lent {
+        Lent::Just => script.rooms,
+        Lent::Sure => Rooms::of(bytes.len()),
+        Lent::Full => Rooms::of(ours::MOST),
+    };
     match call {
         "utf8" => ours::first_bad(bytes) as u64,
         "scan by line" => {
             let lines = bytes.split(|&b| b == b'\n').zip(&script.lines);
-            lines.map(|(line, room)| tables.scan(line, *room).count).sum()
+            let room = |line: &[u8], just| if lent == Lent::Just { just } else { line.len() };
+            lines.map(|(line, just)| tables.scan(line, room(line, *just)).count).sum()
         }
         "scan whole" => tables.scan(bytes, rooms.lexemes).count,
         "lex" => tables.lex(bytes, rooms).count,
@@ -116,14 +135,45 @@ fn rust_once(call: &str, text: &str) -> Kept {
 /// Least times in nanoseconds
 #[derive(Clone, Copy)]
 struct Row {
-    /// With just enough room, and with the most that any script could need
+    /// With just enough room, with as many rows as the source has bytes, and with the most that any source could need
     ours: f64,
+    ours_sure: f64,
     ours_most: f64,
     rust: f64,
     /// The Rust with `from_utf8` before it, as ours takes raw bytes
     rust_bytes: f64,
-    /// The Rust with its answer freed
+    /// The same, and its answer freed
     rust_freed: f64,
+}
+
+impl Row {
+    const NONE: Row = Row {
+        ours: f64::MAX,
+        ours_sure: f64::MAX,
+        ours_most: f64::MAX,
+        rust: f64::MAX,
+        rust_bytes: f64::MAX,
+        rust_freed: f64::MAX,
+    };
+
+    /// Times in microseconds, then how many times faster ours is
+    fn print(&self, script: &str, kb: usize, call: &str) {
+        print!("| {script} | {kb} | {call} | {:.2} | {:.2} |", self.ours / 1000.0, self.rust / 1000.0);
+        let ratios = [
+            Some(self.rust / self.ours),
+            (call != "utf8").then_some(self.rust_bytes / self.ours),
+            (call != "utf8").then_some(self.rust_freed / self.ours),
+            (call != "utf8").then_some(self.rust / self.ours_sure),
+            (call != "utf8" && call != "scan by line").then_some(self.rust / self.ours_most),
+        ];
+        for ratio in ratios {
+            match ratio {
+                Some(ratio) => print!(" {ratio:.2} |"),
+                None => print!(" |"),
+            }
+        }
+        println!();
+    }
 }
 
 fn least(best: &mut f64, turns: u32, run: impl Fn() -> f64) {
@@ -140,11 +190,11 @@ fn measure(call: &str, script: &Script, tables: &mut Tables, budget: Duration) -
     let tables = std::cell::RefCell::new(tables);
     // Short calls are timed several at once, so that the clock does not count
     let several = if call == "utf8" { 16 } else { 1 };
-    let time_ours = |rooms| {
+    let time_ours = |lent| {
         let tables = &mut tables.borrow_mut();
         let began = Instant::now();
         for _ in 0..several {
-            black_box(ours_once(call, black_box(script), tables, rooms));
+            black_box(ours_once(call, black_box(script), tables, lent));
         }
         nanos(began) / f64::from(several)
     };
@@ -165,70 +215,56 @@ fn measure(call: &str, script: &Script, tables: &mut Tables, budget: Duration) -
         }
         took / f64::from(several)
     };
-    let mut row = Row {
-        ours: f64::MAX,
-        ours_most: f64::MAX,
-        rust: f64::MAX,
-        rust_bytes: f64::MAX,
-        rust_freed: f64::MAX,
-    };
+    let mut row = Row::NONE;
     let began = Instant::now();
     while began.elapsed() < budget {
-        least(&mut row.ours, 8, || time_ours(script.rooms));
+        least(&mut row.ours, 8, || time_ours(Lent::Just));
         least(&mut row.rust, 8, || time_rust(false, false));
         least(&mut row.rust_bytes, 8, || time_rust(true, false));
-        least(&mut row.rust_freed, 8, || time_rust(false, true));
-        // This one empties the caches, so it comes last
-        least(&mut row.ours_most, 2, || time_ours(Rooms::MOST));
+        least(&mut row.rust_freed, 8, || time_rust(true, true));
+        // These empty the caches, so they come last
+        least(&mut row.ours_sure, 4, || time_ours(Lent::Sure));
+        least(&mut row.ours_most, 2, || time_ours(Lent::Full));
     }
     row
 }
 
-/// How often `a` goes into `b`, to two places
-fn ratio(b: f64, a: f64) -> String {
-    format!("{:.2}", b / a)
+/// How much longer 64 KB take than 16
+struct Growth {
+    script: &'static str,
+    call: &'static str,
+    ours: f64,
+    rust: f64,
 }
 
-fn micros(ns: f64) -> String {
-    format!("{:.2}", ns / 1000.0)
-}
-
-fn table(calls: &[&str]) {
+fn table(calls: &[&'static str]) {
     let budget = Duration::from_millis(200);
     let mut tables = Tables::new();
     let mut growth = Vec::new();
-    println!("| script | KB | call | ours µs | full room µs | Rust µs | ratio | with `from_utf8` | and freed | full room |");
+    println!("| script | KB | call | ours µs | Rust µs | ratio | with `from_utf8` | and freed | sure room | full room |");
     println!("|---|---|---|---|---|---|---|---|---|---|");
     for kind in &KINDS {
         let sizes: &[usize] = if kind.name == "realistic" { &[1, 16, 64] } else { &[16, 64] };
         let scripts: Vec<Script> = sizes.iter().map(|kb| Script::new(kind, kb * 1024)).collect();
         for &call in calls {
-            let mut rows = Vec::new();
-            for (script, kb) in scripts.iter().zip(sizes) {
-                let row = measure(call, script, &mut tables, budget);
-                let freed = row.rust_bytes + row.rust_freed - row.rust;
-                let from_bytes = if call == "utf8" { row.rust } else { row.rust_bytes };
-                println!(
-                    "| {} | {kb} | {call} | {} | {} | {} | {} | {} | {} | {} |",
-                    kind.name,
-                    micros(row.ours),
-                    micros(row.ours_most),
-                    micros(row.rust),
-                    ratio(row.rust, row.ours),
-                    ratio(from_bytes, row.ours),
-                    ratio(if call == "utf8" { row.rust } else { freed }, row.ours),
-                    ratio(row.rust, row.ours_most),
-                );
-                rows.push(row);
+            let measured = scripts.iter().map(|script| measure(call, script, &mut tables, budget));
+            let rows: Vec<Row> = measured.collect();
+            for (row, &kb) in rows.iter().zip(sizes) {
+                row.print(kind.name, kb, call);
             }
-            let (small, large) = (rows[rows.len() - 2], rows[rows.len() - 1]);
-            growth.push((kind.name, call, large.ours / small.ours, large.rust / small.rust));
+            let [.., small, large] = &rows[..] else { continue };
+            growth.push(Growth {
+                script: kind.name,
+                call,
+                ours: large.ours / small.ours,
+                rust: large.rust / small.rust,
+            });
         }
     }
     println!("\n| script | call | ours | Rust |");
     println!("|---|---|---|---|");
-    for (name, call, ours, rust) in growth {
-        println!("| {name} | {call} | {ours:.2} | {rust:.2} |");
+    for Growth { script, call, ours, rust } in growth {
+        println!("| {script} | {call} | {ours:.2} | {rust:.2} |");
     }
 }
 
@@ -242,7 +278,7 @@ fn once(words: &[String]) -> Option<()> {
     let mut tables = Tables::new();
     for _ in 0..count.parse().ok()? {
         if who == "ours" {
-            black_box(ours_once(call, &script, &mut tables, script.rooms));
+            black_box(ours_once(call, &script, &mut tables, Lent::Just));
         } else {
             black_box(rust_once(call, script.text()));
         }
@@ -250,15 +286,25 @@ fn once(words: &[String]) -> Option<()> {
     Some(())
 }
 
+fn script(words: &[String]) -> Option<()> {
+    let [kind, size] = words else {
+        return None;
+    };
+    let kind = KINDS.iter().find(|k| k.name == kind)?;
+    let bytes = kind.script(size.parse::<usize>().ok()? * 1024);
+    std::io::stdout().write_all(&bytes).ok()
+}
+
 fn main() {
     let words: Vec<String> = std::env::args().skip(1).collect();
     match words.split_first() {
         None => table(&CALLS),
         Some((word, rest)) if word == "once" && once(rest).is_some() => {}
+        Some((word, rest)) if word == "script" && script(rest).is_some() => {}
         _ => {
-            let calls: Vec<&str> = CALLS.into_iter().filter(|c| words.iter().any(|w| w == c)).collect();
+            let calls: Vec<&'static str> = CALLS.into_iter().filter(|c| words.iter().any(|w| w == c)).collect();
             if calls.len() != words.len() {
-                eprintln!("bench [CALL..], or bench once CALL KIND SIZE ours|rust N; the calls are {CALLS:?}");
+                eprintln!("bench [CALL..], once CALL KIND SIZE ours|rust N, or script KIND SIZE; the calls are {CALLS:?}");
                 std::process::exit(2);
             }
             table(&calls);

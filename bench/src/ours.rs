@@ -83,12 +83,15 @@ pub struct Rooms {
 }
 
 impl Rooms {
-    pub const MOST: Rooms = Rooms {
-        lexemes: MOST,
-        tokens: MOST + 1,
-        nodes: MOST,
-        text: MOST,
-    };
+    /// Enough for whatever source of so many bytes
+    pub fn of(bytes: usize) -> Self {
+        Self {
+            lexemes: bytes,
+            tokens: bytes + 1,
+            nodes: bytes,
+            text: MOST,
+        }
+    }
 }
 
 impl Tables {
