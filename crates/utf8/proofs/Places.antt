@@ -20,8 +20,9 @@ use Rattle.utf8.specs.declared.Decoded.the-variants.{Read, Nothing}
 use Rattle.utf8.specs.declared.Bad.the-variants.{At, Nowhere}
 use Rattle.utf8.specs.Decoding.{placed, badOf, Passed}
 use Rattle.utf8.specs.Blocks.{allFrom, isAscii}
-use Rattle.language.proofs.Tests.{both}
-use Rattle.utf8.proofs.Chars.{ascii-char}
+use Rattle.language.proofs.Tests.{both, inside, inside-test}
+use Rattle.utf8.proofs.Leads.{row-C2}
+use Rattle.utf8.proofs.Chars.{ascii-char, longer-char}
 
 -- ---- a character's octets are all there
 
@@ -118,6 +119,27 @@ module _ (s : List ℕ) (i : ℕ) where
 
     pub bad-ascii : getD s i 0 < 0x80 → Onward s i (i + 1)
     bad-ascii h = over-char (getD s i 0) 1 (ascii-char s i in-source h)
+
+-- ---- two octets
+
+one-tail : (b : ℕ) (s : List ℕ) (n : ℕ) → 0x80 ≤ b → b ≤ 0xBF → (m : ℕ) × (follow 2 1 0x80 0xBF n (b ∷ s) ≡ char m 2)
+unfolding follow
+one-tail b s n h k = (n * 0x40 + (b - 0x80), rw (inside-test 0x80 0xBF b h k))
+
+pub two-passed :
+    (s : List ℕ) (i : ℕ)
+    → i + 1 < length s
+    → (within 0xC2 0xDF (getD s i 0) && within 0x80 0xBF (getD s (i + 1) 0)) ≡ true
+    → Passed s i (i + 2)
+two-passed s i h e =
+    let q = both (within 0xC2 0xDF (getD s i 0)) (within 0x80 0xBF (getD s (i + 1) 0)) e in
+    let a = inside 0xC2 0xDF (getD s i 0) (q .0) in
+    let b = inside 0x80 0xBF (getD s (i + 1) 0) (q .1) in
+    let l : i < length s = omega arith in
+    let d = longer-char s i l 1 0x80 0xBF (getD s i 0 - 0xC0) (row-C2 (getD s i 0) (getD s i 0) refl (a .0) (omega (arith, a .1))) in
+    let t = one-tail (getD s (i + 1) 0) (drop (suc (i + 1)) s) (getD s i 0 - 0xC0) (b .0) (b .1) in
+    let o = over-char s i l (t .0) 2 (d ∙ ap (follow 2 1 0x80 0xBF (getD s i 0 - 0xC0)) (drop-cons s (i + 1) 0 h) ∙ t .1) in
+    record { further = omega (arith, o .further); in-source = o .in-source; same = o .same }
 
 -- ---- a run of ASCII
 

@@ -1,5 +1,6 @@
 // RFC 3629: one character of a source, and the first place where none starts.
 ghost use mathlib.Core.Path.{_≡_};
+ghost use mathlib.Core.Bool.{true};
 ghost use Prim.Native.Nat.{suc, _+_, _≤_, _<_};
 ghost use lib.ListN.{length, drop, getD};
 ghost use Rattle.language.specs.Utf8.{leadOf, follow, charAt, firstBad};
@@ -180,6 +181,20 @@ fn ascii_end(src: &[u8], at: usize) -> usize
     i
 }
 
+// A character of two octets, which most that are not ASCII are: nothing is asked of its number. False only says that it is
+// not seen here.
+fn two_octets(src: &[u8], at: usize) -> bool
+    requires { ⌜ at < length (now src) ⌝ }
+    ensures { λ r. ⌜ (r ≡ true → Passed (now (src .entry)) at (at + 2)) ⌝ }
+{
+    if src.len() <= at + 1 {
+        return false;
+    }
+    let b = src[at];
+    let tail = src[at + 1];
+    (0xC2 <= b) & (b <= 0xDF) & ((0x80 <= tail) & (tail <= 0xBF))
+}
+
 // The first byte, stepping by whole characters, where no well-formed one starts.
 pub fn first_bad(src: &[u8]) -> Bad
     ensures { λ r. ⌜ r ≡ badOf (firstBad (now (src .entry))) ⌝ }
@@ -188,6 +203,10 @@ pub fn first_bad(src: &[u8]) -> Bad
     while i < src.len() {
         if src[i] < 128 {
             i = ascii_end(src, i + 1);
+            continue;
+        }
+        if two_octets(src, i) {
+            i += 2;
             continue;
         }
         let here = longer(src, i);

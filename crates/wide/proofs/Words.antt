@@ -1,5 +1,5 @@
 -- What two words say of their number. 2^127 has 39 digits, one more than omega takes, so two laws carry it.
-use mathlib.Core.Path.{_≡_, sym}
+use mathlib.Core.Path.{_≡_, refl, sym}
 use mathlib.Core.Bool.{true, false, _&&_}
 use mathlib.Core.Option.{some}
 use Prim.Native.Nat.{ℕ, _+_, _*_, _/_, _%_, _^_, _<_, _≤_}
@@ -94,6 +94,11 @@ pub divided :
     → (hi / 10 * word + (p1 / 10 * quarter + p0 / 10) ≡ (hi * word + lo) / 10) × (p0 % 10 ≡ (hi * word + lo) % 10)
 divided hi lo p1 p0 a b =
     quotient (hi * word + lo) (hi / 10 * word + (p1 / 10 * quarter + p0 / 10)) (p0 % 10) (omega arith) (omega arith)
+
+pub small-tenth : (hi lo : ℕ) → hi ≡ 0 → (0 * word + lo / 10 ≡ (hi * word + lo) / 10) × (lo % 10 ≡ (hi * word + lo) % 10)
+small-tenth hi lo z =
+    let e : hi * word + lo ≡ lo = omega arith in
+    rw e (omega arith, refl)
 
 -- ---- a sixteenth
 

@@ -156,6 +156,13 @@ impl Wide {
     {
         let hi = self.hi;
         let lo = self.lo;
+        // most numbers are small: the lower word is enough
+        if hi == 0 {
+            return Quotient {
+                rest: Wide { hi: 0, lo: lo / 10 },
+                digit: lo % 10,
+            };
+        }
         let p1 = (hi % 10) * 4294967296 + lo / 4294967296;
         let p0 = (p1 % 10) * 4294967296 + lo % 4294967296;
         let rest = Wide {

@@ -40,22 +40,36 @@ loop-again c =
     let p = c .ascii-end2 .ensures in
     (p .in-source, p .same ∙ o .same ∙ c .before .before .before .before .loop .inv .1)
 
+two-octets-requires : tie.Need-two-octets-requires Inv-loop μ-loop
+two-octets-requires c κs = search needs
+
+add-i : tie.Need-add-i Inv-loop μ-loop
+add-i c = search needs
+
+loop-less-2 : tie.Need-loop-less-2 Inv-loop μ-loop
+loop-less-2 c = omega arith
+
+loop-again-2 : tie.Need-loop-again-2 Inv-loop μ-loop
+loop-again-2 c =
+    let p = c .before .two-octets .ensures (c .if2 .taken) in
+    (p .in-source, p .same ∙ c .before .before .before .before .before .loop .inv .1)
+
 longer-requires : tie.Need-longer-requires Inv-loop μ-loop
 longer-requires c κs = search needs
 
 enum-known-here : tie.Need-enum-known-here Inv-loop μ-loop
 enum-known-here c = search needs
 
-loop-less-2 : tie.Need-loop-less-2 Inv-loop μ-loop
-loop-less-2 c =
-    let l = c .before .before .before .before .before .before in
+loop-less-3 : tie.Need-loop-less-3 Inv-loop μ-loop
+loop-less-3 c =
+    let l = c .before .before .before .before .before .before .before .before in
     let e = sym (c .before .here .given .1) ∙ c .before .before .before .longer .ensures in
     let o = bad-char _ _ (l .loop-test .taken) _ _ e in
     omega (arith, o .further, o .in-source)
 
-loop-again-2 : tie.Need-loop-again-2 Inv-loop μ-loop
-loop-again-2 c =
-    let l = c .before .before .before .before .before .before in
+loop-again-3 : tie.Need-loop-again-3 Inv-loop μ-loop
+loop-again-3 c =
+    let l = c .before .before .before .before .before .before .before .before in
     let e = sym (c .before .here .given .1) ∙ c .before .before .before .longer .ensures in
     let o = bad-char _ _ (l .loop-test .taken) _ _ e in
     (o .in-source, o .same ∙ l .before .loop .inv .1)
@@ -65,7 +79,7 @@ enum-told c = search needs
 
 returns : tie.Need-returns Inv-loop μ-loop
 returns c =
-    let l = c .before .before .before .before .before in
+    let l = c .before .before .before .before .before .before .before in
     let e = sym (c .enum-told .given .1) ∙ c .before .before .longer .ensures in
     bad-here _ _ (l .loop-test .taken) e ∙ ap badOf (l .before .loop .inv .1)
 
@@ -85,10 +99,14 @@ first-bad-spec =
     ascii-end-requires-2
     loop-less
     loop-again
-    longer-requires
-    enum-known-here
+    two-octets-requires
+    add-i
     loop-less-2
     loop-again-2
+    longer-requires
+    enum-known-here
+    loop-less-3
+    loop-again-3
     enum-told
     returns
     returns-2)
