@@ -19,6 +19,7 @@ use Rattle.language.specs.Utf8.{Char, char, noChar, charAt}
 use Rattle.language.specs.Lexemes.{blankRun, isBlank}
 use Rattle.utf8.specs.declared.Decoded.the-variants.{Read, Nothing}
 use Rattle.utf8.specs.Decoding.{placed}
+use Rattle.utf8.proofs.Chars.{ascii-place}
 use Rattle.utf8.proofs.Places.{bad-char}
 use Rattle.utf8.specs.Blocks.{allFrom}
 use Rattle.language.proofs.Tests.{both}
@@ -138,3 +139,7 @@ module _ {s : List ℕ} {at i : ℕ} (r : Reached blankEnd s at i) where
         let first = starts-blank i (drop (suc i) s) n next (charAt (drop i s)) e b in
         let rest = rw d at (skipped k (drop (suc i) s) l) in
         onward r (o .in-source) (omega (arith, here, first, rest, p))
+
+    pub blank-space : getD s i 0 ≡ 32 → Reached blankEnd s at (i + 1)
+    unfolding isBlank
+    blank-space e = blank-more {n = 32} {next = i + 1} (ascii-place s i h 32 (sym e) (omega arith)) refl

@@ -306,6 +306,11 @@ fn eat_spaces(line: &[u8], at: usize) -> usize
 {
     let mut i = at;
     while i < line.len() {
+        // most blanks are this one
+        if line[i] == 32 {
+            i += 1;
+            continue;
+        }
         let d = utf8::decode(line, i);
         match d {
             Decoded::Read(c, next) => {
