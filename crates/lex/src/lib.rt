@@ -236,14 +236,7 @@ fn line_end(source: &[u8], at: usize) -> usize
     requires { ⌜ at ≤ length (now source) ⌝ }
     ensures { λ r. ⌜ r ≡ lineEnd (now (source .entry)) at ⌝ }
 {
-    let mut i = at;
-    while i < source.len() {
-        if source[i] == 10 {
-            return i;
-        }
-        i += 1;
-    }
-    i
+    scan::eat_comment(source, at)
 }
 
 // The line and the column of a byte.

@@ -224,6 +224,14 @@ module _ {s : List ℕ} {at i dots : ℕ} {address : Octet} (q : Dots s at i dot
     unfolding runEnd
     place = sym k
 
+    -- b is the byte after the digits
+    module _ (d : ℕ) (more : dots ≡ suc d) (b : ℕ) (b-said : b ≡ getD s e 0) where
+      byte-after : getD (drop i s) (run isDigit (drop i s)) 0 ≡ b
+      byte-after = rw (getD-drop, place) (sym b-said)
+
+      pub no-dot : (b ≡ 46 → ⊥) → Not ≡ quadAs at (quadFrom 3 (some 0) (drop at s))
+      no-dot n = rw (← q .same, more, run-no-dot (drop i s) (q .so-far) some-run d (λ z. n (sym byte-after ∙ z)))
+
     -- n is their number, and a the address with it
     module _ (n : Octet) (n-said : n ≡ octetAs (octet (between s i e))) where
       pub fits : Below 16777216 address × Below 256 n
@@ -236,14 +244,7 @@ module _ {s : List ℕ} {at i dots : ℕ} {address : Octet} (q : Dots s at i dot
         pub whole : dots ≡ 0 → Dotted e a ≡ quadAs at (quadFrom 3 (some 0) (drop at s))
         whole z = rw (← q .same, z, last-run (drop i s) (q .so-far) some-run, joined-now, place)
 
-        -- b is the byte after the digits
         module _ (d : ℕ) (more : dots ≡ suc d) (b : ℕ) (b-said : b ≡ getD s e 0) where
-          byte-after : getD (drop i s) (run isDigit (drop i s)) 0 ≡ b
-          byte-after = rw (getD-drop, place) (sym b-said)
-
-          pub no-dot : (b ≡ 46 → ⊥) → Not ≡ quadAs at (quadFrom 3 (some 0) (drop at s))
-          no-dot n = rw (← q .same, more, run-no-dot (drop i s) (q .so-far) some-run d (λ z. n (sym byte-after ∙ z)))
-
           pub next : b ≡ 46 → Dots s at (e + 1) d a
           next z =
               let o = joined (q .so-far) (octet (take (run isDigit (drop i s)) (drop i s))) in
@@ -254,7 +255,7 @@ module _ {s : List ℕ} {at i dots : ℕ} {address : Octet} (q : Dots s at i dot
                 said = sym joined-now;
                 inside = omega (arith, stands s e b b-said (omega arith));
                 room = below-le (roomOf dots * 256) (roomOf d) a (rw more (room-falls d)) (rw a-said (below-joined (roomOf dots) address n (q .room) (fits .1)));
-                same = rw (← q .same, more, run-dot (drop i s) (q .so-far) some-run d (byte-after ∙ z), further-as i (run isDigit (drop i s)) (e + 1) (sym p), l);
+                same = rw (← q .same, more, run-dot (drop i s) (q .so-far) some-run d (byte-after d more b b-said ∙ z), further-as i (run isDigit (drop i s)) (e + 1) (sym p), l);
               }
 
 -- ---- what starts with a digit

@@ -3,14 +3,15 @@
 --     begin       so is `at` itself
 --     onward      and a place from which f says the same
 --     arrive      where the end is here, it is the end
---     run-..      of a run of bytes with p: one more, the first without p, the end of the line
+--     run-..      of a run of bytes with p: one more, a block more, the first without p, the end of the line
 --     blank-..    of a run of blank characters
 use Prim.Native.Nat.{ℕ, zero, suc, _+_, _-_, _≤_, _<_}
 use mathlib.Core.Path.{_≡_, refl, sym, _∙_}
-use mathlib.Core.Bool.{Bool, true, false}
+use mathlib.Core.Bool.{Bool, true, false, not, _&&_}
 use mathlib.Core.List.{List, [], _∷_}
 use native.Mathlib.Numerals.{add-one}
 use native.Mathlib.Omega.{arith}
+use borrow.Author.Tests.{not-false}
 use lib.ListN.{length, getD, drop, drop-of-length-le, length-drop}
 use lib.Seq.{drop-cons, drop-drop}
 use Rattle.language.specs.Choice.{if′}
@@ -18,7 +19,10 @@ use Rattle.language.specs.Utf8.{Char, char, noChar, charAt}
 use Rattle.language.specs.Lexemes.{blankRun, isBlank}
 use Rattle.utf8.specs.declared.Decoded.the-variants.{Read, Nothing}
 use Rattle.utf8.specs.Decoding.{placed}
+use Rattle.utf8.proofs.Chars.{ascii-place}
 use Rattle.utf8.proofs.Places.{bad-char}
+use Rattle.utf8.specs.Blocks.{allFrom}
+use Rattle.language.proofs.Tests.{both}
 use Rattle.scan.specs.Scanning.{runEnd, blankEnd}
 
 pub record Reached (f : List ℕ → ℕ → ℕ) (s : List ℕ) (at i : ℕ) : Type 0 where
@@ -49,6 +53,30 @@ module _ (p : ℕ → Bool) {s : List ℕ} {at i : ℕ} (r : Reached (runEnd p) 
   pub run-end : length s ≤ i → i ≡ runEnd p s at
   unfolding runEnd
   run-end h = arrive r (rw drop-of-length-le (omega arith))
+
+-- n bytes that all have p
+pub run-block : (p : ℕ → Bool) {s : List ℕ} {at i : ℕ} (n : ℕ) → Reached (runEnd p) s at i → i + n ≤ length s → allFrom p n s i ≡ true
+    → Reached (runEnd p) s at (i + n)
+unfolding allFrom
+run-block p {s} {at} {i} zero r h e = let q : i ≡ i + zero = omega arith in rw q at r
+run-block p {s} {at} {i} (suc n) r h e =
+    let t = both (allFrom p n s i) (p (getD s (i + n) 0)) e in
+    let q : i + n + 1 ≡ i + suc n = omega arith in
+    rw (← q) (run-more p (run-block p n r (omega arith) (t .0)) (omega arith) (t .1))
+
+-- two blocks of eight, by what their tests came to
+pub run-two : (p : ℕ → Bool) {s : List ℕ} {at i : ℕ} {a b : Bool}
+    → Reached (runEnd p) s at i
+    → i + 16 ≤ length s
+    → a ≡ allFrom p 8 s i
+    → b ≡ allFrom p 8 s (i + 8)
+    → not (a && b) ≡ false
+    → Reached (runEnd p) s at (i + 16)
+run-two p {s} {at} {i} {a} {b} r h ea eb e =
+    let t = both a b (not-false _ e) in
+    let q : i + 8 + 8 ≡ i + 16 = omega arith in
+    let o = run-block p 8 r (omega arith) (sym ea ∙ t .0) in
+    rw q at (run-block p 8 o (omega arith) (sym eb ∙ t .1))
 
 -- ---- a run of blank characters
 
@@ -111,3 +139,7 @@ module _ {s : List ℕ} {at i : ℕ} (r : Reached blankEnd s at i) where
         let first = starts-blank i (drop (suc i) s) n next (charAt (drop i s)) e b in
         let rest = rw d at (skipped k (drop (suc i) s) l) in
         onward r (o .in-source) (omega (arith, here, first, rest, p))
+
+    pub blank-space : getD s i 0 ≡ 32 → Reached blankEnd s at (i + 1)
+    unfolding isBlank
+    blank-space e = blank-more {n = 32} {next = i + 1} (ascii-place s i h 32 (sym e) (omega arith)) refl

@@ -11,6 +11,7 @@ ghost use Rattle.language.specs.Lexemes.{scan};
 ghost use Rattle.language.specs.Tables.{lexemeRow, lexemeWidth};
 ghost use Rattle.scan.specs.Entry.{ScanLine};
 ghost use Rattle.table.specs.Table.{padTo, tabled};
+ghost use Rattle.utf8.specs.Blocks.{allFrom};
 ghost use Rattle.wide.specs.Wide.{valueOf, scaled};
 ghost use Rattle.scan.specs.Scanning.{between, runEnd, blankEnd, spelled, wordAt, Base, numberAs, octetAs, Below, joinedAs, quadAs, kindAs, markAs, lexemeAs, signOf, stepAt, bodyOf, tokNumber, tokValue, errorNumber, errorChar, classNumber, kindNumber, kindValue, rowOf};
 use utf8::Bad;
@@ -203,11 +204,48 @@ fn eat_word(line: &[u8], at: usize) -> usize
     i
 }
 
+// Bytes are looked at by blocks first: tests of eight bytes with `&` in place of branches become one comparison.
+fn body8(line: &[u8], at: usize) -> bool
+    requires { ⌜ at + 8 ≤ length (now line) ⌝ }
+    ensures { λ r. ⌜ r ≡ allFrom isBody 8 (now (line .entry)) at ⌝ }
+{
+    let a = line[at];
+    let b = line[at + 1];
+    let c = line[at + 2];
+    let d = line[at + 3];
+    let e = line[at + 4];
+    let f = line[at + 5];
+    let g = line[at + 6];
+    let h = line[at + 7];
+    ((a != 34) & (a != 10))
+        & ((b != 34) & (b != 10))
+        & ((c != 34) & (c != 10))
+        & ((d != 34) & (d != 10))
+        & ((e != 34) & (e != 10))
+        & ((f != 34) & (f != 10))
+        & ((g != 34) & (g != 10))
+        & ((h != 34) & (h != 10))
+}
+
+fn body_blocks(line: &[u8], at: usize) -> usize
+    requires { ⌜ at ≤ length (now line) ⌝ }
+    ensures { λ r. ⌜ (r ≤ length (now (line .entry))) × (runEnd isBody (now (line .entry)) r ≡ runEnd isBody (now (line .entry)) at) ⌝ }
+{
+    let mut i = at;
+    while i + 8 <= line.len() {
+        if !body8(line, i) {
+            return i;
+        }
+        i += 8;
+    }
+    i
+}
+
 fn eat_body(line: &[u8], at: usize) -> usize
     requires { ⌜ at ≤ length (now line) ⌝ }
     ensures { λ r. ⌜ r ≡ runEnd isBody (now (line .entry)) at ⌝ }
 {
-    let mut i = at;
+    let mut i = body_blocks(line, at);
     while i < line.len() {
         let b = line[i];
         if (b == 34) | (b == 10) {
@@ -218,11 +256,40 @@ fn eat_body(line: &[u8], at: usize) -> usize
     i
 }
 
-fn eat_comment(line: &[u8], at: usize) -> usize
+fn comment8(line: &[u8], at: usize) -> bool
+    requires { ⌜ at + 8 ≤ length (now line) ⌝ }
+    ensures { λ r. ⌜ r ≡ allFrom notNewline 8 (now (line .entry)) at ⌝ }
+{
+    (line[at] != 10)
+        & (line[at + 1] != 10)
+        & (line[at + 2] != 10)
+        & (line[at + 3] != 10)
+        & (line[at + 4] != 10)
+        & (line[at + 5] != 10)
+        & (line[at + 6] != 10)
+        & (line[at + 7] != 10)
+}
+
+fn comment_blocks(line: &[u8], at: usize) -> usize
+    requires { ⌜ at ≤ length (now line) ⌝ }
+    ensures { λ r. ⌜ (r ≤ length (now (line .entry))) × (runEnd notNewline (now (line .entry)) r ≡ runEnd notNewline (now (line .entry)) at) ⌝ }
+{
+    let mut i = at;
+    while i + 16 <= line.len() {
+        if !(comment8(line, i) & comment8(line, i + 8)) {
+            return i;
+        }
+        i += 16;
+    }
+    i
+}
+
+// The end of a comment, and of a line: before byte 10 or where the bytes end.
+pub fn eat_comment(line: &[u8], at: usize) -> usize
     requires { ⌜ at ≤ length (now line) ⌝ }
     ensures { λ r. ⌜ r ≡ runEnd notNewline (now (line .entry)) at ⌝ }
 {
-    let mut i = at;
+    let mut i = comment_blocks(line, at);
     while i < line.len() {
         if line[i] == 10 {
             return i;
@@ -239,6 +306,11 @@ fn eat_spaces(line: &[u8], at: usize) -> usize
 {
     let mut i = at;
     while i < line.len() {
+        // most blanks are this one
+        if line[i] == 32 {
+            i += 1;
+            continue;
+        }
         let d = utf8::decode(line, i);
         match d {
             Decoded::Read(c, next) => {
@@ -470,14 +542,16 @@ fn dotted_quad(line: &[u8], at: usize) -> Quad
         if end == i {
             return Quad::Not;
         }
-        let n = quad_part(line, i, end);
-        address = join(address, n);
         if dots == 0 {
-            return Quad::Dotted(end, address);
+            let last = quad_part(line, i, end);
+            return Quad::Dotted(end, join(address, last));
         }
+        // most numbers are no quad: that is seen before one is read
         if peek(line, end) != 46 {
             return Quad::Not;
         }
+        let n = quad_part(line, i, end);
+        address = join(address, n);
         i = end + 1;
         dots -= 1;
     }

@@ -46,12 +46,16 @@ module _ (s : List ℕ) (at : ℕ) where
     pub ascii-place : (n : ℕ) → n ≡ getD s at 0 → getD s at 0 < 0x80 → Read n (at + 1) ≡ placed at (charAt (drop at s))
     ascii-place n e h = rw (e, ascii-char h)
 
+    pub longer-char :
+        (t l h n : ℕ) → Starts t l h n ≡ leading (leadOf (getD s at 0)) → charAt (drop at s) ≡ follow (suc t) t l h n (drop (at + 1) s)
+    longer-char t l h n e = at-first ∙ goes-on (leadOf (getD s at 0)) t l h n (drop (at + 1) s) e
+
     pub longer-place :
         (r : Decoded) (t l h n : ℕ)
         → r ≡ placed at (follow (suc t) t l h n (drop (at + 1) s))
         → Starts t l h n ≡ leading (leadOf (getD s at 0))
         → r ≡ placed at (charAt (drop at s))
-    longer-place r t l h n k e = k ∙ ap (placed at) (sym (at-first ∙ goes-on (leadOf (getD s at 0)) t l h n (drop (at + 1) s) e))
+    longer-place r t l h n k e = k ∙ ap (placed at) (sym (longer-char t l h n e))
 
     pub not-place : Not ≡ leading (leadOf (getD s at 0)) → Nothing ≡ placed at (charAt (drop at s))
     not-place e = ap (placed at) (sym (at-first ∙ goes-nowhere (leadOf (getD s at 0)) (drop (at + 1) s) e))

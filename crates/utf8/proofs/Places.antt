@@ -3,21 +3,26 @@
 --     bad-char   a character is passed: it ends within the source
 --     bad-here   no character starts
 --     bad-end    the source is at its end
+--     pass-..    within a run of ASCII: a byte, and a block of bytes
 use mathlib.Core.Path.{_≡_, refl, sym, ap, _∙_}
-use mathlib.Core.Bool.{Bool, true, false}
+use mathlib.Core.Bool.{Bool, true, false, not, _&&_}
 use mathlib.Core.List.{List, [], _∷_}
 use mathlib.Core.Option.{Option, none, some}
 use Prim.Native.Nat.{ℕ, zero, suc, _+_, _-_, _*_, _≤_, _<_}
 use native.Mathlib.Nat.{add-zero}
 use native.Mathlib.Omega.{arith}
+use borrow.Author.Tests.{ltb-true, not-false}
 use lib.ListN.{length, getD, drop, drop-of-length-le, length-drop}
 use lib.Seq.{drop-cons, drop-drop}
 use Rattle.language.specs.Choice.{if′, within}
 use Rattle.language.specs.Utf8.{Lead, Char, char, noChar, leadOf, follow, begun, charAt, badFrom, firstBad}
 use Rattle.utf8.specs.declared.Decoded.the-variants.{Read, Nothing}
 use Rattle.utf8.specs.declared.Bad.the-variants.{At, Nowhere}
-use Rattle.utf8.specs.Decoding.{placed, badOf}
-use Rattle.utf8.proofs.Chars.{ascii-char}
+use Rattle.utf8.specs.Decoding.{placed, badOf, Passed}
+use Rattle.utf8.specs.Blocks.{allFrom, isAscii}
+use Rattle.language.proofs.Tests.{both, inside, inside-test}
+use Rattle.utf8.proofs.Leads.{row-C2}
+use Rattle.utf8.proofs.Chars.{ascii-char, longer-char}
 
 -- ---- a character's octets are all there
 
@@ -114,6 +119,72 @@ module _ (s : List ℕ) (i : ℕ) where
 
     pub bad-ascii : getD s i 0 < 0x80 → Onward s i (i + 1)
     bad-ascii h = over-char (getD s i 0) 1 (ascii-char s i in-source h)
+
+-- ---- two octets
+
+one-tail : (b : ℕ) (s : List ℕ) (n : ℕ) → 0x80 ≤ b → b ≤ 0xBF → (m : ℕ) × (follow 2 1 0x80 0xBF n (b ∷ s) ≡ char m 2)
+unfolding follow
+one-tail b s n h k = (n * 0x40 + (b - 0x80), rw (inside-test 0x80 0xBF b h k))
+
+pub two-passed :
+    (s : List ℕ) (i : ℕ)
+    → i + 1 < length s
+    → (within 0xC2 0xDF (getD s i 0) && within 0x80 0xBF (getD s (i + 1) 0)) ≡ true
+    → Passed s i (i + 2)
+two-passed s i h e =
+    let q = both (within 0xC2 0xDF (getD s i 0)) (within 0x80 0xBF (getD s (i + 1) 0)) e in
+    let a = inside 0xC2 0xDF (getD s i 0) (q .0) in
+    let b = inside 0x80 0xBF (getD s (i + 1) 0) (q .1) in
+    let l : i < length s = omega arith in
+    let d = longer-char s i l 1 0x80 0xBF (getD s i 0 - 0xC0) (row-C2 (getD s i 0) (getD s i 0) refl (a .0) (omega (arith, a .1))) in
+    let t = one-tail (getD s (i + 1) 0) (drop (suc (i + 1)) s) (getD s i 0 - 0xC0) (b .0) (b .1) in
+    let o = over-char s i l (t .0) 2 (d ∙ ap (follow 2 1 0x80 0xBF (getD s i 0 - 0xC0)) (drop-cons s (i + 1) 0 h) ∙ t .1) in
+    record { further = omega (arith, o .further); in-source = o .in-source; same = o .same }
+
+-- ---- a run of ASCII
+
+pub stay : (s : List ℕ) (at : ℕ) → at ≤ length s → Passed s at at
+stay s at h = record { further = omega arith; in-source = h; same = refl }
+
+pub pass-on : {s : List ℕ} {at i next : ℕ} → Passed s at i → Passed s i next → Passed s at next
+pass-on o p = record { further = omega (arith, o .further, p .further); in-source = p .in-source; same = p .same ∙ o .same }
+
+module _ {s : List ℕ} {at i : ℕ} (o : Passed s at i) where
+  pub pass-byte : i < length s → getD s i 0 < 0x80 → Passed s at (i + 1)
+  pass-byte h a =
+      let k = bad-ascii s i h a in
+      record { further = omega (arith, o .further); in-source = k .in-source; same = k .same ∙ o .same }
+
+-- n bytes that are all ASCII are passed
+pub pass-block : {s : List ℕ} {at i : ℕ} (n : ℕ) → Passed s at i → i + n ≤ length s → allFrom isAscii n s i ≡ true → Passed s at (i + n)
+unfolding allFrom isAscii
+pass-block {s} {at} {i} zero o h e = let p : i ≡ i + zero = omega arith in rw p at o
+pass-block {s} {at} {i} (suc n) o h e =
+    let q = both (allFrom isAscii n s i) (isAscii (getD s (i + n) 0)) e in
+    let p : i + n + 1 ≡ i + suc n = omega arith in
+    rw (← p) (pass-byte (pass-block n o (omega arith) (q .0)) (omega arith) (ltb-true (getD s (i + n) 0) 0x80 (q .1)))
+
+-- four blocks of eight, by what their tests came to
+pub pass-four : {s : List ℕ} {at i : ℕ} {a b c d : Bool}
+    → Passed s at i
+    → i + 32 ≤ length s
+    → a ≡ allFrom isAscii 8 s i
+    → b ≡ allFrom isAscii 8 s (i + 8)
+    → c ≡ allFrom isAscii 8 s (i + 16)
+    → d ≡ allFrom isAscii 8 s (i + 24)
+    → not ((a && b) && (c && d)) ≡ false
+    → Passed s at (i + 32)
+pass-four {s} {at} {i} {a} {b} {c} {d} o h ea eb ec ed e =
+    let q = both (a && b) (c && d) (not-false _ e) in
+    let l = both a b (q .0) in
+    let r = both c d (q .1) in
+    let p1 : i + 8 + 8 ≡ i + 16 = omega arith in
+    let p2 : i + 16 + 8 ≡ i + 24 = omega arith in
+    let p3 : i + 24 + 8 ≡ i + 32 = omega arith in
+    let o1 = pass-block 8 o (omega arith) (sym ea ∙ l .0) in
+    let o2 = rw p1 at (pass-block 8 o1 (omega arith) (sym eb ∙ l .1)) in
+    let o3 = rw p2 at (pass-block 8 o2 (omega arith) (sym ec ∙ r .0)) in
+    rw p3 at (pass-block 8 o3 (omega arith) (sym ed ∙ r .1))
 
 -- ---- a bad byte is one of the source's
 

@@ -1,7 +1,10 @@
 -- How the code's answers stand for the language's.
 use Prim.Native.Nat.{ℕ, _+_, _≤_, _<_}
+use mathlib.Core.Path.{_≡_}
+use mathlib.Core.List.{List}
 use mathlib.Core.Option.{Option, none, some}
-use Rattle.language.specs.Utf8.{Char, char, noChar, Lead}
+use lib.ListN.{length, drop}
+use Rattle.language.specs.Utf8.{Char, char, noChar, Lead, badFrom}
 use Rattle.utf8.specs.declared.Decoded.{Decoded}
 use Rattle.utf8.specs.declared.Decoded.the-variants.{Read, Nothing}
 use Rattle.utf8.specs.declared.Bad.{Bad}
@@ -29,3 +32,9 @@ pub record Small (tails low high bits : ℕ) : Type 0 where
   pub tail : 0x80 ≤ low
   pub octet : high ≤ 0xBF
   pub start : bits < 0x20
+
+-- a place further on, from which the first place where no character starts is the same
+pub record Passed (s : List ℕ) (at next : ℕ) : Type 0 where
+  pub further : at ≤ next
+  pub in-source : next ≤ length s
+  pub same : badFrom 0 next (drop next s) ≡ badFrom 0 at (drop at s)

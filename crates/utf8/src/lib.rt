@@ -1,9 +1,11 @@
 // RFC 3629: one character of a source, and the first place where none starts.
 ghost use mathlib.Core.Path.{_≡_};
-ghost use Prim.Native.Nat.{suc, _+_, _<_};
-ghost use lib.ListN.{length, drop};
+ghost use mathlib.Core.Bool.{true};
+ghost use Prim.Native.Nat.{suc, _+_, _≤_, _<_};
+ghost use lib.ListN.{length, drop, getD};
 ghost use Rattle.language.specs.Utf8.{leadOf, follow, charAt, firstBad};
-ghost use Rattle.utf8.specs.Decoding.{leading, placed, badOf, Small};
+ghost use Rattle.utf8.specs.Decoding.{leading, placed, badOf, Small, Passed};
+ghost use Rattle.utf8.specs.Blocks.{allFrom, isAscii};
 
 // What stands at a place.
 pub enum Decoded {
@@ -86,6 +88,19 @@ fn read_tails(src: &[u8], at: usize, tails: usize, least: u8, most: u8, first: u
     Decoded::Read(bits, i)
 }
 
+// The character that starts at a place with an octet that is not ASCII.
+fn longer(src: &[u8], at: usize) -> Decoded
+    requires { ⌜ (at < length (now src)) × (0x80 ≤ getD (now src) at 0) ⌝ }
+    ensures { λ r. ⌜ r ≡ placed at (charAt (drop at (now (src .entry)))) ⌝ }
+{
+    let b = src[at];
+    let lead = lead_of(b);
+    match lead {
+        Lead::Starts(tails, low, high, bits) => read_tails(src, at, tails, low, high, bits),
+        Lead::Not => Decoded::Nothing,
+    }
+}
+
 // The character that starts at a place.
 pub fn decode(src: &[u8], at: usize) -> Decoded
     ensures { λ r. ⌜ r ≡ placed at (charAt (drop at (now (src .entry)))) ⌝ }
@@ -98,26 +113,103 @@ pub fn decode(src: &[u8], at: usize) -> Decoded
     if b < 128 {
         return Decoded::Read(wide(b), at + 1);
     }
-    let lead = lead_of(b);
-    match lead {
-        Lead::Starts(tails, low, high, bits) => read_tails(src, at, tails, low, high, bits),
-        Lead::Not => Decoded::Nothing,
+    longer(src, at)
+}
+
+// ---- runs of ASCII, which most sources are
+
+// Whether eight bytes are ASCII. Tests with `&` in place of branches: several of these become one comparison of many bytes.
+fn ascii8(src: &[u8], at: usize) -> bool
+    requires { ⌜ at + 8 ≤ length (now src) ⌝ }
+    ensures { λ r. ⌜ r ≡ allFrom isAscii 8 (now (src .entry)) at ⌝ }
+{
+    (src[at] < 128)
+        & (src[at + 1] < 128)
+        & (src[at + 2] < 128)
+        & (src[at + 3] < 128)
+        & (src[at + 4] < 128)
+        & (src[at + 5] < 128)
+        & (src[at + 6] < 128)
+        & (src[at + 7] < 128)
+}
+
+// A place further on in a run of ASCII, by whole blocks of 32 bytes.
+fn ascii_blocks(src: &[u8], at: usize) -> usize
+    requires { ⌜ at ≤ length (now src) ⌝ }
+    ensures { λ r. ⌜ Passed (now (src .entry)) at r ⌝ }
+{
+    let mut i = at;
+    while i + 32 <= src.len() {
+        let first = ascii8(src, i) & ascii8(src, i + 8);
+        let second = ascii8(src, i + 16) & ascii8(src, i + 24);
+        if !(first & second) {
+            return i;
+        }
+        i += 32;
     }
+    i
+}
+
+// The same by blocks of eight.
+fn ascii_eights(src: &[u8], at: usize) -> usize
+    requires { ⌜ at ≤ length (now src) ⌝ }
+    ensures { λ r. ⌜ Passed (now (src .entry)) at r ⌝ }
+{
+    let mut i = at;
+    while i + 8 <= src.len() {
+        if !ascii8(src, i) {
+            return i;
+        }
+        i += 8;
+    }
+    i
+}
+
+// The end of a run of ASCII.
+fn ascii_end(src: &[u8], at: usize) -> usize
+    requires { ⌜ at ≤ length (now src) ⌝ }
+    ensures { λ r. ⌜ Passed (now (src .entry)) at r ⌝ }
+{
+    let blocks = ascii_blocks(src, at);
+    let mut i = ascii_eights(src, blocks);
+    while i < src.len() {
+        if 128 <= src[i] {
+            return i;
+        }
+        i += 1;
+    }
+    i
+}
+
+// A character of two octets, which most that are not ASCII are: nothing is asked of its number. False only says that it is
+// not seen here.
+fn two_octets(src: &[u8], at: usize) -> bool
+    requires { ⌜ at < length (now src) ⌝ }
+    ensures { λ r. ⌜ (r ≡ true → Passed (now (src .entry)) at (at + 2)) ⌝ }
+{
+    if src.len() <= at + 1 {
+        return false;
+    }
+    let b = src[at];
+    let tail = src[at + 1];
+    (0xC2 <= b) & (b <= 0xDF) & ((0x80 <= tail) & (tail <= 0xBF))
 }
 
 // The first byte, stepping by whole characters, where no well-formed one starts.
 pub fn first_bad(src: &[u8]) -> Bad
     ensures { λ r. ⌜ r ≡ badOf (firstBad (now (src .entry))) ⌝ }
 {
-    let mut i = 0;
+    let mut i = ascii_end(src, 0);
     while i < src.len() {
-        let b = src[i];
-        // An ASCII run costs one test for each byte.
-        if b < 128 {
-            i += 1;
+        if src[i] < 128 {
+            i = ascii_end(src, i + 1);
             continue;
         }
-        let here = decode(src, i);
+        if two_octets(src, i) {
+            i += 2;
+            continue;
+        }
+        let here = longer(src, i);
         match here {
             Decoded::Read(_, next) => {
                 i = next;

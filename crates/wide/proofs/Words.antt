@@ -1,14 +1,15 @@
 -- What two words say of their number. 2^127 has 39 digits, one more than omega takes, so two laws carry it.
-use mathlib.Core.Path.{_≡_, sym}
-use mathlib.Core.Bool.{true, false}
+use mathlib.Core.Path.{_≡_, refl, sym}
+use mathlib.Core.Bool.{true, false, _&&_}
 use mathlib.Core.Option.{some}
 use Prim.Native.Nat.{ℕ, _+_, _*_, _/_, _%_, _^_, _<_, _≤_}
 use native.Mathlib.Nat.{le-trans, lt-of-lt-of-le, mul-le-mul-right, mul-right-comm}
 use native.Mathlib.Omega.{arith}
-use borrow.Author.Tests.{lt-ltb, le-ltb, eq-eqb, ne-eqb}
-use lib.Dec.{eqb}
+use borrow.Author.Tests.{lt-ltb, le-ltb, eq-eqb, ne-eqb, eqb-true, ltb-true}
+use lib.Dec.{eqb, ltb}
 use Rattle.language.specs.Integers.{limit, IntType, bits, smallest, low16, isTruncated}
 use Rattle.language.proofs.Integers.{from, chosen, none-chosen}
+use Rattle.language.proofs.Tests.{both}
 use Rattle.wide.specs.declared.Scaled.the-variants.{Fits, Over}
 use Rattle.wide.specs.declared.Size.the-variants.{TooLarge}
 use Rattle.wide.specs.Wide.{word, fitted, scaled, sizeOf}
@@ -35,6 +36,12 @@ fits-case n h l e a b =
 pub over-case : (n h : ℕ) → h * word ≤ n → half ≤ h → Over ≡ fitted n
 unfolding fitted
 over-case n h a b = simp (le-ltb n limit (above n h a b))
+
+-- what the test of both words says
+pub small : (hi lo : ℕ) → eqb hi 0 && ltb lo 1844674407370955161 ≡ true → (hi ≡ 0) × (lo < 1844674407370955161)
+small hi lo e =
+    let q = both (eqb hi 0) (ltb lo 1844674407370955161) e in
+    (eqb-true hi 0 (q .0), ltb-true lo 1844674407370955161 (q .1))
 
 -- the upper word alone may say so before anything is multiplied
 pub over-early : (base hi lo d : ℕ) → half ≤ hi * base → Over ≡ scaled base (hi * word + lo) d
@@ -87,6 +94,11 @@ pub divided :
     → (hi / 10 * word + (p1 / 10 * quarter + p0 / 10) ≡ (hi * word + lo) / 10) × (p0 % 10 ≡ (hi * word + lo) % 10)
 divided hi lo p1 p0 a b =
     quotient (hi * word + lo) (hi / 10 * word + (p1 / 10 * quarter + p0 / 10)) (p0 % 10) (omega arith) (omega arith)
+
+pub small-tenth : (hi lo : ℕ) → hi ≡ 0 → (0 * word + lo / 10 ≡ (hi * word + lo) / 10) × (lo % 10 ≡ (hi * word + lo) % 10)
+small-tenth hi lo z =
+    let e : hi * word + lo ≡ lo = omega arith in
+    rw e (omega arith, refl)
 
 -- ---- a sixteenth
 

@@ -61,6 +61,13 @@ impl Wide {
     {
         let hi = self.hi;
         let lo = self.lo;
+        // most numbers are small: the lower word is enough
+        if (hi == 0) & (lo < 1844674407370955161) {
+            return Scaled::Fits(Wide {
+                hi: 0,
+                lo: lo * 10 + d,
+            });
+        }
         // past 2^63 / 10 the answer is known, and `h` below might not fit
         if 922337203685477580 < hi {
             return Scaled::Over;
@@ -149,6 +156,13 @@ impl Wide {
     {
         let hi = self.hi;
         let lo = self.lo;
+        // most numbers are small: the lower word is enough
+        if hi == 0 {
+            return Quotient {
+                rest: Wide { hi: 0, lo: lo / 10 },
+                digit: lo % 10,
+            };
+        }
         let p1 = (hi % 10) * 4294967296 + lo / 4294967296;
         let p0 = (p1 % 10) * 4294967296 + lo % 4294967296;
         let rest = Wide {

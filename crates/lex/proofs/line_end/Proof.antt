@@ -1,52 +1,14 @@
-use Prim.Native.Nat.{_-_}
-use lib.ListN.{length}
-use Rattle.language.specs.Lexemes.{notNewline}
 use Rattle.scan.specs.Scanning.{runEnd}
-use Rattle.scan.proofs.Bytes.{newline, no-newline}
-use Rattle.scan.proofs.Runs.{Reached, begin, run-more, run-stop, run-end}
 use borrow.Author.Needs.{needs}
 use Rattle.lex.proofs.line_end.Statement.{statement}
 use Rattle.lex.proofs.line_end.Tie as tie
 
-abbrev Inv-loop : tie.InvT-loop
-Inv-loop source at i₀ i = Reached (runEnd notNewline) source at i
+eat-comment-requires : tie.Need-eat-comment-requires
+eat-comment-requires c κs = search needs
 
-abbrev μ-loop : tie.MeasureT-loop
-μ-loop source at i₀ i = length source - i
-
-loop-holds : tie.Need-loop-holds Inv-loop μ-loop
-loop-holds c = begin (c .pre)
-
-shared-slice-read-if1 : tie.Need-shared-slice-read-if1 Inv-loop μ-loop
-shared-slice-read-if1 c = search needs
-
-returns : tie.Need-returns Inv-loop μ-loop
+returns : tie.Need-returns
 unfolding runEnd
-returns c = run-stop notNewline (c .before .before .before .loop .inv) (c .before .before .loop-test .taken) (newline _ (c .if1 .taken))
-
-add-i : tie.Need-add-i Inv-loop μ-loop
-add-i c = search needs
-
-loop-less : tie.Need-loop-less Inv-loop μ-loop
-loop-less c = search needs
-
-loop-again : tie.Need-loop-again Inv-loop μ-loop
-loop-again c = run-more notNewline (c .before .before .before .loop .inv) (c .before .before .loop-test .taken) (no-newline _ (c .if1 .left))
-
-returns-2 : tie.Need-returns-2 Inv-loop μ-loop
-unfolding runEnd
-returns-2 c = run-end notNewline (c .before .loop .inv) (c .loop-test .left)
+returns c = c .eat-comment .ensures
 
 pub line-end-spec : {M : Type 1} → statement M
-line-end-spec =
-    tie.close
-    (tie.spec
-    Inv-loop
-    μ-loop
-    loop-holds
-    shared-slice-read-if1
-    returns
-    add-i
-    loop-less
-    loop-again
-    returns-2)
+line-end-spec = tie.close (tie.spec eat-comment-requires returns)

@@ -22,34 +22,44 @@ returns : tie.Need-returns Inv-loop μ-loop
 returns c = no-digits (c .before .before .loop .inv) _ (c .before .eat-digits .ensures) (c .if1 .taken)
 
 quad-part-requires : tie.Need-quad-part-requires Inv-loop μ-loop
-quad-part-requires c κs = digits (c .before .before .loop .inv) _ (c .before .eat-digits .ensures) (c .if1 .left)
+quad-part-requires c κs =
+    let d = c .before .before in
+    digits (d .before .loop .inv) _ (d .eat-digits .ensures) (c .before .if1 .left)
 
 join-requires : tie.Need-join-requires Inv-loop μ-loop
 join-requires c κs =
-    let d = c .before .before in
-    fits (d .before .loop .inv) _ (d .eat-digits .ensures) (c .before .if1 .left) _ (c .quad-part .ensures)
+    let d = c .before .before .before in
+    fits (d .before .loop .inv) _ (d .eat-digits .ensures) (c .before .before .if1 .left) _ (c .quad-part .ensures)
 
 returns-2 : tie.Need-returns-2 Inv-loop μ-loop
 returns-2 c =
-    let p = c .before .before in
-    let d = p .before .before in
-    whole (d .before .loop .inv) _ (d .eat-digits .ensures) (p .before .if1 .left) _ (p .quad-part .ensures) _ (c .before .join .ensures) (c .if2 .taken)
+    let p = c .before in
+    let d = p .before .before .before in
+    whole (d .before .loop .inv) _ (d .eat-digits .ensures) (p .before .before .if1 .left) _ (p .quad-part .ensures) _ (c .join .ensures) (p .before .if2 .taken)
 
 peek-requires : tie.Need-peek-requires Inv-loop μ-loop
 peek-requires c κs = search needs
 
 returns-3 : tie.Need-returns-3 Inv-loop μ-loop
 returns-3 c =
-    let j = c .before .before .before in
-    let p = j .before in
-    let d = p .before .before in
-    no-dot (d .before .loop .inv) _ (d .eat-digits .ensures) (p .before .if1 .left) _ (p .quad-part .ensures) _ (j .join .ensures) _ (earlier _ (c .before .before .if2 .left)) _ (c .before .peek .ensures) (c .if3 .taken)
+    let d = c .before .before .before .before in
+    no-dot (d .before .loop .inv) _ (d .eat-digits .ensures) (c .before .before .before .if1 .left) _ (earlier _ (c .before .before .if2 .left)) _ (c .before .peek .ensures) (c .if3 .taken)
+
+quad-part-requires-2 : tie.Need-quad-part-requires-2 Inv-loop μ-loop
+quad-part-requires-2 c κs =
+    let d = c .before .before .before .before in
+    digits (d .before .loop .inv) _ (d .eat-digits .ensures) (c .before .before .before .if1 .left)
+
+join-requires-2 : tie.Need-join-requires-2 Inv-loop μ-loop
+join-requires-2 c κs =
+    let d = c .before .before .before .before .before in
+    fits (d .before .loop .inv) _ (d .eat-digits .ensures) (c .before .before .before .before .if1 .left) _ (c .quad-part2 .ensures)
 
 add-i : tie.Need-add-i Inv-loop μ-loop
 add-i c =
-    let p = c .before .before .before .before in
-    let d = p .before .before in
-    omega (arith, ends (d .before .loop .inv) _ (d .eat-digits .ensures) (p .before .if1 .left))
+    let l = c .before .before .before .before .before in
+    let d = l .before in
+    omega (arith, ends (d .before .loop .inv) _ (d .eat-digits .ensures) (l .if1 .left))
 
 sub-dots : tie.Need-sub-dots Inv-loop μ-loop
 sub-dots c = omega arith
@@ -59,10 +69,11 @@ loop-less c = omega arith
 
 loop-again : tie.Need-loop-again Inv-loop μ-loop
 loop-again c =
-    let j = c .before .before .before in
-    let p = j .before in
-    let d = p .before .before in
-    next (d .before .loop .inv) _ (d .eat-digits .ensures) (p .before .if1 .left) _ (p .quad-part .ensures) _ (j .join .ensures) _ (earlier _ (c .before .before .if2 .left)) _ (c .before .peek .ensures) (c .if3 .left)
+    let p = c .before in
+    let k = p .before .before in
+    let l = k .before .before in
+    let d = l .before in
+    next (d .before .loop .inv) _ (d .eat-digits .ensures) (l .if1 .left) _ (p .quad-part2 .ensures) _ (c .join2 .ensures) _ (earlier _ (k .before .if2 .left)) _ (k .peek .ensures) (p .before .if3 .left)
 
 pub dotted-quad-spec : {M : Type 1} → statement M
 dotted-quad-spec =
@@ -78,6 +89,8 @@ dotted-quad-spec =
     returns-2
     peek-requires
     returns-3
+    quad-part-requires-2
+    join-requires-2
     add-i
     sub-dots
     loop-less

@@ -4,7 +4,7 @@ use borrow.Author.Needs.{needs}
 use lib.ListN.{length}
 use Rattle.language.specs.Lexemes.{isBody}
 use Rattle.scan.specs.Scanning.{runEnd}
-use Rattle.scan.proofs.Runs.{Reached, begin, run-more, run-stop, run-end}
+use Rattle.scan.proofs.Runs.{Reached, run-more, run-stop, run-end}
 use Rattle.scan.proofs.eat_body.Statement.{statement}
 use Rattle.scan.proofs.eat_body.Tie as tie
 
@@ -14,8 +14,11 @@ Inv-loop line at i₀ i = Reached (runEnd isBody) line at i
 abbrev μ-loop : tie.MeasureT-loop
 μ-loop line at i₀ i = length line - i
 
+body-blocks-requires : tie.Need-body-blocks-requires Inv-loop μ-loop
+body-blocks-requires c κs = search needs
+
 loop-holds : tie.Need-loop-holds Inv-loop μ-loop
-loop-holds c = begin (c .pre)
+loop-holds c = record { in-line = c .body-blocks .ensures .0; same = c .body-blocks .ensures .1 }
 
 shared-slice-read-b : tie.Need-shared-slice-read-b Inv-loop μ-loop
 shared-slice-read-b c = search needs
@@ -41,6 +44,7 @@ eat-body-spec =
     (tie.spec
     Inv-loop
     μ-loop
+    body-blocks-requires
     loop-holds
     shared-slice-read-b
     returns

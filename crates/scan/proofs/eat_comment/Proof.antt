@@ -4,7 +4,7 @@ use borrow.Author.Needs.{needs}
 use lib.ListN.{length}
 use Rattle.language.specs.Lexemes.{notNewline}
 use Rattle.scan.specs.Scanning.{runEnd}
-use Rattle.scan.proofs.Runs.{Reached, begin, run-more, run-stop, run-end}
+use Rattle.scan.proofs.Runs.{Reached, run-more, run-stop, run-end}
 use Rattle.scan.proofs.eat_comment.Statement.{statement}
 use Rattle.scan.proofs.eat_comment.Tie as tie
 
@@ -14,8 +14,11 @@ Inv-loop line at i₀ i = Reached (runEnd notNewline) line at i
 abbrev μ-loop : tie.MeasureT-loop
 μ-loop line at i₀ i = length line - i
 
+comment-blocks-requires : tie.Need-comment-blocks-requires Inv-loop μ-loop
+comment-blocks-requires c κs = search needs
+
 loop-holds : tie.Need-loop-holds Inv-loop μ-loop
-loop-holds c = begin (c .pre)
+loop-holds c = record { in-line = c .comment-blocks .ensures .0; same = c .comment-blocks .ensures .1 }
 
 shared-slice-read-if1 : tie.Need-shared-slice-read-if1 Inv-loop μ-loop
 shared-slice-read-if1 c = search needs
@@ -41,6 +44,7 @@ eat-comment-spec =
     (tie.spec
     Inv-loop
     μ-loop
+    comment-blocks-requires
     loop-holds
     shared-slice-read-if1
     returns

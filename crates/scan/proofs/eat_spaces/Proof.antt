@@ -6,7 +6,7 @@ use lib.ListN.{length}
 use Rattle.utf8.proofs.Places.{bad-char}
 use Rattle.scan.specs.Scanning.{blankEnd}
 use Rattle.scan.proofs.Bytes.{refused, passed}
-use Rattle.scan.proofs.Runs.{Reached, begin, blank-more, blank-other, blank-none, blank-end}
+use Rattle.scan.proofs.Runs.{Reached, begin, blank-space, blank-more, blank-other, blank-none, blank-end}
 use Rattle.scan.proofs.eat_spaces.Statement.{statement}
 use Rattle.scan.proofs.eat_spaces.Tie as tie
 
@@ -18,6 +18,18 @@ abbrev μ-loop : tie.MeasureT-loop
 
 loop-holds : tie.Need-loop-holds Inv-loop μ-loop
 loop-holds c = begin (c .before .pre)
+
+shared-slice-read-if1 : tie.Need-shared-slice-read-if1 Inv-loop μ-loop
+shared-slice-read-if1 c = search needs
+
+add-i : tie.Need-add-i Inv-loop μ-loop
+add-i c = search needs
+
+loop-less : tie.Need-loop-less Inv-loop μ-loop
+loop-less c = search needs
+
+loop-again : tie.Need-loop-again Inv-loop μ-loop
+loop-again c = blank-space (c .before .before .before .loop .inv) (c .before .before .loop-test .taken) (c .if1 .taken)
 
 decode-requires : tie.Need-decode-requires Inv-loop μ-loop
 decode-requires c κs = search needs
@@ -31,21 +43,21 @@ is-space-requires c κs = search needs
 returns : tie.Need-returns Inv-loop μ-loop
 returns c =
     let m = c .before .before .before in
-    let l = m .before .before .before in
-    blank-other (l .before .loop .inv) (l .loop-test .taken) (sym (m .d .given .1) ∙ m .before .before .decode .ensures) (refused (c .before .is-space .ensures) (c .if1 .taken))
+    let l = m .before .before .before .before .before in
+    blank-other (l .before .loop .inv) (l .loop-test .taken) (sym (m .d .given .1) ∙ m .before .before .decode .ensures) (refused (c .before .is-space .ensures) (c .if2 .taken))
 
-loop-less : tie.Need-loop-less Inv-loop μ-loop
-loop-less c =
+loop-less-2 : tie.Need-loop-less-2 Inv-loop μ-loop
+loop-less-2 c =
     let m = c .before .before .before in
-    let l = m .before .before .before in
+    let l = m .before .before .before .before .before in
     let o = bad-char _ _ (l .loop-test .taken) _ _ (sym (m .d .given .1) ∙ m .before .before .decode .ensures) in
     omega (arith, o .further, o .in-source)
 
-loop-again : tie.Need-loop-again Inv-loop μ-loop
-loop-again c =
+loop-again-2 : tie.Need-loop-again-2 Inv-loop μ-loop
+loop-again-2 c =
     let m = c .before .before .before in
-    let l = m .before .before .before in
-    blank-more (l .before .loop .inv) (l .loop-test .taken) (sym (m .d .given .1) ∙ m .before .before .decode .ensures) (passed (c .before .is-space .ensures) (c .if1 .left))
+    let l = m .before .before .before .before .before in
+    blank-more (l .before .loop .inv) (l .loop-test .taken) (sym (m .d .given .1) ∙ m .before .before .decode .ensures) (passed (c .before .is-space .ensures) (c .if2 .left))
 
 enum-told : tie.Need-enum-told Inv-loop μ-loop
 enum-told c = search needs
@@ -53,7 +65,7 @@ enum-told c = search needs
 returns-2 : tie.Need-returns-2 Inv-loop μ-loop
 returns-2 c =
     let m = c .before .before in
-    blank-none (m .before .before .loop .inv) (m .before .loop-test .taken) (sym (c .enum-told .given .1) ∙ m .decode .ensures)
+    blank-none (m .before .before .before .before .loop .inv) (m .before .before .before .loop-test .taken) (sym (c .enum-told .given .1) ∙ m .decode .ensures)
 
 returns-3 : tie.Need-returns-3 Inv-loop μ-loop
 returns-3 c = blank-end (c .before .loop .inv) (c .loop-test .left)
@@ -65,12 +77,16 @@ eat-spaces-spec =
     Inv-loop
     μ-loop
     loop-holds
+    shared-slice-read-if1
+    add-i
+    loop-less
+    loop-again
     decode-requires
     enum-known-d
     is-space-requires
     returns
-    loop-less
-    loop-again
+    loop-less-2
+    loop-again-2
     enum-told
     returns-2
     returns-3)

@@ -16,40 +16,61 @@ Inv-loop src i₀ i = (i ≤ length src) × (badFrom 0 i (drop i src) ≡ firstB
 abbrev μ-loop : tie.MeasureT-loop
 μ-loop src i₀ i = length src - i
 
-loop-holds : tie.Need-loop-holds Inv-loop μ-loop
-loop-holds c = (search needs, refl)
+ascii-end-requires : tie.Need-ascii-end-requires Inv-loop μ-loop
+ascii-end-requires c κs = search needs
 
-shared-slice-read-b : tie.Need-shared-slice-read-b Inv-loop μ-loop
-shared-slice-read-b c = search needs
+loop-holds : tie.Need-loop-holds Inv-loop μ-loop
+loop-holds c = (c .ascii-end .ensures .in-source, c .ascii-end .ensures .same)
+
+shared-slice-read-if1 : tie.Need-shared-slice-read-if1 Inv-loop μ-loop
+shared-slice-read-if1 c = search needs
+
+add-ascii-end : tie.Need-add-ascii-end Inv-loop μ-loop
+add-ascii-end c = search needs
+
+ascii-end-requires-2 : tie.Need-ascii-end-requires-2 Inv-loop μ-loop
+ascii-end-requires-2 c κs = search needs
+
+loop-less : tie.Need-loop-less Inv-loop μ-loop
+loop-less c = omega (arith, c .ascii-end2 .ensures .further, c .ascii-end2 .ensures .in-source)
+
+loop-again : tie.Need-loop-again Inv-loop μ-loop
+loop-again c =
+    let o = bad-ascii _ _ (c .before .before .before .loop-test .taken) (c .before .if1 .taken) in
+    let p = c .ascii-end2 .ensures in
+    (p .in-source, p .same ∙ o .same ∙ c .before .before .before .before .loop .inv .1)
+
+two-octets-requires : tie.Need-two-octets-requires Inv-loop μ-loop
+two-octets-requires c κs = search needs
 
 add-i : tie.Need-add-i Inv-loop μ-loop
 add-i c = search needs
 
-loop-less : tie.Need-loop-less Inv-loop μ-loop
-loop-less c = search needs
+loop-less-2 : tie.Need-loop-less-2 Inv-loop μ-loop
+loop-less-2 c = omega arith
 
-loop-again : tie.Need-loop-again Inv-loop μ-loop
-loop-again c =
-    let o = bad-ascii _ _ (c .before .before .loop-test .taken) (c .if1 .taken) in
-    (o .in-source, o .same ∙ c .before .before .before .loop .inv .1)
+loop-again-2 : tie.Need-loop-again-2 Inv-loop μ-loop
+loop-again-2 c =
+    let p = c .before .two-octets .ensures (c .if2 .taken) in
+    (p .in-source, p .same ∙ c .before .before .before .before .before .loop .inv .1)
 
-decode-requires : tie.Need-decode-requires Inv-loop μ-loop
-decode-requires c κs = search needs
+longer-requires : tie.Need-longer-requires Inv-loop μ-loop
+longer-requires c κs = search needs
 
 enum-known-here : tie.Need-enum-known-here Inv-loop μ-loop
 enum-known-here c = search needs
 
-loop-less-2 : tie.Need-loop-less-2 Inv-loop μ-loop
-loop-less-2 c =
-    let l = c .before .before .before .before .before .before in
-    let e = sym (c .before .here .given .1) ∙ c .before .before .before .decode .ensures in
+loop-less-3 : tie.Need-loop-less-3 Inv-loop μ-loop
+loop-less-3 c =
+    let l = c .before .before .before .before .before .before .before .before in
+    let e = sym (c .before .here .given .1) ∙ c .before .before .before .longer .ensures in
     let o = bad-char _ _ (l .loop-test .taken) _ _ e in
     omega (arith, o .further, o .in-source)
 
-loop-again-2 : tie.Need-loop-again-2 Inv-loop μ-loop
-loop-again-2 c =
-    let l = c .before .before .before .before .before .before in
-    let e = sym (c .before .here .given .1) ∙ c .before .before .before .decode .ensures in
+loop-again-3 : tie.Need-loop-again-3 Inv-loop μ-loop
+loop-again-3 c =
+    let l = c .before .before .before .before .before .before .before .before in
+    let e = sym (c .before .here .given .1) ∙ c .before .before .before .longer .ensures in
     let o = bad-char _ _ (l .loop-test .taken) _ _ e in
     (o .in-source, o .same ∙ l .before .loop .inv .1)
 
@@ -58,8 +79,8 @@ enum-told c = search needs
 
 returns : tie.Need-returns Inv-loop μ-loop
 returns c =
-    let l = c .before .before .before .before .before in
-    let e = sym (c .enum-told .given .1) ∙ c .before .before .decode .ensures in
+    let l = c .before .before .before .before .before .before .before in
+    let e = sym (c .enum-told .given .1) ∙ c .before .before .longer .ensures in
     bad-here _ _ (l .loop-test .taken) e ∙ ap badOf (l .before .loop .inv .1)
 
 returns-2 : tie.Need-returns-2 Inv-loop μ-loop
@@ -71,15 +92,21 @@ first-bad-spec =
     (tie.spec
     Inv-loop
     μ-loop
+    ascii-end-requires
     loop-holds
-    shared-slice-read-b
-    add-i
+    shared-slice-read-if1
+    add-ascii-end
+    ascii-end-requires-2
     loop-less
     loop-again
-    decode-requires
-    enum-known-here
+    two-octets-requires
+    add-i
     loop-less-2
     loop-again-2
+    longer-requires
+    enum-known-here
+    loop-less-3
+    loop-again-3
     enum-told
     returns
     returns-2)

@@ -1,12 +1,21 @@
--- `Wide::times10_plus` meets its contract: the answer is known from the upper word, or from the parts that were multiplied. Assumes nothing.
+-- `Wide::times10_plus` meets its contract: the lower word is enough, the answer is known from the upper word, or from the parts that were multiplied. Assumes nothing.
 use native.Mathlib.Omega.{arith}
 use borrow.Author.Needs.{needs}
-use Rattle.wide.proofs.Words.{fits-case, over-case, over-early}
+use Rattle.wide.proofs.Words.{small, fits-case, over-case, over-early}
 use Rattle.wide.proofs.Wide.times10_plus.Statement.{statement}
 use Rattle.wide.proofs.Wide.times10_plus.Tie as tie
 
+mul-t11 : tie.Need-mul-t11
+mul-t11 c = let l = small (c .before .args .self .hi) (c .before .args .self .lo) (c .if1 .taken) in omega (arith, l .1)
+
+add-t12 : tie.Need-add-t12
+add-t12 c = let l = small (c .before .args .self .hi) (c .before .args .self .lo) (c .if1 .taken) in omega (arith, l .1)
+
 returns : tie.Need-returns
-returns c = over-early 10 _ _ _ (omega arith)
+returns c = let l = small (c .before .args .self .hi) (c .before .args .self .lo) (c .if1 .taken) in fits-case _ _ _ (omega (arith, l .0)) (omega (arith, l .1)) (omega arith)
+
+returns-2 : tie.Need-returns-2
+returns-2 c = over-early 10 _ _ _ (omega arith)
 
 mul-p0 : tie.Need-mul-p0
 mul-p0 c = search needs
@@ -26,19 +35,19 @@ mul-h c = search needs
 add-h : tie.Need-add-h
 add-h c = search needs
 
-mul-t13 : tie.Need-mul-t13
-mul-t13 c = search needs
+mul-t18 : tie.Need-mul-t18
+mul-t18 c = search needs
 
-add-t15 : tie.Need-add-t15
-add-t15 c = search needs
-
-returns-2 : tie.Need-returns-2
-returns-2 c = fits-case _ _ _ (omega arith) (omega arith) (c .if2 .taken)
+add-t20 : tie.Need-add-t20
+add-t20 c = search needs
 
 returns-3 : tie.Need-returns-3
-returns-3 c = over-case _ _ (omega arith) (c .if2 .left)
+returns-3 c = fits-case _ _ _ (omega arith) (omega arith) (c .if3 .taken)
+
+returns-4 : tie.Need-returns-4
+returns-4 c = over-case _ _ (omega arith) (c .if3 .left)
 
 pub times10-plus-spec : {M : Type 1} → statement M
 times10-plus-spec =
     tie.close
-    (tie.spec returns mul-p0 add-p0 mul-p1 add-p1 mul-h add-h mul-t13 add-t15 returns-2 returns-3)
+    (tie.spec mul-t11 add-t12 returns returns-2 mul-p0 add-p0 mul-p1 add-p1 mul-h add-h mul-t18 add-t20 returns-3 returns-4)

@@ -1,0 +1,24 @@
+use mathlib.Core.Path.{sym, _∙_}
+use Rattle.bench_utf8.proofs.Place.{bad-at, none-bad}
+use borrow.Author.Needs.{needs}
+use Rattle.bench_utf8.proofs.bench_first_bad.Statement.{statement}
+use Rattle.bench_utf8.proofs.bench_first_bad.Tie as tie
+
+first-bad-requires : tie.Need-first-bad-requires
+first-bad-requires c κs = search needs
+
+enum-known-bad : tie.Need-enum-known-bad
+enum-known-bad c = search needs
+
+enum-told : tie.Need-enum-told
+enum-told c = search needs
+
+returns : tie.Need-returns
+returns c = bad-at _ _ (sym (c .before .bad .given .1) ∙ c .before .before .before .first-bad .ensures)
+
+returns-2 : tie.Need-returns-2
+returns-2 c = none-bad _ (sym (c .enum-told .given .1) ∙ c .before .before .first-bad .ensures)
+
+pub bench-first-bad-spec : {M : Type 1} → statement M
+bench-first-bad-spec =
+    tie.close (tie.spec first-bad-requires enum-known-bad enum-told returns returns-2)

@@ -1,0 +1,56 @@
+use Prim.Native.Nat.{_-_}
+use mathlib.Core.Path.{sym, _∙_}
+use borrow.Author.Tests.{not-false}
+use lib.ListN.{length}
+use native.Mathlib.Omega.{arith}
+use borrow.Author.Needs.{needs}
+use Rattle.language.specs.Lexemes.{isBody}
+use Rattle.scan.specs.Scanning.{runEnd}
+use Rattle.scan.proofs.Runs.{Reached, begin, run-block}
+use Rattle.scan.proofs.body_blocks.Statement.{statement}
+use Rattle.scan.proofs.body_blocks.Tie as tie
+
+abbrev Inv-loop : tie.InvT-loop
+Inv-loop line at i₀ i = Reached (runEnd isBody) line at i
+
+abbrev μ-loop : tie.MeasureT-loop
+μ-loop line at i₀ i = length line - i
+
+loop-holds : tie.Need-loop-holds Inv-loop μ-loop
+loop-holds c = begin (c .before .pre)
+
+add-loop : tie.Need-add-loop Inv-loop μ-loop
+add-loop c = search needs
+
+body8-requires : tie.Need-body8-requires Inv-loop μ-loop
+body8-requires c κs = search needs
+
+returns : tie.Need-returns Inv-loop μ-loop
+returns c = let r = c .before .before .before .loop .inv in (r .in-line, r .same)
+
+add-i : tie.Need-add-i Inv-loop μ-loop
+add-i c = search needs
+
+loop-less : tie.Need-loop-less Inv-loop μ-loop
+loop-less c = search needs
+
+loop-again : tie.Need-loop-again Inv-loop μ-loop
+loop-again c = run-block isBody 8 (c .before .before .before .loop .inv) (omega arith) (sym (c .before .body8 .ensures) ∙ not-false _ (c .if1 .left))
+
+returns-2 : tie.Need-returns-2 Inv-loop μ-loop
+returns-2 c = let r = c .before .loop .inv in (r .in-line, r .same)
+
+pub body-blocks-spec : {M : Type 1} → statement M
+body-blocks-spec =
+    tie.close
+    (tie.spec
+    Inv-loop
+    μ-loop
+    loop-holds
+    add-loop
+    body8-requires
+    returns
+    add-i
+    loop-less
+    loop-again
+    returns-2)

@@ -1,0 +1,62 @@
+use Prim.Native.Nat.{_-_}
+use lib.ListN.{length}
+use native.Mathlib.Omega.{arith}
+use borrow.Author.Needs.{needs}
+use Rattle.language.specs.Lexemes.{notNewline}
+use Rattle.scan.specs.Scanning.{runEnd}
+use Rattle.scan.proofs.Runs.{Reached, begin, run-two}
+use Rattle.scan.proofs.comment_blocks.Statement.{statement}
+use Rattle.scan.proofs.comment_blocks.Tie as tie
+
+abbrev Inv-loop : tie.InvT-loop
+Inv-loop line at i₀ i = Reached (runEnd notNewline) line at i
+
+abbrev μ-loop : tie.MeasureT-loop
+μ-loop line at i₀ i = length line - i
+
+loop-holds : tie.Need-loop-holds Inv-loop μ-loop
+loop-holds c = begin (c .before .pre)
+
+add-loop : tie.Need-add-loop Inv-loop μ-loop
+add-loop c = search needs
+
+comment8-requires : tie.Need-comment8-requires Inv-loop μ-loop
+comment8-requires c κs = search needs
+
+add-comment8 : tie.Need-add-comment8 Inv-loop μ-loop
+add-comment8 c = search needs
+
+comment8-requires-2 : tie.Need-comment8-requires-2 Inv-loop μ-loop
+comment8-requires-2 c κs = search needs
+
+returns : tie.Need-returns Inv-loop μ-loop
+returns c = let r = c .before .before .before .before .loop .inv in (r .in-line, r .same)
+
+add-i : tie.Need-add-i Inv-loop μ-loop
+add-i c = search needs
+
+loop-less : tie.Need-loop-less Inv-loop μ-loop
+loop-less c = search needs
+
+loop-again : tie.Need-loop-again Inv-loop μ-loop
+loop-again c = run-two notNewline (c .before .before .before .before .loop .inv) (omega arith) (c .before .before .comment8 .ensures) (c .before .comment82 .ensures) (c .if1 .left)
+
+returns-2 : tie.Need-returns-2 Inv-loop μ-loop
+returns-2 c = let r = c .before .loop .inv in (r .in-line, r .same)
+
+pub comment-blocks-spec : {M : Type 1} → statement M
+comment-blocks-spec =
+    tie.close
+    (tie.spec
+    Inv-loop
+    μ-loop
+    loop-holds
+    add-loop
+    comment8-requires
+    add-comment8
+    comment8-requires-2
+    returns
+    add-i
+    loop-less
+    loop-again
+    returns-2)
