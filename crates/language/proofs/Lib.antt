@@ -27,3 +27,4 @@ pub mod CanonicalJoin
 pub mod CanonicalText
 pub mod Canonical
 pub mod SentenceExamples
+pub mod JudgementExamples

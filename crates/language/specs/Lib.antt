@@ -7,4 +7,7 @@ pub mod Tokens
 pub mod Canonical
 pub mod Tables
 pub mod Sentences
+pub mod Values
+pub mod Judgements
+pub mod Findings
 pub mod Numbers
