@@ -1,0 +1,10 @@
+use Rattle.constants.proofs.Constants.new.Statement.{statement}
+use Rattle.constants.proofs.Constants.new.Tie as tie
+use Rattle.constants.proofs.Constants.new.Reads as reads
+use Rattle.constants.proofs.Constants.new.Lts as lts
+
+returns : tie.Need-returns
+returns c = ?
+
+pub new-spec : {M : Type 1} → statement M
+new-spec = tie.close (tie.spec returns)
