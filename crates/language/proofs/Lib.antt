@@ -28,3 +28,4 @@ pub mod CanonicalText
 pub mod Canonical
 pub mod SentenceExamples
 pub mod JudgementExamples
+pub mod JudgementClaims

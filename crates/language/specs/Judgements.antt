@@ -1,6 +1,7 @@
 -- Judgements (01, "Judgements"; check.rs decides what it leaves open): what the statements of a program come to, over trees
 -- and contents. Everything is named by the index of a token.
-use Prim.Native.Nat.{ℕ, zero, suc, _+_}
+use Prim.Native.Nat.{ℕ, zero, suc, _+_, _≤_}
+use mathlib.Core.Path.{_≡_}
 use mathlib.Core.Bool.{Bool, true, false}
 use mathlib.Core.List.{List, [], _∷_, _++_}
 use mathlib.Core.Option.{Option, none, some}
@@ -303,11 +304,9 @@ module _ (ts : List Content) where
     imported k t none = goes (known (k .imports ++ record { name = nameAt t; found = none } ∷ []) (k .bindings)) (diag n t unknownModule ∷ []) []
 
     -- "importing a name again warns `MultipleImports`"
-    abbrev pub importStmt : Known → ℕ → Turn
-    importStmt k t = elim (findImport (k .imports) (nameAt t)) [
-      | some i ↦ goes k (diag n t multipleImports ∷ []) []
-      | none ↦ if′ (ltb (length (k .imports)) mostImports) (imported k t (lookup 0 (nameAt t))) (full t)
-    ]
+    abbrev pub importStmt : Known → ℕ → Option Import → Turn
+    importStmt k t (some i) = goes k (diag n t multipleImports ∷ []) []
+    importStmt k t none = if′ (ltb (length (k .imports)) mostImports) (imported k t (lookup 0 (nameAt t))) (full t)
 
     abbrev pub bind : Known → ℕ → Option Value → Known
     bind k t v = known (k .imports) (k .bindings ++ record { name = nameAt t; tok = t; value = v } ∷ [])
@@ -319,11 +318,9 @@ module _ (ts : List Content) where
     bound k t poisoned ws = goes (bind k t none) ws []
 
     -- "`AlreadyBound` is found before the value is read"
-    abbrev pub letStmt : Known → ℕ → Expr → Turn
-    letStmt k t e = elim (find (k .bindings) (nameAt t)) [
-      | some b ↦ goes k (diag n t (alreadyBound (b .tok)) ∷ []) []
-      | none ↦ if′ (ltb (length (k .bindings)) mostNames) (bound k t (judge k e .out) (judge k e .warns)) (full t)
-    ]
+    abbrev pub letStmt : Known → ℕ → Expr → Option Binding → Turn
+    letStmt k t e (some b) = goes k (diag n t (alreadyBound (b .tok)) ∷ []) []
+    letStmt k t e none = if′ (ltb (length (k .bindings)) mostNames) (bound k t (judge k e .out) (judge k e .warns)) (full t)
 
     -- "A value statement warns `DiscardedValue` with its type"; "refused with `IntegralTooLarge` exactly if none does"
     abbrev pub discarded : Known → ℕ → Option Value → List Diag → Turn
@@ -336,8 +333,8 @@ module _ (ts : List Content) where
     told k at poisoned ws = goes k ws []
 
     unfoldable pub stmt : Known → Stmt → Turn
-    stmt k (import′ t) = importStmt k t
-    stmt k (let′ t e) = letStmt k t e
+    stmt k (import′ t) = importStmt k t (findImport (k .imports) (nameAt t))
+    stmt k (let′ t e) = letStmt k t e (find (k .bindings) (nameAt t))
     stmt k (expr′ e) = told k (firstOf e) (judge k e .out) (judge k e .warns)
 
   -- ---- the run: the statements from the one numbered n on, after what was found and held so far
@@ -352,3 +349,19 @@ module _ (ts : List Content) where
 
   abbrev pub judgeAll : List Stmt → Outcome
   judgeAll ss = run ss 1 (known [] []) [] []
+
+-- ---- the claims
+
+-- the findings of one statement hold at most one error
+abbrev pub OneError : Type 0
+OneError =
+    (ts : List Content) (n : ℕ) (k k′ : Known) (s : Stmt) (ds : List Diag) (hs : List Held) → stmt ts n k s ≡ goes k′ ds hs
+    → errorsIn ds ≤ 1
+
+-- a statement holds at most one, so a program holds as many as it has statements, or fewer
+abbrev pub StatementsFew : Type 0
+StatementsFew = (ts : List Content) (ss : List Stmt) (ds : List Diag) (hs : List Held) → judgeAll ts ss ≡ judged ds hs → length hs ≤ length ss
+
+-- every finding is an error or a warning
+abbrev pub AllCounted : Type 0
+AllCounted = (ds : List Diag) → errorsIn ds + warningsIn ds ≡ length ds
