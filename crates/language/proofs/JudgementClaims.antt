@@ -13,7 +13,7 @@ use Rattle.language.specs.Tokens.{Content}
 use Rattle.language.specs.Tables.{bit}
 use Rattle.language.specs.Sentences.{Expr, literal, sock4, local, path, member, call, slash′, Stmt, import′, let′, expr′, firstOf}
 use Rattle.language.specs.Values.{Value, isInteger, isBool, isSized, isIp4, isSock4, isString, isText, isFunction, tyInt, lookup}
-use Rattle.language.specs.Judgements.{What, truncated, Diag, diag, isError, errorsIn, warningsIn, Judged, val, err, poisoned, Judgement, judgement, andThen, goesOn, Known, Import, Binding, Held, held, Turn, goes, full, Outcome, judged, refused, find, findImport, mostImports, mostNames, nameAt, leftOf, rightOf, ip4Of, integerOf, cut, narrowed, judge, imported, importStmt, bound, letStmt, discarded, told, stmt, onward, run, OneError, StatementsFew, AllCounted}
+use Rattle.language.specs.Judgements.{What, truncated, Diag, diag, isError, errorsIn, warningsIn, Judged, val, err, poisoned, Judgement, judgement, andThen, goesOn, Known, known, Import, Binding, Held, held, Turn, goes, full, Outcome, judged, refused, find, findImport, mostImports, mostNames, nameAt, leftOf, rightOf, ip4Of, integerOf, cut, narrowed, judge, imported, importStmt, bound, letStmt, discarded, told, stmt, onward, run, OneError, StatementsFew, AllCounted}
 
 pub all-counted : AllCounted
 unfolding errorsIn warningsIn
@@ -116,7 +116,7 @@ module _ (ts : List Content) (n : ℕ) (k : Known) where
   import-few : (t : ℕ) (o : Option Import) → Few (importStmt ts n k t o)
   unfolding Few
   import-few t (some i) = (one-at-most _, omega arith)
-  import-few t none = few-if (ltb (length (k .imports)) mostImports) (imported ts n k t (lookup 0 (nameAt ts t))) (full t) (imported-few t _) tt
+  import-few t none = few-if (ltb (length (k .imports)) mostImports) (imported ts n k t (lookup 0 (nameAt ts t))) (full t) (imported-few t (lookup 0 (nameAt ts t))) tt
 
   bound-few : (t : ℕ) (o : Judged) (ws : List Diag) → errorsIn ws ≡ 0 → Few (bound ts n k t o ws)
   unfolding Few
@@ -158,22 +158,29 @@ Fewer : ℕ → Outcome → Type 0
 Fewer m (judged ds hs) = length hs ≤ m
 Fewer m (refused t) = Unit
 
+at-most : (m n : ℕ) (o : Outcome) → m ≤ n → Fewer m o → Fewer n o
+unfolding Fewer
+at-most m n (judged ds hs) h f = omega (arith, h, f)
+at-most m n (refused t) h f = tt
+
 module _ (ts : List Content) where
+  -- one statement, and those that follow
+  onward-fewer : (m : ℕ) (t : Turn) (ds : List Diag) (hs : List Held) (f : Known → List Diag → List Held → Outcome) → Few t
+      → ((k : Known) (es : List Diag) (gs : List Held) → Fewer (length gs + m) (f k es gs))
+      → Fewer (length hs + suc m) (onward ts t ds hs f)
+  unfolding Few Fewer
+  onward-fewer m (full t) ds hs f h g = tt
+  onward-fewer m (goes k es gs) ds hs f h g =
+      let l : length (hs ++ gs) + m ≤ length hs + suc m = omega (arith, length-append hs gs, h .1) in
+      at-most (length (hs ++ gs) + m) (length hs + suc m) (f k (ds ++ es) (hs ++ gs)) l (g k (ds ++ es) (hs ++ gs))
+
   run-fewer : (ss : List Stmt) (n : ℕ) (k : Known) (ds : List Diag) (hs : List Held) → Fewer (length hs + length ss) (run ts ss n k ds hs)
-  unfolding run Fewer Few
+  unfolding run Fewer
   run-fewer [] n k ds hs = omega arith
-  run-fewer (s ∷ ss) n k ds hs = go (stmt ts n k s) (few ts n k s)
-    where
-      go : (t : Turn) → Few t → Fewer (length hs + suc (length ss)) (onward ts t ds hs (λ k′ es gs. run ts ss (suc n) k′ es gs))
-      go (full t) f = tt
-      go (goes k′ es gs) f = more (run ts ss (suc n) k′ (ds ++ es) (hs ++ gs)) (run-fewer ss (suc n) k′ (ds ++ es) (hs ++ gs))
-        where
-          more : (o : Outcome) → Fewer (length (hs ++ gs) + length ss) o → Fewer (length hs + suc (length ss)) o
-          more (judged as bs) h = omega (arith, h, length-append hs gs, f .1)
-          more (refused t) h = tt
+  run-fewer (s ∷ ss) n k ds hs =
+      onward-fewer (length ss) (stmt ts n k s) ds hs (λ k′ es gs. run ts ss (suc n) k′ es gs) (few ts n k s)
+      (λ k′ es gs. run-fewer ss (suc n) k′ es gs)
 
 pub statements-few : StatementsFew
 unfolding Fewer
-statements-few ts ss ds hs e =
-    let h : Fewer (length ss) (judged ds hs) = subst (Fewer (length ss)) e (run-fewer ts ss 1 _ [] []) in
-    h
+statements-few ts ss ds hs e = subst (Fewer (length ss)) e (run-fewer ts ss 1 (known [] []) [] [])

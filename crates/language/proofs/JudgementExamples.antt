@@ -49,7 +49,7 @@ paths : judgeAll (plain importKeyword ∷ bench ∷ plain semiColon ∷ plain (i
     (import′ 1 ∷ expr′ (slash′ (literal 3) (path 5 1)) ∷ expr′ (path 9 1) ∷ expr′ (path 13 2) ∷ expr′ (path 19 2) ∷ import′ 26 ∷ import′ 29 ∷ expr′ (path 31 1) ∷ expr′ (path 35 1) ∷ expr′ (member (path 39 1) 43) ∷ [])
     ≡ judged (diag 2 5 (truncated 70000 (tyInt u16)) ∷ diag 2 3 (discardedValue tySock4) ∷ diag 3 11 notAValue ∷ diag 4 17 (unknownItem 8) ∷ diag 5 21 notAModule ∷ diag 6 26 multipleImports ∷ diag 7 29 unknownModule ∷ diag 9 35 notImported ∷ diag 10 43 (noMembers (tyInt u32)) ∷ [])
     (held 3 (isSock4 7 4464) ∷ [])
-unfolding a bench BIG deep run stmt judge andThen find findImport walk lookup lookupFrom entries tableText
+unfolding a bench BIG deep run stmt judge andThen find findImport walk lookupFrom entries tableText
 paths = refl
 
 -- 1.2.3.4 / 65536 / 1 ; 1 / a ; 1.2.3.4 / "" ;
