@@ -144,8 +144,8 @@ module _ (ts : List Content) (n : ℕ) (k : Known) where
 
   few : (s : Stmt) → Few (stmt ts n k s)
   unfolding stmt Silent
-  few (import′ t) = import-few t _
-  few (let′ t e) = let-few t e _
+  few (import′ t) = import-few t (findImport (k .imports) (nameAt ts t))
+  few (let′ t e) = let-few t e (find (k .bindings) (nameAt ts t))
   few (expr′ e) = told-few (firstOf e) (judge ts n k e .out) (judge ts n k e .warns) (judge-silent ts n k e)
 
 pub one-error : OneError
