@@ -183,4 +183,6 @@ module _ (ts : List Content) where
 
 pub statements-few : StatementsFew
 unfolding Fewer
-statements-few ts ss ds hs e = subst (Fewer (length ss)) e (run-fewer ts ss 1 (known [] []) [] [])
+statements-few ts ss ds hs e =
+    let l : 0 + length ss ≤ length ss = omega arith in
+    subst (Fewer (length ss)) e (at-most (0 + length ss) (length ss) (run ts ss 1 (known [] []) [] []) l (run-fewer ts ss 1 (known [] []) [] []))
