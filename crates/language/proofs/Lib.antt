@@ -37,3 +37,5 @@ pub mod GrammarRows
 pub mod NodeClaims
 pub mod RowClaims
 pub mod ParseClaims
+pub mod JudgementExamples
+pub mod JudgementClaims

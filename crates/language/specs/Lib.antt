@@ -9,4 +9,7 @@ pub mod Tables
 pub mod Sentences
 pub mod Grammar
 pub mod Rows
+pub mod Values
+pub mod Judgements
+pub mod Findings
 pub mod Numbers

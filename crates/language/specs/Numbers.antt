@@ -2,7 +2,7 @@
 use Prim.Native.Nat.{ℕ, suc, _/_}
 use mathlib.Core.Path.{_≡_}
 use mathlib.Core.Bool.{Bool, true, false}
-use mathlib.Core.List.{List, []}
+use mathlib.Core.List.{List, [], _∷_}
 use mathlib.Core.Option.{Option, none, some}
 use lib.Dec.{ltb, eqb}
 use lib.ListN.{length, getD}
@@ -12,8 +12,10 @@ use Rattle.language.specs.Canonical.{text, Lexes, Fits}
 use Rattle.language.specs.Utf8.{firstBad}
 use Rattle.language.specs.Lexemes.{Placed, scan}
 use Rattle.language.specs.Tables.{lexemeRow, lexemeWidth, tokenRow, tokenWidth, errorKind, errorChar}
-use Rattle.language.specs.Tokens.{Wrong, items, firstWrong, tokens, contents, eofToken, Place, placeOf}
-use Rattle.language.specs.Sentences.{Out, ok, no, Stmt, Node, program, nodes, nodeRow, nodeWidth}
+use Rattle.language.specs.Tokens.{Token, Wrong, items, firstWrong, tokens, contents, eofToken, Place, placeOf}
+use Rattle.language.specs.Sentences.{Out, ok, no, Stmt, Node, callKind, program, nodes, nodeRow, nodeWidth}
+use Rattle.language.specs.Judgements.{Diag, Held, Outcome, judged, refused, errorsIn, warningsIn, judgeAll}
+use Rattle.language.specs.Findings.{diagRow, diagWidth, stmtRow, stmtWidth}
 
 -- "source 65,536 bytes"
 abbrev pub mostBytes : ℕ
@@ -159,6 +161,94 @@ canonTokens s t n = tabled tokenRow tokenWidth t (if′ (eqb (canonAnswer s (t /
 
 unfoldable pub canonText : List ℕ → ℕ → ℕ → List ℕ
 canonText s t n = padTo n (if′ (eqb (canonAnswer s (t / tokenWidth) n .verdict .number) 0) (text s) [])
+
+-- ---- check
+
+pub record Checked : Type 0 where
+  pub verdict : Verdict
+  pub tokens : ℕ
+  pub nodes : ℕ
+  pub errors : ℕ
+  pub warnings : ℕ
+  pub statements : ℕ
+
+abbrev pub refusedCheck : Verdict → Checked
+refusedCheck v = record { verdict = v; tokens = 0; nodes = 0; errors = 0; warnings = 0; statements = 0 }
+
+-- the smallest token of a `(` that stands in a node of a call, and the other
+abbrev pub sooner : ℕ → Option ℕ → Option ℕ
+sooner t none = some t
+sooner t (some u) = if′ (ltb u t) (some u) (some t)
+
+-- "the first call's `(`"
+unfoldable pub firstCall : List Node → Option ℕ
+firstCall [] = none
+firstCall (n ∷ ns) = if′ (eqb (n .kind) callKind) (sooner (n .third) (firstCall ns)) (firstCall ns)
+
+-- the program, its findings and the statements that it holds; nothing where it does not parse
+abbrev pub statementsOf : Out (List Stmt) → List Stmt
+statementsOf (ok ss at x) = ss
+statementsOf (no n k at) = []
+
+unfoldable pub checked : List ℕ → Outcome
+checked s = judgeAll (contents (tokens s)) (statementsOf (program (contents (tokens s))))
+
+abbrev pub foundBy : Outcome → List Diag
+foundBy (judged ds hs) = ds
+foundBy (refused t) = []
+
+abbrev pub heldBy : Outcome → List Held
+heldBy (judged ds hs) = hs
+heldBy (refused t) = []
+
+-- "no errors, and statements exceed the room"; "if errors were counted, the statement table is all zero and its count 0"
+abbrev pub checkedWithin : ℕ → ℕ → ℕ → List Diag → List Held → Checked
+checkedWithin room t n ds hs =
+    if′ (eqb (errorsIn ds) 0)
+    (if′ (ltb room (length hs)) (refusedCheck (verdict 11 0 0))
+    (record { verdict = verdict 0 0 0; tokens = t; nodes = n; errors = 0; warnings = warningsIn ds; statements = length hs }))
+    (record { verdict = verdict 0 0 0; tokens = t; nodes = n; errors = errorsIn ds; warnings = warningsIn ds; statements = 0 })
+
+-- 9 at "the earlier such name", or what was judged
+abbrev pub judgedWithin : List ℕ → ℕ → ℕ → ℕ → Outcome → Checked
+judgedWithin s room t n (refused at) = refusedCheck (placed 9 (tokenPlace s at))
+judgedWithin s room t n (judged ds hs) = checkedWithin room t n ds hs
+
+-- "check 1 to 9 and 11": where parsing refuses, that; then "the tree holds a call"
+unfoldable pub checkAnswer : List ℕ → ℕ → ℕ → ℕ → Checked
+checkAnswer s tokenRoom nodeRoom stmtRoom =
+    let p = parseAnswer s tokenRoom nodeRoom in
+    if′ (eqb (p .verdict .number) 0)
+    (elim (firstCall (parsedNodes (program (contents (tokens s))))) [
+      | some at ↦ refusedCheck (placed 8 (tokenPlace s at))
+      | none ↦ judgedWithin s stmtRoom (p .tokens) (p .nodes) (checked s)
+    ])
+    (refusedCheck (p .verdict))
+
+-- the token with an index; past the end `Eof`
+abbrev pub tokenOf : List ℕ → ℕ → Token
+tokenOf s at = getD (tokens s) at (eofToken s)
+
+-- a list where checking with tables of t, n and k words (of tokens, nodes and statements) is done, else nothing
+abbrev pub whereDone : {A : Type 0} → List ℕ → ℕ → ℕ → ℕ → List A → List A
+whereDone s t n k xs =
+    if′ (eqb (checkAnswer s (t / tokenWidth) (n / nodeWidth) (k / stmtWidth) .verdict .number) 0) xs []
+
+-- the four tables, of t, n, d and k words, as check leaves them
+unfoldable pub checkTokens : List ℕ → ℕ → ℕ → ℕ → List ℕ
+checkTokens s t n k = tabled tokenRow tokenWidth t (whereDone s t n k (tokens s))
+
+unfoldable pub checkNodes : List ℕ → ℕ → ℕ → ℕ → List ℕ
+checkNodes s t n k = tabled nodeRow nodeWidth n (whereDone s t n k (parsedNodes (program (contents (tokens s)))))
+
+-- "Its first rows, as many as fit, are kept"
+unfoldable pub checkDiags : List ℕ → ℕ → ℕ → ℕ → ℕ → List ℕ
+checkDiags s t n k d = tabled (diagRow (tokenOf s)) diagWidth d (whereDone s t n k (foundBy (checked s)))
+
+unfoldable pub checkStmts : List ℕ → ℕ → ℕ → ℕ → List ℕ
+checkStmts s t n k =
+    tabled (stmtRow (tokenOf s)) stmtWidth k
+    (whereDone s t n k (if′ (eqb (errorsIn (foundBy (checked s))) 0) (heldBy (checked s)) []))
 
 -- ---- the claims: parsing goes by contents alone
 

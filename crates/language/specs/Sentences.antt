@@ -249,6 +249,10 @@ pub record Node : Type 0 where
 abbrev pub node : ℕ → ℕ → ℕ → ℕ → ℕ → Node
 node k t a b c = record { kind = k; tok = t; first = a; second = b; third = c }
 
+-- the kind of a call's node
+abbrev pub callKind : ℕ
+callKind = 8
+
 -- the names of a path after the first, whose token is t: n of them, the last last
 abbrev pub nameNodes : ℕ → ℕ → List Node
 nameNodes t zero = []
@@ -290,7 +294,7 @@ abbrev mutual
   exprNodes k (slash′ a b) =
       exprNodes k a ++ exprNodes (k + exprSize a) b ++ node 7 (firstOf a) (k + exprSize a - 1) (k + exprSize a + exprSize b - 1) 0 ∷ []
   exprNodes k (call e t g) =
-      exprNodes k e ++ argNodes (k + exprSize e) g ++ node 8 (firstOf e) (k + exprSize e - 1) (lastOf (k + exprSize e) g) t ∷ []
+      exprNodes k e ++ argNodes (k + exprSize e) g ++ node callKind (firstOf e) (k + exprSize e - 1) (lastOf (k + exprSize e) g) t ∷ []
 
   pub argNodes : ℕ → Args → List Node
   argNodes k none-given = []
