@@ -2,6 +2,7 @@
  * table was full, and the next call answered with what was left over. Here a call's answer is that
  * of a first call, whatever was called before it and whatever runs beside it.
  */
+#define _POSIX_C_SOURCE 200112L /* barriers */
 #include "lent.h"
 
 #include <pthread.h>
@@ -116,10 +117,12 @@ static void try_story(void)
 
 /* ---- at the same time ---- */
 
-#define ROUNDS 3000
+#define ROUNDS 30000
+
+static pthread_barrier_t both; /* so that neither has ended before the other begins */
 
 struct job {
-    const char *source;         /* both threads read the same bytes */
+    const char *source;
     struct left alone[ENTRIES]; /* what a call answers with no other beside it */
     struct left now;
     int wrong;
@@ -128,6 +131,7 @@ struct job {
 static void *work(void *given)
 {
     struct job *job = (struct job *)given;
+    pthread_barrier_wait(&both);
     for (int round = 0; round < ROUNDS; round++)
         for (int entry = SCAN; entry < ENTRIES; entry++) {
             call(entry, job->source, ROOM, &job->now);
@@ -146,20 +150,22 @@ static void try_threads(const char *one, const char *other)
         for (int entry = SCAN; entry < ENTRIES; entry++)
             call(entry, jobs[i].source, ROOM, &jobs[i].alone[entry]);
     lent_trying("two threads", one, strlen(one));
+    CHECK(pthread_barrier_init(&both, NULL, 2) == 0);
     for (int i = 0; i < 2; i++)
         CHECK(pthread_create(&threads[i], NULL, work, &jobs[i]) == 0);
     for (int i = 0; i < 2; i++)
         CHECK(pthread_join(threads[i], NULL) == 0);
+    pthread_barrier_destroy(&both);
     CHECK(jobs[0].wrong == 0 && jobs[1].wrong == 0);
 }
 
 /* ---- on a small stack ---- */
 
-/* The header says that a call needs less than 32 KiB; a thread itself takes some more. A sanitiser takes far more. */
-#if defined(__SANITIZE_ADDRESS__)
-#define STACK ((size_t)1 << 20)
-#else
-#define STACK ((size_t)40 << 10)
+/* The header says that a call needs less than 32 KiB; a thread itself takes some more. Sanitisers take
+ * far more, and say so when this is compiled.
+ */
+#ifndef STACK
+#define STACK (40 * 1024)
 #endif
 
 static void *parse_deep(void *given)
@@ -177,7 +183,7 @@ static void try_stack(void)
     static char source[2048];
     pthread_attr_t small;
     pthread_t thread;
-    void *wrong;
+    void *wrong = NULL;
     for (int i = 0; i < TERKINOHA_MOST_LISTS; i++)
         strcat(source, "a.b/c::d(e, f: ");
     strcat(source, "1");
@@ -186,8 +192,8 @@ static void try_stack(void)
     strcat(source, ";");
     lent_trying("a small stack", source, strlen(source));
     CHECK(pthread_attr_init(&small) == 0 && pthread_attr_setstacksize(&small, STACK) == 0);
-    CHECK(pthread_create(&thread, &small, parse_deep, source) == 0 && pthread_join(thread, &wrong) == 0);
-    CHECK(wrong == NULL);
+    CHECK(pthread_create(&thread, &small, parse_deep, source) == 0);
+    CHECK(pthread_join(thread, &wrong) == 0 && wrong == NULL);
 }
 
 int main(void)
