@@ -38,7 +38,7 @@ fn error_name(out: &mut [u8], at: usize, kind: u64) -> usize {
     at
 }
 
-fn boolean(out: &mut [u8], at: usize, n: u64) -> usize {
+pub fn boolean(out: &mut [u8], at: usize, n: u64) -> usize {
     if n == 0 {
         return output::text(out, at, b"false");
     }

@@ -2,9 +2,19 @@
 
 use std::io;
 
-pub const KINDS: [&str; 11] = [
-    "short", "tokens", "programs", "calls", "damaged", "sizes", "blanks", "utf8", "numbers",
-    "lines", "mixed",
+pub const KINDS: [&str; 12] = [
+    "short",
+    "tokens",
+    "programs",
+    "calls",
+    "damaged",
+    "judgements",
+    "sizes",
+    "blanks",
+    "utf8",
+    "numbers",
+    "lines",
+    "mixed",
 ];
 
 /// Give `count` sources of a kind to `emit`. A list that ends sooner ends there. False if there is
@@ -42,6 +52,7 @@ fn random_kind(kind: &str) -> Option<Make> {
         "programs" => |rng, _| programs(rng),
         "calls" => |rng, _| calls(rng),
         "damaged" => |rng, _| damaged(rng),
+        "judgements" => judgements,
         "blanks" => blanks,
         "utf8" => utf8,
         "numbers" => |rng, _| numbers(rng),
@@ -675,6 +686,332 @@ fn calls(rng: &mut Rng) -> Vec<u8> {
     program(rng, true)
 }
 
+// Judgements
+
+/// Where a type, a port or the bound on an integer ends, and what is left of it modulo 2^16
+#[rustfmt::skip]
+const JUDGED_INTS: [u128; 20] = [
+    0, 1, 80, 255, 256, 65_535, 65_536, 65_537, 65_616, 70_000, 131_071, u32::MAX as u128,
+    1 << 32, (1 << 32) + 1, u64::MAX as u128, 1 << 64, (1 << 64) + 80, (1 << 80) + 65_536,
+    (1 << 127) - 65_536, (1 << 127) - 1,
+];
+
+/// Paths that are values, each of another type
+const GOOD_PATHS: [&[&str]; 7] = [
+    &["bench", "HTTP"],
+    &["bench", "LOOP"],
+    &["bench", "BIG"],
+    &["bench", "ON"],
+    &["bench", "BANNER"],
+    &["bench", "ping"],
+    &["bench", "deep", "ZERO"],
+];
+
+/// Paths that fail in each way at each name: no item, no module, no value. Some fail in two ways,
+/// and the first name decides
+const BAD_PATHS: [&[&str]; 20] = [
+    &["bench", "deep"],
+    &["bench", "nope"],
+    &["bench", "bench"],
+    &["bench", "http"],
+    &["bench", "HTTPS"],
+    &["bench", "HTT"],
+    &["bench", "ZERO"],
+    &["bench", "HTTP", "x"],
+    &["bench", "ping", "deep"],
+    &["bench", "nope", "x"],
+    &["bench", "ZERO", "x"],
+    &["bench", "deep", "x"],
+    &["bench", "deep", "HTTP"],
+    &["bench", "deep", "deep"],
+    &["bench", "deep", "ZERO", "x"],
+    &["bench", "deep", "x", "ZERO"],
+    &["bench", "LOOP", "x", "y", "z"],
+    &["deep", "ZERO"],
+    &["nope", "x"],
+    &["ping", "bench", "HTTP"],
+];
+
+/// Modules that are there, and names that are none: of items, of inner modules, of others
+const MODULES: [&str; 14] = [
+    "bench", "bench", "bench", "bench", "nope", "nope", "deep", "HTTP", "ping", "Bench", "benc",
+    "benchs", "v0", "q",
+];
+
+impl Program {
+    fn judged_int(&mut self, rng: &mut Rng) {
+        let n = match rng.below(5) {
+            0 => good_value(rng),
+            _ => JUDGED_INTS[rng.below(JUDGED_INTS.len())],
+        };
+        let n = int(rng, n);
+        self.put(n);
+    }
+
+    /// A name that a `let` had before, bound or failed
+    fn bound_name(&self, rng: &mut Rng) -> Option<String> {
+        match self.lets.len() {
+            0 => None,
+            n => Some(self.lets[rng.below(n)].0.clone()),
+        }
+    }
+
+    /// A value of any type, or a failure of any kind
+    fn operand(&mut self, rng: &mut Rng) {
+        match rng.below(16) {
+            0..=2 => self.judged_int(rng),
+            3 => self.put(rng.pick(&["true", "false"])),
+            4 => self.put(quad(rng)),
+            5 => {
+                self.put(quad(rng));
+                self.put(":");
+                self.put(rng.below(65_536).to_string());
+            }
+            6 => self.strings(rng),
+            7 | 8 => self.path(GOOD_PATHS[rng.below(GOOD_PATHS.len())]),
+            9 | 10 => self.path(BAD_PATHS[rng.below(BAD_PATHS.len())]),
+            11 => self.put(name(rng)),
+            _ => match self.bound_name(rng) {
+                Some(name) => self.put(name),
+                None => self.put("q"),
+            },
+        }
+    }
+
+    fn address(&mut self, rng: &mut Rng) {
+        match rng.below(4) {
+            0 if self.local(rng, Sort::Ip) => {}
+            1 => self.path(&["bench", "LOOP"]),
+            _ => self.put(quad(rng)),
+        }
+    }
+
+    /// Steps after an operand: operands of `/`, and members
+    fn judged_steps(&mut self, rng: &mut Rng) {
+        while rng.once_in(3) {
+            if rng.once_in(3) {
+                self.put(".");
+                self.put(name(rng));
+            } else {
+                self.put("/");
+                self.operand(rng);
+            }
+        }
+    }
+
+    fn judged_expr(&mut self, rng: &mut Rng) {
+        match rng.below(4) {
+            // Mostly a socket
+            0 | 1 => {
+                self.address(rng);
+                self.put("/");
+                if rng.once_in(2) {
+                    self.judged_int(rng);
+                } else {
+                    self.operand(rng);
+                }
+            }
+            _ => self.operand(rng),
+        }
+        self.judged_steps(rng);
+        if rng.once_in(200) {
+            self.put("(");
+            self.put(")");
+        }
+    }
+
+    fn import(&mut self, name: &str) {
+        self.put("import");
+        self.put(name);
+        self.put(";");
+    }
+
+    fn let_of(&mut self, name: &str, sort: Sort) {
+        self.put("let");
+        self.put(name);
+        self.put("=");
+        self.lets.push((name.into(), sort));
+    }
+
+    fn judged_let(&mut self, rng: &mut Rng) {
+        let name = match rng.below(6) {
+            0 => self.bound_name(rng),
+            1 => Some(name(rng)),
+            _ => None,
+        };
+        let name = name.unwrap_or_else(|| format!("v{}", self.lets.len()));
+        if rng.once_in(5) {
+            self.let_of(&name, Sort::Ip);
+            self.address(rng);
+        } else {
+            self.let_of(&name, Sort::Other);
+            self.judged_expr(rng);
+        }
+        self.put(";");
+    }
+
+    /// A name that fails, names that fail through it, and uses of them that say nothing
+    fn poison(&mut self, rng: &mut Rng) {
+        let first = format!("p{}", self.lets.len());
+        self.let_of(&first, Sort::Other);
+        match rng.below(4) {
+            0 => self.path(BAD_PATHS[rng.below(BAD_PATHS.len())]),
+            1 => self.put(first.clone()),
+            2 => {
+                self.judged_int(rng);
+                self.put("/");
+                self.put("q");
+            }
+            _ => self.put("q"),
+        }
+        self.put(";");
+        let mut last = first;
+        for _ in 0..rng.below(4) {
+            let next = format!("p{}", self.lets.len());
+            self.let_of(&next, Sort::Other);
+            self.use_of(rng, &last);
+            last = next;
+        }
+        self.use_of(rng, &last);
+        if rng.once_in(2) {
+            self.let_of(&last, Sort::Other);
+            self.judged_expr(rng);
+            self.put(";");
+        }
+    }
+
+    /// An expression that needs a name, up to its `;`
+    fn use_of(&mut self, rng: &mut Rng, name: &str) {
+        match rng.below(5) {
+            0 => {
+                self.address(rng);
+                self.put("/");
+                self.put(name);
+            }
+            1 => {
+                self.put(name);
+                self.put("/");
+                self.operand(rng);
+            }
+            2 => {
+                self.put(name);
+                self.put(".");
+                self.put("x");
+            }
+            3 => {
+                // The warning stands before the name
+                self.address(rng);
+                self.put("/");
+                self.judged_int(rng);
+                self.put("/");
+                self.put(name);
+            }
+            _ => self.put(name),
+        }
+        self.put(";");
+    }
+}
+
+/// Around 512 names of `let` and 64 of `import`, in any order, some more than once
+fn crowded(rng: &mut Rng) -> Vec<u8> {
+    let mut program = Program::new(false, 4);
+    let lets = 510 + rng.below(4);
+    let imports = [0, 63, 64, 65][rng.below(4)];
+    // One let in so many has a value that may fail
+    let same = [1, 80][rng.below(2)];
+    let mut modules = 0;
+    while program.lets.len() < lets || modules < imports {
+        match rng.below(32) {
+            0 => {
+                program.operand(rng);
+                program.put(";");
+            }
+            1 if modules > 0 => program.import(&format!("m{}", rng.below(modules))),
+            2 if !program.lets.is_empty() => {
+                program.put("let");
+                program.put(format!("w{}", rng.below(program.lets.len())));
+                program.put("=");
+                program.operand(rng);
+                program.put(";");
+            }
+            3..=6 if modules < imports => {
+                program.import(&format!("m{modules}"));
+                modules += 1;
+            }
+            _ if program.lets.len() < lets => {
+                let name = format!("w{}", program.lets.len());
+                program.let_of(&name, Sort::Other);
+                if rng.once_in(same) {
+                    program.operand(rng);
+                } else {
+                    program.put("7");
+                }
+                program.put(";");
+            }
+            _ => {}
+        }
+    }
+    program.text(rng)
+}
+
+/// Hardly an error, so that the statements are held: values of each type, plain and through names
+fn sound(rng: &mut Rng) -> Vec<u8> {
+    let mut program = Program::new(false, 1000);
+    for _ in 0..1 + rng.below(2) {
+        program.import("bench");
+    }
+    for _ in 0..rng.below(14) {
+        let sort = SORTS[rng.below(6)];
+        match rng.below(4) {
+            0 => {
+                let name = format!("v{}", program.lets.len());
+                program.let_of(&name, sort);
+                program.expr(rng, sort);
+            }
+            // As a statement an integer must have a type
+            1 if sort == Sort::Int => {
+                let n = JUDGED_INTS[rng.below(JUDGED_INTS.len())] & u128::from(u64::MAX);
+                let n = int(rng, n);
+                program.put(n);
+            }
+            _ if sort == Sort::Int => program.path(rng.pick(&[
+                &["bench", "HTTP"][..],
+                &["bench", "BIG"],
+                &["bench", "deep", "ZERO"],
+            ])),
+            _ => program.expr(rng, sort),
+        }
+        program.put(";");
+    }
+    program.text(rng)
+}
+
+fn judgements(rng: &mut Rng, i: u64) -> Vec<u8> {
+    if i % 256 == 255 {
+        return crowded(rng);
+    }
+    if rng.once_in(3) {
+        return sound(rng);
+    }
+    let mut program = Program::new(false, 4);
+    if !rng.once_in(4) {
+        program.import("bench");
+    }
+    let most = if rng.once_in(12) { 50 } else { 10 };
+    for _ in 0..rng.below(most) {
+        match rng.below(12) {
+            0 | 1 => program.import(rng.pick(&MODULES)),
+            2..=5 => program.judged_let(rng),
+            6 => program.poison(rng),
+            _ => {
+                program.judged_expr(rng);
+                program.put(";");
+            }
+        }
+    }
+    program.text(rng)
+}
+
 // Damaged copies
 
 fn damaged(rng: &mut Rng) -> Vec<u8> {
@@ -884,6 +1221,7 @@ const SIZES: &[fn() -> Vec<u8>] = &[
     || ended(many(1023, |_| "q;".into()), "q"),
     || ended(many(1022, |_| "q;".into()), "import a;"),
     || ended(many(1021, |_| "q;".into()), "import a;import a;"),
+    || ended(many(1024, |_| "q;".into()), "import a;"),
     || ended(steps("f", "(a,a,a,a,a,a,a,a,a,a,a,a,a,a,a,a)", 60), "x;"),
     || format!("f({}a);", "a,".repeat(1021)).into_bytes(),
     || format!("f({}a);", "a,".repeat(1020)).into_bytes(),

@@ -271,7 +271,7 @@ pub fn selfcheck(seed: u64, count: u64) -> ExitCode {
     characters(&mut report);
 
     let mut sources = 0u64;
-    let random = ["mixed", "programs", "calls", "lines"].map(|kind| (kind, seed));
+    let random = ["mixed", "programs", "calls", "judgements", "lines"].map(|kind| (kind, seed));
     let short = [0, 1, 2, 3, 4].map(|alphabet| ("short", alphabet));
     for (kind, seed) in random.into_iter().chain(short) {
         generate(kind, seed, count, &mut |src| {
