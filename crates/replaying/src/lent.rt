@@ -18,7 +18,7 @@ fn at_most(room: u64, most: u64) -> usize
 }
 
 // The words of so many rows: of lexemes for the mode `scan`, else of tokens.
-fn words(mode: Mode, rows: u64) -> usize
+fn token_words(mode: Mode, rows: u64) -> usize
     ensures { λ r. ⌜ r ≤ 458759 ⌝ }
 {
     let n = at_most(rows, 65537);
@@ -28,16 +28,24 @@ fn words(mode: Mode, rows: u64) -> usize
     n * 7
 }
 
+// The words of so many rows of nodes.
+fn node_words(rows: u64) -> usize
+    ensures { λ r. ⌜ r ≤ 327680 ⌝ }
+{
+    at_most(rows, 65536) * 5
+}
+
 // Runs a mode, given the numbers of the first line.
 pub fn run(mode: Mode, numbers: [u64; 4], chunk: &mut [u8], unread: Unread, out: &mut [u8]) {
+    let end = token_words(mode, numbers[0]);
+    let room = numbers[1];
     // longer than any source that is taken, so that one which is too long is still too long here
     let mut source = [0u8; 65600];
     // 65,537 rows, for the end of a source is a token too
     let mut tokens = [0u64; 458759];
-    let end = words(mode, numbers[0]);
     with_tokens(
         mode,
-        numbers[1],
+        room,
         chunk,
         unread,
         &mut source,
@@ -127,7 +135,7 @@ fn with_nodes(
     // 65,536 rows
     let mut nodes = [0u64; 327680];
     let mut text = [0u8; 0];
-    let end = at_most(rows, 65536) * 5;
+    let end = node_words(rows);
     sources::answers(
         mode,
         chunk,
