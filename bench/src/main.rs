@@ -238,7 +238,7 @@ struct Growth {
 }
 
 fn table(calls: &[&'static str]) {
-    let budget = Duration::from_millis(200);
+    let budget = Duration::from_millis(400);
     let mut tables = Tables::new();
     let mut growth = Vec::new();
     println!("| script | KB | call | ours µs | Rust µs | ratio | with `from_utf8` | and freed | sure room | full room |");
