@@ -4,7 +4,7 @@
 //!     bench once CALL KIND SIZE WHO N    one call N times, for a profiler; WHO is ours or rust
 //!     bench script KIND SIZE             the script itself
 //!
-//! Each row's calls take turns, and the least time of many turns is kept: what else the machine does then falls out.
+//! Each row's calls take turns in rounds. A time is the least of all rounds; a ratio is the median of the rounds' ratios.
 
 mod ours;
 mod scripts;
@@ -132,39 +132,45 @@ fn rust_once(call: &str, text: &str) -> Kept {
     }
 }
 
-/// Least times in nanoseconds
+/// What is timed in one round, in nanoseconds
 #[derive(Clone, Copy)]
-struct Row {
-    /// With just enough room, with as many rows as the source has bytes, and with the most that any source could need
-    ours: f64,
-    ours_sure: f64,
-    ours_most: f64,
+struct Round {
+    just: f64,
+    sure: f64,
+    full: f64,
     rust: f64,
     /// The Rust with `from_utf8` before it, as ours takes raw bytes
-    rust_bytes: f64,
+    from_bytes: f64,
     /// The same, and its answer freed
-    rust_freed: f64,
+    freed: f64,
+}
+
+struct Row {
+    rounds: Vec<Round>,
 }
 
 impl Row {
-    const NONE: Row = Row {
-        ours: f64::MAX,
-        ours_sure: f64::MAX,
-        ours_most: f64::MAX,
-        rust: f64::MAX,
-        rust_bytes: f64::MAX,
-        rust_freed: f64::MAX,
-    };
+    /// The least time of a column
+    fn least(&self, column: fn(&Round) -> f64) -> f64 {
+        self.rounds.iter().map(column).fold(f64::MAX, f64::min)
+    }
+
+    /// The median of the rounds' quotients: whatever slows a round slows both sides
+    fn ratio(&self, over: fn(&Round) -> f64, under: fn(&Round) -> f64) -> f64 {
+        median(self.rounds.iter().map(|r| over(r) / under(r)).collect())
+    }
 
     /// Times in microseconds, then how many times faster ours is
     fn print(&self, script: &str, kb: usize, call: &str) {
-        print!("| {script} | {kb} | {call} | {:.2} | {:.2} |", self.ours / 1000.0, self.rust / 1000.0);
+        let (ours, rust) = (self.least(|r| r.just), self.least(|r| r.rust));
+        print!("| {script} | {kb} | {call} | {:.2} | {:.2} |", ours / 1000.0, rust / 1000.0);
+        let lends = call != "utf8";
         let ratios = [
-            Some(self.rust / self.ours),
-            (call != "utf8").then_some(self.rust_bytes / self.ours),
-            (call != "utf8").then_some(self.rust_freed / self.ours),
-            (call != "utf8").then_some(self.rust / self.ours_sure),
-            (call != "utf8" && call != "scan by line").then_some(self.rust / self.ours_most),
+            Some(self.ratio(|r| r.rust, |r| r.just)),
+            lends.then(|| self.ratio(|r| r.from_bytes, |r| r.just)),
+            lends.then(|| self.ratio(|r| r.freed, |r| r.just)),
+            lends.then(|| self.ratio(|r| r.rust, |r| r.sure)),
+            (lends && call != "scan by line").then(|| self.ratio(|r| r.rust, |r| r.full)),
         ];
         for ratio in ratios {
             match ratio {
@@ -176,95 +182,99 @@ impl Row {
     }
 }
 
-fn least(best: &mut f64, turns: u32, run: impl Fn() -> f64) {
-    for _ in 0..turns {
-        *best = best.min(run());
-    }
+fn median(mut all: Vec<f64>) -> f64 {
+    all.sort_by(f64::total_cmp);
+    all[all.len() / 2]
 }
 
-fn nanos(since: Instant) -> f64 {
-    since.elapsed().as_nanos() as f64
+fn least(turns: u32, mut run: impl FnMut() -> f64) -> f64 {
+    (0..turns).map(|_| run()).fold(f64::MAX, f64::min)
+}
+
+/// How often a call is made at once, so that the clock does not count
+fn several(call: &str) -> u32 {
+    if call == "utf8" { 16 } else { 1 }
+}
+
+fn nanos(call: &str, since: Instant) -> f64 {
+    since.elapsed().as_nanos() as f64 / f64::from(several(call))
+}
+
+fn time_ours(call: &str, script: &Script, tables: &mut Tables, lent: Lent) -> f64 {
+    let began = Instant::now();
+    for _ in 0..several(call) {
+        black_box(ours_once(call, black_box(script), tables, lent));
+    }
+    nanos(call, began)
+}
+
+fn time_rust(call: &str, script: &Script, from_bytes: bool, freed: bool) -> f64 {
+    let known = script.text();
+    let began = Instant::now();
+    for _ in 1..several(call) {
+        black_box(rust_once(call, black_box(known)));
+    }
+    let text = if from_bytes { script.text() } else { known };
+    let kept = black_box(rust_once(call, black_box(text)));
+    if freed {
+        drop(kept);
+        return nanos(call, began);
+    }
+    nanos(call, began)
 }
 
 fn measure(call: &str, script: &Script, tables: &mut Tables, budget: Duration) -> Row {
-    let tables = std::cell::RefCell::new(tables);
-    // Short calls are timed several at once, so that the clock does not count
-    let several = if call == "utf8" { 16 } else { 1 };
-    let time_ours = |lent| {
-        let tables = &mut tables.borrow_mut();
-        let began = Instant::now();
-        for _ in 0..several {
-            black_box(ours_once(call, black_box(script), tables, lent));
-        }
-        nanos(began) / f64::from(several)
-    };
-    let time_rust = |from_bytes: bool, freed: bool| {
-        let known = script.text();
-        let began = Instant::now();
-        let mut took = 0.0;
-        for i in 1..=several {
-            let text = if from_bytes { script.text() } else { known };
-            let kept = black_box(rust_once(call, black_box(text)));
-            if i == several && !freed {
-                took = nanos(began);
-            }
-            drop(kept);
-        }
-        if freed {
-            took = nanos(began);
-        }
-        took / f64::from(several)
-    };
-    let mut row = Row::NONE;
+    let mut rounds = Vec::new();
     let began = Instant::now();
     while began.elapsed() < budget {
-        least(&mut row.ours, 8, || time_ours(Lent::Just));
-        least(&mut row.rust, 8, || time_rust(false, false));
-        least(&mut row.rust_bytes, 8, || time_rust(true, false));
-        least(&mut row.rust_freed, 8, || time_rust(true, true));
-        // These empty the caches, so they come last
-        least(&mut row.ours_sure, 4, || time_ours(Lent::Sure));
-        least(&mut row.ours_most, 2, || time_ours(Lent::Full));
+        rounds.push(Round {
+            just: least(8, || time_ours(call, script, tables, Lent::Just)),
+            rust: least(8, || time_rust(call, script, false, false)),
+            from_bytes: least(8, || time_rust(call, script, true, false)),
+            freed: least(8, || time_rust(call, script, true, true)),
+            // These empty the caches, so they come last
+            sure: least(4, || time_ours(call, script, tables, Lent::Sure)),
+            full: least(2, || time_ours(call, script, tables, Lent::Full)),
+        });
     }
-    row
+    Row { rounds }
 }
 
-/// How much longer 64 KB take than 16
-struct Growth {
-    script: &'static str,
-    call: &'static str,
-    ours: f64,
-    rust: f64,
+/// How much longer a large script takes than a small one, ours and the Rust's, in rounds of their own
+fn growth(call: &str, small: &Script, large: &Script, tables: &mut Tables, budget: Duration) -> (f64, f64) {
+    let mut ours = Vec::new();
+    let mut rust = Vec::new();
+    let began = Instant::now();
+    while began.elapsed() < budget {
+        let mut time = |script| least(4, || time_ours(call, script, tables, Lent::Just));
+        ours.push(time(large) / time(small));
+        let time = |script| least(4, || time_rust(call, script, false, false));
+        rust.push(time(large) / time(small));
+    }
+    (median(ours), median(rust))
 }
 
 fn table(calls: &[&'static str]) {
-    let budget = Duration::from_millis(400);
+    let budget = Duration::from_millis(500);
     let mut tables = Tables::new();
-    let mut growth = Vec::new();
+    let mut grown = Vec::new();
     println!("| script | KB | call | ours µs | Rust µs | ratio | with `from_utf8` | and freed | sure room | full room |");
     println!("|---|---|---|---|---|---|---|---|---|---|");
     for kind in &KINDS {
         let sizes: &[usize] = if kind.name == "realistic" { &[1, 16, 64] } else { &[16, 64] };
         let scripts: Vec<Script> = sizes.iter().map(|kb| Script::new(kind, kb * 1024)).collect();
         for &call in calls {
-            let measured = scripts.iter().map(|script| measure(call, script, &mut tables, budget));
-            let rows: Vec<Row> = measured.collect();
-            for (row, &kb) in rows.iter().zip(sizes) {
-                row.print(kind.name, kb, call);
+            for (script, &kb) in scripts.iter().zip(sizes) {
+                measure(call, script, &mut tables, budget).print(kind.name, kb, call);
             }
-            let [.., small, large] = &rows[..] else { continue };
-            growth.push(Growth {
-                script: kind.name,
-                call,
-                ours: large.ours / small.ours,
-                rust: large.rust / small.rust,
-            });
+            let [.., small, large] = &scripts[..] else { continue };
+            let (ours, rust) = growth(call, small, large, &mut tables, budget);
+            grown.push(format!("| {} | {call} | {ours:.2} | {rust:.2} |", kind.name));
         }
     }
-    println!("\n| script | call | ours | Rust |");
-    println!("|---|---|---|---|");
-    for Growth { script, call, ours, rust } in growth {
-        println!("| {script} | {call} | {ours:.2} | {rust:.2} |");
+    println!("\n| script | call | ours | Rust |\n|---|---|---|---|");
+    for row in grown {
+        println!("{row}");
     }
 }
 

@@ -107,17 +107,23 @@ fn realistic(rng: &mut Rng, out: &mut String) {
         1 => {
             put!(out, "let host{id} = {};\n", quad(rng));
             put!(out, "let port{id} = {};\n", rng.below(65536));
-            put!(out, "dns::host(host{id}, \"example.com\", ns: 192.168.0.{}, ttl: 229, raw: false); // {}\n", 1 + rng.below(250), rng.pick(&REMARKS));
+            let ns = 1 + rng.below(250);
+            put!(out, "dns::host(host{id}, \"example.com\", ns: 192.168.0.{ns}, ttl: 229, raw: false);");
+            put!(out, " // {}\n", rng.pick(&REMARKS));
             put!(out, "host{id}/port{id};\n\n");
         }
         2 => {
             put!(out, "let udp{id} = ipv4::udp::flow({}/{}, {}/53);\n", quad(rng), 1024 + rng.below(60000), quad(rng));
-            put!(out, "udp{id}.client_dgram(frag_off: 0x{:x}, csum: true, \"|{:02x} {:02x}|\");\n", rng.below(65536), rng.below(256), rng.below(256));
+            put!(out, "udp{id}.client_dgram(frag_off: 0x{:x}, csum: true, ", rng.below(65536));
+            put!(out, "\"|{:02x} {:02x}|\");\n", rng.below(256), rng.below(256));
             put!(out, "udp{id}.server_dgram(\"ok\");\n\n");
         }
         _ => {
             put!(out, "// {}\n", rng.pick(&REMARKS));
-            put!(out, "let hello{id} = tls::message(\n    tls::version::TLS_1_2,\n    tls::content::HANDSHAKE,\n    tls::client_hello(\n        sessionid: tls::len_u8(),\n        ciphers: tls::ciphers(tls::cipher::ECDHE_RSA_WITH_AES_256_CBC_SHA, tls::cipher::EMPTY_RENEGOTIATION_INFO_SCSV),\n    ),\n);\n");
+            put!(out, "let hello{id} = tls::message(\n    tls::version::TLS_1_2,\n    tls::content::HANDSHAKE,\n");
+            put!(out, "    tls::client_hello(\n        sessionid: tls::len_u8(),\n        ciphers: tls::ciphers(");
+            put!(out, "tls::cipher::ECDHE_RSA_WITH_AES_256_CBC_SHA, tls::cipher::EMPTY_RENEGOTIATION_INFO_SCSV");
+            put!(out, "),\n    ),\n);\n");
             put!(out, "hello{id};\n\n");
         }
     }
