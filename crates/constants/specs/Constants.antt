@@ -3,7 +3,7 @@ use Prim.Native.Nat.{ℕ, zero, suc, _+_, _*_}
 use mathlib.Core.Bool.{Bool, true, false, _&&_}
 use mathlib.Core.List.{List, [], _∷_}
 use mathlib.Core.Option.{Option, none, some}
-use lib.Dec.{eqb}
+use lib.Dec.{eqb, ltb}
 use lib.ListN.{getD}
 use Rattle.table.specs.Table.{flat}
 use Rattle.language.specs.Choice.{if′}
@@ -36,10 +36,10 @@ abbrev pub orZero : Option ℕ → ℕ
 orZero none = 0
 orZero (some k) = k
 
--- word j of the entry numbered k
+-- word j of the entry numbered k, 0 where there is none
 abbrev pub entryWord : List ℕ → ℕ → ℕ → ℕ
 entryWord rows zero j = 0
-entryWord rows (suc k) j = getD rows (6 * k + j) 0
+entryWord rows (suc k) j = if′ (ltb k 9) (getD rows (6 * k + j) 0) 0
 
 abbrev pub isHit : List ℕ → List ℕ → ℕ → ℕ → List ℕ → Bool
 isHit rows text i m bs = eqb (getD rows (6 * i) 0) m && same (between text (getD rows (6 * i + 1) 0) (getD rows (6 * i + 2) 0)) bs

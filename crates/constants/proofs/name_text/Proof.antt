@@ -1,3 +1,4 @@
+use mathlib.Core.Path.{_∙_, sym}
 use borrow.Author.Needs.{needs}
 use Rattle.constants.proofs.name_text.Statement.{statement}
 use Rattle.constants.proofs.name_text.Tie as tie
@@ -9,13 +10,13 @@ part-requires : tie.Need-part-requires
 part-requires c κs = search needs
 
 returns : tie.Need-returns
-returns c = ?
+returns c = rw (c .before .if1 .taken) (c .part .ensures)
 
 part-requires-2 : tie.Need-part-requires-2
 part-requires-2 c κs = search needs
 
 returns-2 : tie.Need-returns-2
-returns-2 c = ?
+returns-2 c = rw (c .before .if1 .left) (c .part2 .ensures)
 
 pub name-text-spec : {M : Type 1} → statement M
 name-text-spec = tie.close (tie.spec part-requires returns part-requires-2 returns-2)

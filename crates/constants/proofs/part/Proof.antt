@@ -1,3 +1,5 @@
+use native.Mathlib.Nat.{le-of-lt}
+use Rattle.constants.proofs.Parts.{part-none, part-past, part-rest}
 use borrow.Author.Needs.{needs}
 use Rattle.constants.proofs.part.Statement.{statement}
 use Rattle.constants.proofs.part.Tie as tie
@@ -8,13 +10,13 @@ slice-aggregate-result : tie.Need-slice-aggregate-result
 slice-aggregate-result c = search needs
 
 returns : tie.Need-returns
-returns c = ?
+returns c = part-none _ _ _ (c .before .if1 .taken)
 
 slice-aggregate-result-2 : tie.Need-slice-aggregate-result-2
 slice-aggregate-result-2 c = search needs
 
 returns-2 : tie.Need-returns-2
-returns-2 c = ?
+returns-2 c = part-past _ _ _ (c .before .if2 .taken)
 
 sub-result : tie.Need-sub-result
 sub-result c = search needs
@@ -26,7 +28,7 @@ part-result-end : tie.Need-part-result-end
 part-result-end c = search needs
 
 returns-3 : tie.Need-returns-3
-returns-3 c = ?
+returns-3 c = part-rest _ _ _ (le-of-lt (c .before .if3 .taken))
 
 part-result-start-2 : tie.Need-part-result-start-2
 part-result-start-2 c = search needs

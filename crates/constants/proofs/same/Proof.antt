@@ -1,40 +1,47 @@
+use Prim.Native.Nat.{ℕ, _≤_, _-_}
+use native.Mathlib.Omega.{arith}
+use mathlib.Core.Path.{_≡_, _∙_}
+use lib.ListN.{length, drop}
+use borrow.Author.Needs.{needs}
+use Rattle.language.specs.Lexemes.{same}
+use Rattle.constants.proofs.Sames.{not-long, differs, agrees, all}
 use Rattle.constants.proofs.same.Statement.{statement}
 use Rattle.constants.proofs.same.Tie as tie
 use Rattle.constants.proofs.same.Reads as reads
 use Rattle.constants.proofs.same.Lts as lts
 
 abbrev Inv-loop : tie.InvT-loop
-Inv-loop x y i₀ i = ?
+Inv-loop x y i₀ i = (i ≤ length x) × (length x ≡ length y) × (same (drop i x) (drop i y) ≡ same x y)
 
 abbrev μ-loop : tie.MeasureT-loop
-μ-loop x y i₀ i = ?
+μ-loop x y i₀ i = length x - i
 
 returns : tie.Need-returns Inv-loop μ-loop
-returns c = ?
+returns c = not-long (c .before .args .x .now) (c .before .args .y .now) (c .if1 .taken)
 
 loop-holds : tie.Need-loop-holds Inv-loop μ-loop
-loop-holds c = ?
+loop-holds c = (search needs, search needs, search needs)
 
 shared-slice-read-if2 : tie.Need-shared-slice-read-if2 Inv-loop μ-loop
-shared-slice-read-if2 c = ?
+shared-slice-read-if2 c = search needs
 
 shared-slice-read-if2-2 : tie.Need-shared-slice-read-if2-2 Inv-loop μ-loop
-shared-slice-read-if2-2 c = ?
+shared-slice-read-if2-2 c = search needs
 
 returns-2 : tie.Need-returns-2 Inv-loop μ-loop
-returns-2 c = ?
+returns-2 c = let k = c .before .before .before .before in differs _ _ _ (k .loop .inv .1) (c .before .before .before .loop-test .taken) (c .if2 .taken) ∙ k .loop .inv .2
 
 add-i : tie.Need-add-i Inv-loop μ-loop
-add-i c = ?
+add-i c = search needs
 
 loop-less : tie.Need-loop-less Inv-loop μ-loop
-loop-less c = ?
+loop-less c = search needs
 
 loop-again : tie.Need-loop-again Inv-loop μ-loop
-loop-again c = ?
+loop-again c = let k = c .before .before .before .before in (search needs, search needs, agrees _ _ _ (k .loop .inv .1) (c .before .before .before .loop-test .taken) (c .if2 .left) ∙ k .loop .inv .2)
 
 returns-3 : tie.Need-returns-3 Inv-loop μ-loop
-returns-3 c = ?
+returns-3 c = all _ _ _ (c .before .loop .inv .1) (c .loop-test .left) ∙ c .before .loop .inv .2
 
 pub same-spec : {M : Type 1} → statement M
 same-spec =

@@ -1,10 +1,14 @@
+use borrow.Author.Needs.{needs}
+use Rattle.language.specs.Values.{entries, tableText}
+use Rattle.constants.specs.Constants.{tableRows}
 use Rattle.constants.proofs.Constants.new.Statement.{statement}
 use Rattle.constants.proofs.Constants.new.Tie as tie
 use Rattle.constants.proofs.Constants.new.Reads as reads
 use Rattle.constants.proofs.Constants.new.Lts as lts
 
 returns : tie.Need-returns
-returns c = ?
+unfolding tableRows entries tableText
+returns c = search needs
 
 pub new-spec : {M : Type 1} → statement M
 new-spec = tie.close (tie.spec returns)
