@@ -182,13 +182,18 @@ putRows row t k (x ∷ xs) = putRows row (putRow t k (row x)) (k + 1) xs
 
 -- ---- names
 
+-- the number of a module; 0 where the import failed
+abbrev pub orNone : ℕ → Option ℕ
+orNone zero = none
+orNone (suc k) = some (suc k)
+
 -- word j of the entry i of a table of names
 abbrev pub nameWord : List ℕ → ℕ → ℕ → ℕ
 nameWord ws i j = getD ws (6 * i + j) 0
 
 module _ (s ws : List ℕ) where
   abbrev pub nameOf : ℕ → List ℕ
-  nameOf i = between s (nameWord ws i 0) (nameWord ws i 1)
+  nameOf i = between s (getD ws (6 * i) 0) (nameWord ws i 1)
 
   -- k names from the entry i on
   unfoldable pub namesIn : ℕ → ℕ → List (List ℕ)
@@ -205,10 +210,6 @@ module _ (s ws : List ℕ) where
   unfoldable pub boundIn : ℕ → ℕ → List Binding
   boundIn zero i = []
   boundIn (suc k) i = bindingAt i ∷ boundIn k (i + 1)
-
-  abbrev pub orNone : ℕ → Option ℕ
-  orNone zero = none
-  orNone (suc k) = some (suc k)
 
   abbrev pub importAt : ℕ → Import
   importAt i = record { name = nameOf i; found = orNone (nameWord ws i 3) }

@@ -388,7 +388,8 @@ fn literal(toks: &[u64], t: u64) -> Value
     ensures { λ r. ⌜ ((s : List ℕ) → Lexed s (now (toks .entry)) → r ≡ valueAs (literalAt (contents (tokens s)) t)) ⌝ }
 {
     let tok = token_at(toks, t);
-    match tok.kind {
+    let kind = tok.kind;
+    match kind {
         14 => Value {
             kind: 2,
             lo: tok.lo,
@@ -404,15 +405,10 @@ fn literal(toks: &[u64], t: u64) -> Value
             lo: t,
             hi: 0,
         },
-        17 | 18 => Value {
+        _ => Value {
             kind: 16,
             lo: tok.lo,
             hi: tok.hi,
-        },
-        _ => Value {
-            kind: 16,
-            lo: 0,
-            hi: 0,
         },
     }
 }
@@ -478,10 +474,11 @@ fn member(toks: &[u64], t: u64, left: Judgement) -> Judgement
     ensures { λ r. ⌜ ((s : List ℕ) → Lexed s (now (toks .entry)) → Members s t left r) ⌝ }
 {
     let out = left.out;
+    let counts = left.counts;
     match out {
         Judged::Val(v) => Judgement {
             out: Judged::Err(typed(1, 9, token_at(toks, t), v, 0, 0, 0)),
-            counts: left.counts,
+            counts,
         },
         Judged::Err(_) => left,
         Judged::Poisoned => left,

@@ -1,0 +1,13 @@
+use Rattle.judging.proofs.held.Statement.{statement}
+use Rattle.judging.proofs.held.Tie as tie
+use Rattle.judging.proofs.held.Reads as reads
+use Rattle.judging.proofs.held.Lts as lts
+
+returns : tie.Need-returns
+returns c = ?
+
+returns-2 : tie.Need-returns-2
+returns-2 c = ?
+
+pub held-spec : {M : Type 1} → statement M
+held-spec = tie.close (tie.spec returns returns-2)
