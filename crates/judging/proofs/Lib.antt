@@ -4,3 +4,4 @@ pub mod NameTokens
 pub mod TokenRows
 pub mod Values
 pub mod Names
+pub mod Judging

@@ -1,12 +1,12 @@
 -- Values as three words: what a kind says of a value, and findings that show it.
 use mathlib.Core.Path.{_≡_, refl, sym, ap, _∙_}
-use mathlib.Core.Bool.{Bool, true, false}
+use mathlib.Core.Bool.{Bool, true, false, _&&_, _||_}
 use mathlib.Core.Option.{Option, none, some}
 use mathlib.Core.List.{List, [], _∷_}
 use Prim.Native.Nat.{ℕ, zero, suc, _+_, _*_, _/_, _%_, _≤_, _<_}
 use native.Mathlib.Omega.{arith}
 use borrow.Author.Tests.{eq-eqb, ne-eqb}
-use lib.Dec.{eqb}
+use lib.Dec.{eqb, leb}
 use lib.ListN.{length, getD}
 use Rattle.constants.specs.Constants.{tableRows, kindOf, lowOf, highOf, entryWord}
 use Rattle.constants.proofs.Entries.{words}
@@ -298,3 +298,17 @@ typed-is tok u e f = rw (e, f)
 pub operand-is : (s : List ℕ) (t : ℕ) {tok : Token} → tok ≡ tokenAs (tokenOf s t) → (u : values.Value) (d : Side) (ty : Ty) {side wanted : ℕ}
     → side ≡ sideKind d → wanted ≡ tyKind ty → typedAs 1 10 tok (typeOf u) side wanted 1 ≡ faultAs s t (operandType d ty (typeOf u))
 operand-is s t e u d ty p q = rw (e, p, q)
+
+-- ---- tests
+
+pub held-none : (k l h : ℕ) → k ≡ 0 → Poisoned ≡ heldAs k l h
+unfolding heldAs
+held-none k l h e = rw (eq-eqb k 0 e)
+
+pub held-some : (k l h : ℕ) → (k ≡ 0 → ⊥) → Val (record { kind = k; lo = l; hi = h }) ≡ heldAs k l h
+unfolding heldAs
+held-some k l h n = rw (ne-eqb k 0 n)
+
+pub integral-is : (k : ℕ) → ((leb 2 k && leb k 6) || eqb k 16) ≡ isIntegral k
+unfolding isIntegral
+integral-is k = refl

@@ -1,3 +1,5 @@
+use mathlib.Core.Path.{refl, _∙_}
+use Rattle.judging.proofs.Judging.{no-members, members, members-err, members-none}
 use borrow.Author.Needs.{needs}
 use Rattle.judging.proofs.member.Statement.{statement}
 use Rattle.judging.proofs.member.Tie as tie
@@ -22,13 +24,13 @@ enum-told-2 : tie.Need-enum-told-2
 enum-told-2 c = search needs
 
 returns : tie.Need-returns
-returns c = ?
+returns c = λ s o. members s (c .before .before .before .before .before .before .before .args .t) (c .before .before .before .out .given .1) (λ u e. c .typed .ensures .is u e ∙ no-members s (c .before .before .before .before .before .before .before .args .t) (c .before .token-at .ensures s o) u) refl refl
 
 returns-2 : tie.Need-returns-2
-returns-2 c = ?
+returns-2 c = λ s o. members-err s (c .before .before .before .before .args .t) (c .enum-told .given .1)
 
 returns-3 : tie.Need-returns-3
-returns-3 c = ?
+returns-3 c = λ s o. members-none s (c .before .before .before .before .args .t) (c .enum-told2 .given .1)
 
 pub member-spec : {M : Type 1} → statement M
 member-spec =
