@@ -439,7 +439,7 @@ module _ (s : List ℕ) (n : ℕ) (k : Known) where
         }
 
     pub fits-more : (f : SlashFits ws i (c .errors + c .warnings)) {m : Judgement} {x y : List ℕ} → Agrees s m x y c (judged (f .right))
-        → m .counts .errors + m .counts .warnings < 4294967296
+        → m .counts .errors + m .counts .warnings < 4611686018427387904
     fits-more f {m} a =
         let w : m .counts .errors + m .counts .warnings ≡ c .errors + c .warnings + length (judged (f .right) .warns) =
             ap (λ (g : Counts). g .errors + g .warnings) (a .counted) ∙ omega arith in

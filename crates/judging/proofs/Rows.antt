@@ -1,14 +1,14 @@
 -- Words of rows that stand one after the other, and rows that are stored.
 use mathlib.Core.Path.{_≡_, refl, sym, ap, _∙_}
 use mathlib.Core.List.{List, [], _∷_, _++_, append-nil, append-assoc}
-use Prim.Native.Nat.{ℕ, zero, suc, _+_, _*_, _/_, _≤_, _<_}
+use Prim.Native.Nat.{ℕ, zero, suc, _+_, _-_, _*_, _/_, _≤_, _<_}
 use native.Mathlib.Nat.{le-div-iff-mul-le}
 use native.Mathlib.Omega.{arith}
-use lib.ListN.{length, getD, take, drop, replicate, length-append}
-use lib.Seq.{sets, sets-eq, length-take-le, getD-take, getD-append-add}
-use lib.ListN as lists
+use lib.ListN.{length, getD, take, drop, length-append, length-drop}
+use lib.Seq.{sets-eq, take-all, drop-length, drop-drop}
+use borrow.Rule.Slice.PartMut.{midOf, postOf, putMid, post-is}
 use Rattle.table.specs.Table.{padTo, flat, tabled, putRow}
-use Rattle.table.proofs.Laws.{pad-split, length-flat, tabled-all, tabled-word, tabled-none, put-fits, put-next, length-tabled}
+use Rattle.table.proofs.Laws.{pad-split, length-flat, tabled-all, tabled-word, tabled-none, put-fits, put-full, put-next}
 use Rattle.judging.specs.Judging.{putRows}
 
 module _ {A : Type 0} (row : A → List ℕ) (width : ℕ) (each : (x : A) → length (row x) ≡ width) (pos : 0 < width) where
@@ -51,3 +51,31 @@ module _ {A : Type 0} (row : A → List ℕ) where
   more-rows t k (x ∷ xs) ys =
       let e : k + suc (length xs) ≡ k + 1 + length xs = omega arith in
       rw e (more-rows (putRow t k (row x)) (k + 1) xs ys)
+
+-- ---- a row stored through the part of a table that starts at it
+
+module _ (t ws ys : List ℕ) (k w : ℕ) (each : length ws ≡ w) (fits : k * w + w ≤ length t) where
+  part-long : length (drop (k * w) t) ≡ length t - k * w
+  part-long = length-drop (k * w) t
+
+  mid-is : midOf (k * w) (length t - k * w) t ≡ drop (k * w) t
+  mid-is = take-all (length t - k * w) (drop (k * w) t) (omega (arith, part-long))
+
+  post-none : postOf (k * w) (length t - k * w) t ≡ []
+  post-none = post-is (k * w) (length t) t (omega arith) ∙ drop-length t
+
+  -- the first row of what starts at row k
+  first-row : putRow (drop (k * w) t) 0 ws ≡ ws ++ drop (k * w + length ws) t
+  first-row =
+      let z : 0 * w ≡ 0 = omega arith in
+      let n : k * w + (0 + length ws) ≡ k * w + length ws = omega arith in
+      put-fits (drop (k * w) t) 0 w ws each (omega (arith, part-long, z))
+      ∙ rw z (sets-eq ws (drop (k * w) t) 0 (omega (arith, part-long, each)))
+      ∙ ap (λ (r : List ℕ). ws ++ r) (drop-drop (0 + length ws) (k * w) t ∙ ap (λ (m : ℕ). drop m t) n)
+
+  pub put-part : ys ≡ putRow (midOf (k * w) (length t - k * w) t) 0 ws → putMid (k * w) (length t - k * w) t ys ≡ putRow t k ws
+  put-part e =
+      ap (λ (z : List ℕ). take (k * w) t ++ (z ++ postOf (k * w) (length t - k * w) t)) (e ∙ ap (λ (m : List ℕ). putRow m 0 ws) mid-is ∙ first-row)
+      ∙ ap (λ (z : List ℕ). take (k * w) t ++ ((ws ++ drop (k * w + length ws) t) ++ z)) post-none
+      ∙ ap (λ (z : List ℕ). take (k * w) t ++ z) (append-nil (ws ++ drop (k * w + length ws) t))
+      ∙ sym (put-fits t k w ws each fits ∙ sets-eq ws t (k * w) (omega (arith, each)))

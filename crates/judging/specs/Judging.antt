@@ -309,11 +309,11 @@ pub data RepAt (ws : List ℕ) : ℕ → Expr → Type 0 where
 pub record Fits (ws : List ℕ) (i count : ℕ) : Type 0 where
   pub tree : Expr
   pub rep : RepAt ws i tree
-  pub room : count + exprSize tree ≤ 4294967296
+  pub room : count + exprSize tree ≤ 4611686018427387904
 
 -- the same of `/`, after its left operand
 pub record SlashFits (ws : List ℕ) (i count : ℕ) : Type 0 where
   pub left : Expr
   pub right : Expr
   pub rep : RepAt ws i (slash′ left right)
-  pub room : count + exprSize right + 1 ≤ 4294967296
+  pub room : count + exprSize right + 1 ≤ 4611686018427387904

@@ -245,7 +245,6 @@ fn truncated(tok: Token, v: Value) -> Fault
 
 // Writes a finding in the row with a number, where that fits.
 pub fn put_diag(diags: &mut [u64], row: usize, f: Fault)
-    requires { ⌜ row ≤ 4294967296 ⌝ }
     ensures { λ _. ⌜ now (diags .exit) ≡ putRow (now (diags .entry)) row (faultRow f) ⌝ }
 {
     let d = f.detail;
@@ -262,7 +261,11 @@ pub fn put_diag(diags: &mut [u64], row: usize, f: Fault)
         d.second,
         d.third,
     ];
-    table::put_row(diags, row, &words);
+    // the table may have more rows than `put_row` counts
+    if row < diags.len() / 11 {
+        let at = row * 11;
+        table::put_row(&mut diags[at..], 0, &words);
+    }
 }
 
 // ---- names
@@ -456,7 +459,7 @@ fn leaf(source: &[u8], toks: &[u64], nodes: &[u64], bindings: &[u64], imports: &
 
 // One warning more.
 pub fn warned(counts: Counts) -> Counts
-    requires { ⌜ counts .warnings < 4294967296 ⌝ }
+    requires { ⌜ counts .warnings < 4611686018427387904 ⌝ }
     ensures { λ r. ⌜ r ≡ plusWarnings counts 1 ⌝ }
 {
     Counts {
@@ -503,7 +506,7 @@ fn is_integral(kind: u64) -> bool
 // The right operand of `/` keeps its low 16 bits, with a warning where that changes it.
 fn narrow_to(toks: &[u64], diags: &mut [u64], ip: u64, t: u64, v: Value, counts: Counts) -> Judgement
     requires { ⌜ 7 ≤ length (now toks) ⌝ }
-    requires { ⌜ counts .errors + counts .warnings < 4294967296 ⌝ }
+    requires { ⌜ counts .errors + counts .warnings < 4611686018427387904 ⌝ }
     ensures { λ r. ⌜ ((s : List ℕ) → Lexed s (now (toks .entry)) → Narrows s ip t v counts (now (diags .entry)) r (now (diags .exit))) ⌝ }
 {
     if !is_integral(v.kind) {
@@ -533,7 +536,7 @@ fn narrow_to(toks: &[u64], diags: &mut [u64], ip: u64, t: u64, v: Value, counts:
 // The right operand of `/`, at the token t, where the left is an address.
 fn integral(toks: &[u64], diags: &mut [u64], ip: u64, t: u64, right: Judgement) -> Judgement
     requires { ⌜ 7 ≤ length (now toks) ⌝ }
-    requires { ⌜ right .counts .errors + right .counts .warnings < 4294967296 ⌝ }
+    requires { ⌜ right .counts .errors + right .counts .warnings < 4611686018427387904 ⌝ }
     ensures { λ r. ⌜ ((s : List ℕ) → Lexed s (now (toks .entry)) → Integral s ip t right (now (diags .entry)) r (now (diags .exit))) ⌝ }
 {
     let out = right.out;
