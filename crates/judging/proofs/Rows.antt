@@ -78,4 +78,5 @@ module _ (t ws ys : List ℕ) (k w : ℕ) (each : length ws ≡ w) (fits : k * w
       ap (λ (z : List ℕ). take (k * w) t ++ (z ++ postOf (k * w) (length t - k * w) t)) (e ∙ ap (λ (m : List ℕ). putRow m 0 ws) mid-is ∙ first-row)
       ∙ ap (λ (z : List ℕ). take (k * w) t ++ ((ws ++ drop (k * w + length ws) t) ++ z)) post-none
       ∙ ap (λ (z : List ℕ). take (k * w) t ++ z) (append-nil (ws ++ drop (k * w + length ws) t))
+      ∙ sym (append-assoc (take (k * w) t) ws (drop (k * w + length ws) t))
       ∙ sym (put-fits t k w ws each fits ∙ sets-eq ws t (k * w) (omega (arith, each)))
