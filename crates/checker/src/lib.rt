@@ -4,17 +4,14 @@ ghost use mathlib.Core.Path.{_≡_};
 ghost use mathlib.Core.List.{List, []};
 ghost use Prim.Native.Nat.{ℕ, _+_, _*_, _<_, _≤_};
 ghost use lib.ListN.{length, getD};
-ghost use Rattle.table.specs.Table.{putRow, flat};
+ghost use Rattle.table.specs.Table.{putRow};
 ghost use Rattle.language.specs.Tokens.{tokens, contents};
-ghost use Rattle.language.specs.Sentences.{Node, Stmt, nodeRow, nodes};
-ghost use Rattle.language.specs.Numbers.{tokenOf, firstCall};
+ghost use Rattle.language.specs.Sentences.{Expr, Stmt};
 ghost use Rattle.language.specs.Judgements.{Known};
-ghost use Rattle.judging.specs.Judging.{Lexed, Ready, Knows, faultRow, word, plusWarnings};
-ghost use Rattle.checker.specs.Checking.{plusError, plusStatement, plusName, plusImport, entryRow, heldRow, Narrowed′, StmtText, HeldRow, callAs, Fails, Imports, Lets, Exprs, Turns, Program, Runs, placeVerdict, StmtRow};
-ghost use Rattle.checker.specs.Entry.{CheckSource};
+ghost use Rattle.judging.specs.Judging.{Lexed, Ready, Knows, RepAt, Fits, faultRow, word, plusWarnings};
+ghost use Rattle.checker.specs.Checking.{plusError, plusStatement, plusName, plusImport, entryRow, HeldRow, bareAs, Narrow, Shown, Tells, Exprs, Room, StmtFits};
 use constants::Constants;
-use judging::{Counts, Fault, Judged, Text, Token, Value};
-use scan::Verdict;
+use judging::{Counts, Detail, Fault, Judged, Judgement, Text, Token, Value};
 use wide::{Size, Wide};
 
 // The names that are bound and imported: tables of 512 and 64 empty entries of six words each (crate `judging`).
@@ -48,12 +45,6 @@ pub enum Turn {
 pub enum Narrowed {
     Fits(Value),
     TooLarge,
-}
-
-// The first call's `(`, if there is a call.
-pub enum Called {
-    At(u64),
-    Nowhere,
 }
 
 // ---- counts
@@ -119,4 +110,145 @@ fn put_entry(entries: &mut [u64], row: usize, tok: Token, t: u64, v: Value)
 {
     let words: [u64; 6] = [tok.start, tok.end, t, v.kind, v.lo, v.hi];
     table::put_row(entries, row, &words);
+}
+
+// What is shown of a value that a statement discards: which text (0 none, 1 the source, 2 the constant table's), and two
+// words.
+fn shown(v: Value) -> Text
+    ensures { λ r. ⌜ Shown v r ⌝ }
+{
+    let kind = v.kind;
+    match kind {
+        14 => judging::type_text(v),
+        17 => Text {
+            from: 2,
+            start: v.lo,
+            end: v.hi,
+        },
+        9 => Text {
+            from: 1,
+            start: v.lo,
+            end: v.hi,
+        },
+        _ => Text {
+            from: 0,
+            start: v.lo,
+            end: v.hi,
+        },
+    }
+}
+
+// Writes a statement that discards a value, where its row fits.
+fn put_stmt(stmts: &mut [u64], row: usize, tok: Token, v: Value)
+    ensures { λ _. ⌜ HeldRow tok v row (now (stmts .entry)) (now (stmts .exit)) ⌝ }
+{
+    let text = shown(v);
+    let words: [u64; 7] = [
+        tok.line,
+        tok.column,
+        1,
+        judging::type_kind(v),
+        text.from,
+        text.start,
+        text.end,
+    ];
+    if row < stmts.len() / 7 {
+        let at = row * 7;
+        table::put_row(&mut stmts[at..], 0, &words);
+    }
+}
+
+// ---- findings
+
+fn error(diags: &mut [u64], f: Fault, counts: Counts) -> Counts
+    requires { ⌜ counts .errors + counts .warnings < 9223372036854775808 ⌝ }
+    ensures { λ r. ⌜ (r ≡ plusError counts) × (now (diags .exit) ≡ putRow (now (diags .entry)) (counts .errors + counts .warnings) (faultRow f)) ⌝ }
+{
+    judging::put_diag(diags, counts.errors + counts.warnings, f);
+    failed(counts)
+}
+
+fn warn(diags: &mut [u64], f: Fault, counts: Counts) -> Counts
+    requires { ⌜ counts .errors + counts .warnings < 4611686018427387904 ⌝ }
+    ensures { λ r. ⌜ (r ≡ plusWarnings counts 1) × (now (diags .exit) ≡ putRow (now (diags .entry)) (counts .errors + counts .warnings) (faultRow f)) ⌝ }
+{
+    judging::put_diag(diags, counts.errors + counts.warnings, f);
+    judging::warned(counts)
+}
+
+// A finding that shows nothing more than its place.
+fn bare(kind: u64, tok: Token) -> Fault
+    ensures { λ r. ⌜ r ≡ bareAs kind tok ⌝ }
+{
+    let detail = Detail {
+        severity: 1,
+        kind,
+        text: 0,
+        start: 0,
+        end: 0,
+        ty: 0,
+        first: 0,
+        second: 0,
+        third: 0,
+    };
+    Fault {
+        line: tok.line,
+        column: tok.column,
+        detail,
+    }
+}
+
+// ---- statements
+
+// For an integer with no size, narrows to the smallest type that can hold it. Any other value is returned unchanged.
+fn narrow(v: Value) -> Narrowed
+    ensures { λ r. ⌜ Narrow v r ⌝ }
+{
+    if v.kind != 16 {
+        return Narrowed::Fits(v);
+    }
+    let n = Wide { hi: v.hi, lo: v.lo };
+    let lo = v.lo;
+    match n.smallest() {
+        Size::U8 => Narrowed::Fits(Value { kind: 3, lo, hi: 0 }),
+        Size::U16 => Narrowed::Fits(Value { kind: 4, lo, hi: 0 }),
+        Size::U32 => Narrowed::Fits(Value { kind: 5, lo, hi: 0 }),
+        Size::U64 => Narrowed::Fits(Value { kind: 6, lo, hi: 0 }),
+        Size::TooLarge => Narrowed::TooLarge,
+    }
+}
+
+// The value of an expression statement, at the token t: it is discarded, with a warning.
+fn tell(toks: &[u64], diags: &mut [u64], stmts: &mut [u64], t: u64, v: Value, counts: Counts) -> Counts
+    requires { ⌜ 7 ≤ length (now toks) ⌝ }
+    requires { ⌜ Room counts ⌝ }
+    ensures { λ r. ⌜ ((s : List ℕ) → Lexed s (now (toks .entry)) → Tells s t v counts (now (diags .entry)) (now (stmts .entry)) r (now (diags .exit)) (now (stmts .exit))) ⌝ }
+{
+    let tok = judging::token_at(toks, t);
+    match narrow(v) {
+        Narrowed::Fits(w) => {
+            put_stmt(stmts, counts.statements, tok, w);
+            held_one(warn(diags, judging::typed(2, 24, tok, w, 0, 0, 0), counts))
+        }
+        Narrowed::TooLarge => error(diags, bare(22, tok), counts),
+    }
+}
+
+// An expression as a statement: row i.
+fn expr_stmt(source: &[u8], toks: &[u64], nodes: &[u64], bindings: &[u64], imports: &[u64], diags: &mut [u64], stmts: &mut [u64], i: usize, counts: Counts) -> Counts
+    requires { ⌜ Ready (now source) (now toks) (now bindings) (now imports) counts ⌝ }
+    requires { ⌜ StmtFits (now nodes) i counts × (5 * i + 5 ≤ length (now nodes)) ⌝ }
+    ensures { λ r. ⌜ ((n : ℕ) (k : Known) (e : Expr) → Knows (now (source .entry)) (now (bindings .entry)) (now (imports .entry)) counts k
+        → RepAt (now (nodes .entry)) (word (now (nodes .entry)) i 2) e
+        → Exprs (now (source .entry)) n k e counts (now (diags .entry)) (now (stmts .entry)) r (now (diags .exit)) (now (stmts .exit))) ⌝ }
+{
+    let e = judging::word(nodes, i, 2) as usize;
+    let j = judging::judge(source, toks, nodes, bindings, imports, diags, e, counts);
+    let out = j.out;
+    let found = j.counts;
+    match out {
+        Judged::Val(v) => tell(toks, diags, stmts, judging::word(nodes, e, 1), v, found),
+        Judged::Err(f) => error(diags, f, found),
+        Judged::Poisoned => found,
+    }
 }

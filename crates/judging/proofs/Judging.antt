@@ -218,14 +218,14 @@ members-none s t e = record { on = λ x y c j a. stop-none j _ a e }
 -- ---- the right operand
 
 module _ (ts : List Content) (n ip at : ℕ) (u : values.Value) where
-  right-none : integerOf u ≡ none → rightOf ts n ip at u ≡ judgement (err at (operandType right (tyInt u16) (typeOf u))) []
+  pub right-none : integerOf u ≡ none → rightOf ts n ip at u ≡ judgement (err at (operandType right (tyInt u16) (typeOf u))) []
   right-none e =
       ap (λ (o : Option ℕ). elim o [
         | some i ↦ judgement (val (values.isSock4 ip (low16 i))) (cut ts n at i)
         | none ↦ judgement (err at (operandType right (tyInt u16) (typeOf u))) []
       ]) e
 
-  right-some : {i : ℕ} → integerOf u ≡ some i → rightOf ts n ip at u ≡ judgement (val (values.isSock4 ip (low16 i))) (cut ts n at i)
+  pub right-some : {i : ℕ} → integerOf u ≡ some i → rightOf ts n ip at u ≡ judgement (val (values.isSock4 ip (low16 i))) (cut ts n at i)
   right-some e =
       ap (λ (o : Option ℕ). elim o [
         | some i ↦ judgement (val (values.isSock4 ip (low16 i))) (cut ts n at i)
@@ -233,10 +233,10 @@ module _ (ts : List Content) (n ip at : ℕ) (u : values.Value) where
       ]) e
 
 module _ (ts : List Content) (at : ℕ) (f : ℕ → judgements.Judgement) (u : values.Value) where
-  left-none : ip4Of u ≡ none → leftOf ts at f u ≡ judgement (err at (operandType left tyIp4 (typeOf u))) []
+  pub left-none : ip4Of u ≡ none → leftOf ts at f u ≡ judgement (err at (operandType left tyIp4 (typeOf u))) []
   left-none e = ap (λ (o : Option ℕ). elim o [ some n ↦ f n | none ↦ judgement (err at (operandType left tyIp4 (typeOf u))) [] ]) e
 
-  left-some : {n : ℕ} → ip4Of u ≡ some n → leftOf ts at f u ≡ f n
+  pub left-some : {n : ℕ} → ip4Of u ≡ some n → leftOf ts at f u ≡ f n
   left-some e = ap (λ (o : Option ℕ). elim o [ some n ↦ f n | none ↦ judgement (err at (operandType left tyIp4 (typeOf u))) [] ]) e
 
 pub not-integer : (s : List ℕ) (ip t : ℕ) {r : Judgement} {v : Value} {c : Counts} {x : List ℕ} → isIntegral (v .kind) ≡ false

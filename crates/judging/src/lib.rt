@@ -179,7 +179,7 @@ pub fn type_kind(v: Value) -> u64
 }
 
 // The text that a value's type shows: a function's name, in the table's text.
-fn type_text(v: Value) -> Text
+pub fn type_text(v: Value) -> Text
     ensures { λ r. ⌜ TypeText v r ⌝ }
 {
     if v.kind != 14 {
