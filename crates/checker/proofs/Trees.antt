@@ -147,3 +147,126 @@ module _ (ns : List Node) where
           length-append (exprNodes k e) (argNodes (k + exprSize e) g) ∙ omega (arith, expr-long k e, args-long (k + exprSize e) g) in
       let r = row-of i i n refl (part-right front (n ∷ []) (omega (arith, q, long)) p) in
       is-call (r .inside) (r .kind) (r .tok)
+
+-- ---- rows that are no statement
+
+pub record Small (xs : List Node) : Type 0 where
+  pub each : (j : ℕ) → j < length xs → getD xs j nowhere .kind < 11
+
+small-one : (n : Node) → n .kind < 11 → Small (n ∷ [])
+small-one n h = record { each = λ j l. by j l }
+  where
+    by : (j : ℕ) → j < 1 → getD (n ∷ []) j nowhere .kind < 11
+    by zero l = h
+    by (suc j) l = absurd (omega arith)
+
+small-cons : (x : Node) (xs : List Node) → x .kind < 11 → Small xs → Small (x ∷ xs)
+small-cons x xs h a = record { each = by }
+  where
+    by : (j : ℕ) → j < length (x ∷ xs) → getD (x ∷ xs) j nowhere .kind < 11
+    by zero l = h
+    by (suc j) l = a .each j (omega arith)
+
+small-both : (xs ys : List Node) → Small xs → Small ys → Small (xs ++ ys)
+small-both [] ys a b = b
+small-both (x ∷ xs) ys a b =
+    small-cons x (xs ++ ys) (a .each 0 (omega arith)) (small-both xs ys (record { each = λ j l. a .each (suc j) (omega arith) }) b)
+
+small-names : (t n : ℕ) → Small (nameNodes t n)
+small-names t zero = record { each = λ j l. absurd (omega arith) }
+small-names t (suc n) = small-both (nameNodes t n) _ (small-names t n) (small-one (node 1 (t + 2 * suc n) 0 0 0) (omega arith))
+
+mutual
+  small-expr : (k : ℕ) (e : Expr) → Small (exprNodes k e)
+  small-expr k (literal t) = small-one _ (omega arith)
+  small-expr k (sock4 t) = small-one _ (omega arith)
+  small-expr k (local t) = small-one _ (omega arith)
+  small-expr k (path t n) = small-both (nameNodes t n) _ (small-names t n) (small-one (node 5 t n 0 0) (omega arith))
+  small-expr k (member e t) = small-both (exprNodes k e) _ (small-expr k e) (small-one (node 6 (firstOf e) (k + exprSize e - 1) t 0) (omega arith))
+  small-expr k (slash′ a b) =
+      small-both (exprNodes k a ++ exprNodes (k + exprSize a) b) _ (small-both (exprNodes k a) _ (small-expr k a) (small-expr (k + exprSize a) b))
+      (small-one (node 7 (firstOf a) (k + exprSize a - 1) (k + exprSize a + exprSize b - 1) 0) (omega arith))
+  small-expr k (call e t g) =
+      small-both (exprNodes k e ++ argNodes (k + exprSize e) g) _ (small-both (exprNodes k e) _ (small-expr k e) (small-args (k + exprSize e) g))
+      (small-one (node 8 (firstOf e) (k + exprSize e - 1) (lastOf (k + exprSize e) g) t) (omega arith))
+
+  small-args : (k : ℕ) (g : Args) → Small (argNodes k g)
+  small-args k none-given = record { each = λ j l. absurd (omega arith) }
+  small-args k (given g e) =
+      small-both (argNodes k g ++ exprNodes (k + argsSize g) e) _ (small-both (argNodes k g) _ (small-args k g) (small-expr (k + argsSize g) e))
+      (small-one (node 9 (firstOf e) (k + argsSize g + exprSize e - 1) (lastOf k g) 0) (omega arith))
+  small-args k (named g t e) =
+      small-both (argNodes k g ++ exprNodes (k + argsSize g) e) _ (small-both (argNodes k g) _ (small-args k g) (small-expr (k + argsSize g) e))
+      (small-one (node 10 t (k + argsSize g + exprSize e - 1) (lastOf k g) 0) (omega arith))
+
+-- ---- statements
+
+length-all : (k : ℕ) (xs ys : List Node) → k + length (xs ++ ys) ≡ k + length xs + length ys
+length-all k xs ys = rw length-append (omega arith)
+
+module _ (ns : List Node) where
+  skip : (m k : ℕ) {ss : List Stmt} → ((j : ℕ) → j < m → (5 * (k + j) + 5 ≤ length (ws ns)) × (word (ws ns) (k + j) 0 < 11)) → StmtsAt (ws ns) (k + m) ss
+      → StmtsAt (ws ns) k ss
+  skip zero k {ss} h r = let z : k + 0 ≡ k = omega arith in subst (λ (n : ℕ). StmtsAt (ws ns) n ss) z r
+  skip (suc m) k {ss} h r =
+      let z : k + 0 ≡ k = omega arith in
+      let y : k + suc m ≡ k + 1 + m = omega arith in
+      let a : (5 * k + 5 ≤ length (ws ns)) × (word (ws ns) k 0 < 11) = subst (λ (n : ℕ). (5 * n + 5 ≤ length (ws ns)) × (word (ws ns) n 0 < 11)) z (h 0 (omega arith)) in
+      no-stmt (a .0) (a .1) (skip m (k + 1)
+        (λ j l. let x : k + suc j ≡ k + 1 + j = omega arith in subst (λ (n : ℕ). (5 * n + 5 ≤ length (ws ns)) × (word (ws ns) n 0 < 11)) x (h (suc j) (omega arith)))
+        (subst (λ (n : ℕ). StmtsAt (ws ns) n ss) y r))
+
+  -- the rows of a part whose nodes are no statements
+  skip-part : (xs : List Node) (k : ℕ) {n : ℕ} {ss : List Stmt} → Part ns k xs → Small xs → n ≡ length xs → StmtsAt (ws ns) (k + n) ss → StmtsAt (ws ns) k ss
+  unfolding nodeRow
+  skip-part xs k {n} {ss} p a e r =
+      skip (length xs) k (λ j l.
+        let q = p .holds j l in
+        let w : word (ws ns) (k + j) 0 ≡ getD ns (k + j) nowhere .kind = row-word ns (k + j) 0 (q .0) (omega arith) in
+        (row-in ns (k + j) (q .0), omega (arith, w, ap (λ (m : Node). m .kind) (q .1), a .each j l)))
+      (subst (λ (m : ℕ). StmtsAt (ws ns) (k + m) ss) e r)
+
+  -- an expression and the node of its statement
+  module _ (e : Expr) (k : ℕ) (n : Node) (p : Part ns k (exprNodes k e ++ n ∷ [])) where
+    stmt-row : IsRow ns (k + exprSize e) n
+    stmt-row = row-of ns (k + exprSize e) (k + exprSize e) n refl (part-right (exprNodes k e) (n ∷ []) (omega (arith, expr-long k e)) p)
+
+    stmt-tree : RepAt (ws ns) (k + exprSize e - 1) e
+    stmt-tree = rep ns e k (k + exprSize e - 1) (omega (arith, some-node e)) (part-left (exprNodes k e) (n ∷ []) p)
+
+    over : {ss : List Stmt} → StmtsAt (ws ns) (k + exprSize e) ss → StmtsAt (ws ns) k ss
+    over r = skip-part (exprNodes k e) k (part-left (exprNodes k e) (n ∷ []) p) (small-expr k e) (sym (expr-long k e)) r
+
+  from-part : (ss : List Stmt) (k : ℕ) → Part ns k (nodesFrom k ss) → length ns ≡ k + length (nodesFrom k ss) → StmtsAt (ws ns) k ss
+  unfolding nodesFrom
+  from-part [] k p l = let past : length (ws ns) ≤ 5 * k = omega (arith, l, rows-long ns) in at-end past
+  from-part (import′ t ∷ ss) k p l =
+      let n = node 11 t 0 0 0 in
+      let r = row-of ns k k n refl (part-left (n ∷ []) (nodesFrom (k + 1) ss) p) in
+      let on = from-part ss (k + 1) (part-right (n ∷ []) (nodesFrom (k + 1) ss) refl p) (omega (arith, l)) in
+      subst (λ (m : ℕ). StmtsAt (ws ns) k (import′ m ∷ ss)) (r .tok) (an-import (r .inside) (r .kind) on)
+  from-part (let′ t e ∷ ss) k p l =
+      let n = node 12 t (k + exprSize e - 1) 0 0 in
+      let m = k + length (exprNodes k e ++ n ∷ []) in
+      let one = part-left (exprNodes k e ++ n ∷ []) (nodesFrom m ss) p in
+      let long : length (exprNodes k e ++ n ∷ []) ≡ exprSize e + 1 = length-append (exprNodes k e) (n ∷ []) ∙ omega (arith, expr-long k e) in
+      let on = from-part ss m (part-right (exprNodes k e ++ n ∷ []) (nodesFrom m ss) refl p) (l ∙ length-all k (exprNodes k e ++ n ∷ []) (nodesFrom m ss)) in
+      let r = stmt-row e k n one in
+      let next : m ≡ k + exprSize e + 1 = omega (arith, long) in
+      over e k n one
+      (subst (λ (z : ℕ). StmtsAt (ws ns) (k + exprSize e) (let′ z e ∷ ss)) (r .tok)
+      (a-let (r .inside) (r .kind) (subst (λ (z : ℕ). RepAt (ws ns) z e) (sym (r .first)) (stmt-tree e k n one)) (subst (λ (z : ℕ). StmtsAt (ws ns) z ss) next on)))
+  from-part (expr′ e ∷ ss) k p l =
+      let n = node 13 (firstOf e) (k + exprSize e - 1) 0 0 in
+      let m = k + length (exprNodes k e ++ n ∷ []) in
+      let one = part-left (exprNodes k e ++ n ∷ []) (nodesFrom m ss) p in
+      let long : length (exprNodes k e ++ n ∷ []) ≡ exprSize e + 1 = length-append (exprNodes k e) (n ∷ []) ∙ omega (arith, expr-long k e) in
+      let on = from-part ss m (part-right (exprNodes k e ++ n ∷ []) (nodesFrom m ss) refl p) (l ∙ length-all k (exprNodes k e ++ n ∷ []) (nodesFrom m ss)) in
+      let r = stmt-row e k n one in
+      let next : m ≡ k + exprSize e + 1 = omega (arith, long) in
+      over e k n one
+      (an-expr (r .inside) (r .kind) (subst (λ (z : ℕ). RepAt (ws ns) z e) (sym (r .first)) (stmt-tree e k n one)) (subst (λ (z : ℕ). StmtsAt (ws ns) z ss) next on))
+
+-- the rows of a program are its statements
+pub all-stmts : (ss : List Stmt) → StmtsAt (flat nodeRow (nodes ss)) 0 ss
+all-stmts ss = from-part (nodes ss) ss 0 (part-all (nodes ss)) (omega arith)
