@@ -2,3 +2,4 @@
 pub mod Statements
 pub mod Trees
 pub mod Stores
+pub mod Imports

@@ -264,7 +264,7 @@ clean-then j f c h = clean-on (j .out) (j .warns) f (c .quiet) (c .fails) h
 
 -- ---- what a statement adds
 
-fault-row : (s : List ℕ) (n at : ℕ) (w : What) → faultRow (faultAs s at w) ≡ diagRow (tokenOf s) (diag n at w)
+pub fault-row : (s : List ℕ) (n at : ℕ) (w : What) → faultRow (faultAs s at w) ≡ diagRow (tokenOf s) (diag n at w)
 unfolding diagRow
 fault-row s n at w = refl
 

@@ -10,7 +10,6 @@ use Rattle.table.specs.Table.{putRow}
 use Rattle.table.proofs.Laws.{put-fits}
 use Rattle.language.specs.Tokens.{between}
 use Rattle.language.specs.Judgements.{Binding, Import}
-use Rattle.judging.specs.declared.Token.{Token}
 use Rattle.judging.specs.declared.Value.{Value}
 use Rattle.judging.specs.Judging.{nameWord, nameOf, bindingAt, boundIn, importAt, importsIn, opened, orNone, Canon}
 use Rattle.checker.specs.Checking.{entryRow}
@@ -97,23 +96,23 @@ module _ (s ws : List ℕ) where
   imports-long zero i = refl
   imports-long (suc k) i = ap suc (imports-long k (i + 1))
 
-module _ (s ws : List ℕ) (u : ℕ) (tok : Token) (t : ℕ) (v : Value) (fits : 6 * u + 6 ≤ length ws) where
+module _ (s ws : List ℕ) (u start end t : ℕ) (v : Value) (fits : 6 * u + 6 ≤ length ws) where
   then′ : List ℕ
-  then′ = putRow ws u (entryRow tok t v)
+  then′ = putRow ws u (entryRow start end t v)
 
-  word-at : (j : ℕ) → j < 6 → getD then′ (6 * u + j) 0 ≡ getD (entryRow tok t v) j 0
+  word-at : (j : ℕ) → j < 6 → getD then′ (6 * u + j) 0 ≡ getD (entryRow start end t v) j 0
   unfolding then′
-  word-at j h = new-word ws u (entryRow tok t v) refl fits j h
+  word-at j h = new-word ws u (entryRow start end t v) refl fits j h
 
-  word-0 : getD then′ (6 * u) 0 ≡ tok .start
+  word-0 : getD then′ (6 * u) 0 ≡ start
   word-0 = let z : 6 * u ≡ 6 * u + 0 = omega arith in ap (λ (n : ℕ). getD then′ n 0) z ∙ word-at 0 (omega arith)
 
-  pub store-name : boundIn s (putRow ws u (entryRow tok t v)) (u + 1) 0
-      ≡ boundIn s ws u 0 ++ record { name = between s (tok .start) (tok .end); tok = t; value = opened (v .kind) (v .lo) (v .hi) } ∷ []
+  pub store-name : boundIn s (putRow ws u (entryRow start end t v)) (u + 1) 0
+      ≡ boundIn s ws u 0 ++ record { name = between s (start) (end); tok = t; value = opened (v .kind) (v .lo) (v .hi) } ∷ []
   unfolding then′
   store-name =
       let z : 0 + u ≡ u = omega arith in
-      let old = same-bound s ws then′ u 0 (λ n l. old-word ws u (entryRow tok t v) refl fits n (omega arith)) in
+      let old = same-bound s ws then′ u 0 (λ n l. old-word ws u (entryRow start end t v) refl fits n (omega arith)) in
       let w1 = word-at 1 (omega arith) in
       let w2 = word-at 2 (omega arith) in
       let w3 = word-at 3 (omega arith) in
@@ -121,12 +120,12 @@ module _ (s ws : List ℕ) (u : ℕ) (tok : Token) (t : ℕ) (v : Value) (fits :
       let w5 = word-at 5 (omega arith) in
       ap (λ (n : ℕ). boundIn s then′ n 0) (add-one u) ∙ last-bound s then′ u 0 ∙ rw (old, z, word-0, w1, w2, w3, w4, w5)
 
-  pub store-import : importsIn s (putRow ws u (entryRow tok t v)) (u + 1) 0
-      ≡ importsIn s ws u 0 ++ record { name = between s (tok .start) (tok .end); found = orNone (v .kind) } ∷ []
+  pub store-import : importsIn s (putRow ws u (entryRow start end t v)) (u + 1) 0
+      ≡ importsIn s ws u 0 ++ record { name = between s (start) (end); found = orNone (v .kind) } ∷ []
   unfolding then′
   store-import =
       let z : 0 + u ≡ u = omega arith in
-      let old = same-imports s ws then′ u 0 (λ n l. old-word ws u (entryRow tok t v) refl fits n (omega arith)) in
+      let old = same-imports s ws then′ u 0 (λ n l. old-word ws u (entryRow start end t v) refl fits n (omega arith)) in
       let w1 = word-at 1 (omega arith) in
       let w3 = word-at 3 (omega arith) in
       ap (λ (n : ℕ). importsIn s then′ n 0) (add-one u) ∙ last-import s then′ u 0 ∙ rw (old, z, word-0, w1, w3)

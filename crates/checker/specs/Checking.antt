@@ -47,8 +47,8 @@ pub record Room (c : Counts) : Type 0 where
 
 -- ---- rows
 
-abbrev pub entryRow : Token → ℕ → Value → List ℕ
-entryRow tok t v = tok .start ∷ tok .end ∷ t ∷ v .kind ∷ v .lo ∷ v .hi ∷ []
+abbrev pub entryRow : ℕ → ℕ → ℕ → Value → List ℕ
+entryRow start end t v = start ∷ end ∷ t ∷ v .kind ∷ v .lo ∷ v .hi ∷ []
 
 abbrev pub bareAs : ℕ → Token → Fault
 bareAs kind t =
@@ -114,6 +114,23 @@ pub record StmtFits (ws : List ℕ) (i : ℕ) (c : Counts) : Type 0 where
   pub rep : RepAt ws (word ws i 2) tree
   pub room : c .errors + c .warnings + exprSize tree + 1 ≤ 4611686018427387904
   pub held : c .statements < 4611686018427387904
+
+-- ---- turns that may bind a name
+
+-- then the tables of names are b and i, the others y and v
+pub record Steps (s toks : List ℕ) (c : Counts) (x u : List ℕ) (c′ : Counts) (b i y v : List ℕ) (k : Known) (ds : List Diag) (hs : List Held) : Type 0 where
+  pub knows : Knows s b i c′ k
+  pub ready : Ready s toks b i c′
+  pub grows : Grows s c x u c′ y v ds hs
+
+abbrev pub TurnOf : List ℕ → List ℕ → Counts → List ℕ → List ℕ → Turn → List ℕ → List ℕ → List ℕ → List ℕ → judgements.Turn → Type 0
+TurnOf s toks c x u (Went c′) b i y v (goes k ds hs) = Steps s toks c x u c′ b i y v k ds hs
+TurnOf s toks c x u (Went c′) b i y v (full t) = ⊥
+TurnOf s toks c x u (Full t) b i y v (goes k ds hs) = ⊥
+TurnOf s toks c x u (Full t) b i y v (full t′) = t ≡ t′
+
+pub record Turns (s toks : List ℕ) (c : Counts) (x u : List ℕ) (r : Turn) (b i y v : List ℕ) (t : judgements.Turn) : Type 0 where
+  pub turn : TurnOf s toks c x u r b i y v t
 
 -- ---- statements in the node table: the loop goes over all rows
 

@@ -5,11 +5,14 @@ ghost use mathlib.Core.List.{List, []};
 ghost use Prim.Native.Nat.{ℕ, _+_, _*_, _<_, _≤_};
 ghost use lib.ListN.{length, getD};
 ghost use Rattle.table.specs.Table.{putRow};
-ghost use Rattle.language.specs.Tokens.{tokens, contents};
-ghost use Rattle.language.specs.Sentences.{Expr, Stmt};
-ghost use Rattle.language.specs.Judgements.{Known};
-ghost use Rattle.judging.specs.Judging.{Lexed, Ready, Knows, RepAt, Fits, faultRow, word, plusWarnings};
-ghost use Rattle.checker.specs.Checking.{plusError, plusStatement, plusName, plusImport, entryRow, HeldRow, bareAs, Narrow, Shown, Tells, Exprs, Room, StmtFits};
+ghost use Rattle.language.specs.Tokens.{tokens, contents, between};
+ghost use Rattle.language.specs.Numbers.{tokenOf};
+ghost use Rattle.language.specs.Values.{lookup};
+ghost use Rattle.constants.specs.Constants.{orZero};
+ghost use Rattle.language.specs.Sentences.{Expr, import′};
+ghost use Rattle.language.specs.Judgements.{Known, nameAt, stmt};
+ghost use Rattle.judging.specs.Judging.{tokenAs, Lexed, Ready, Knows, RepAt, Fits, faultRow, word, plusWarnings};
+ghost use Rattle.checker.specs.Checking.{plusError, plusStatement, plusName, plusImport, entryRow, HeldRow, bareAs, Narrow, Shown, Tells, Exprs, Turns, Room, StmtFits};
 use constants::Constants;
 use judging::{Counts, Detail, Fault, Judged, Judgement, Text, Token, Value};
 use wide::{Size, Wide};
@@ -39,6 +42,12 @@ impl Checker {
 pub enum Turn {
     Went(Counts),
     Full(u64),
+}
+
+// A part of the source.
+pub struct Span {
+    pub start: u64,
+    pub end: u64,
 }
 
 // An integer with the smallest type that holds it, if any does.
@@ -103,12 +112,25 @@ fn held_one(counts: Counts) -> Counts
 
 // ---- rows
 
-// Writes an entry of a table of names.
-fn put_entry(entries: &mut [u64], row: usize, tok: Token, t: u64, v: Value)
-    requires { ⌜ row ≤ 512 ⌝ }
-    ensures { λ _. ⌜ now (entries .exit) ≡ putRow (now (entries .entry)) row (entryRow tok t v) ⌝ }
+// Where the bytes of a name's token are; of any other none.
+fn name_span(tok: Token) -> Span
+    ensures { λ r. ⌜ ((s : List ℕ) (t : ℕ) → tok ≡ tokenAs (tokenOf s t) → between s (r .start) (r .end) ≡ nameAt (contents (tokens s)) t) ⌝ }
 {
-    let words: [u64; 6] = [tok.start, tok.end, t, v.kind, v.lo, v.hi];
+    if tok.kind == 13 {
+        return Span {
+            start: tok.start,
+            end: tok.end,
+        };
+    }
+    Span { start: 0, end: 0 }
+}
+
+// Writes an entry of a table of names.
+fn put_entry(entries: &mut [u64], row: usize, name: Span, t: u64, v: Value)
+    requires { ⌜ row ≤ 512 ⌝ }
+    ensures { λ _. ⌜ now (entries .exit) ≡ putRow (now (entries .entry)) row (entryRow (name .start) (name .end) t v) ⌝ }
+{
+    let words: [u64; 6] = [name.start, name.end, t, v.kind, v.lo, v.hi];
     table::put_row(entries, row, &words);
 }
 
@@ -251,4 +273,42 @@ fn expr_stmt(source: &[u8], toks: &[u64], nodes: &[u64], bindings: &[u64], impor
         Judged::Err(f) => error(diags, f, found),
         Judged::Poisoned => found,
     }
+}
+
+// The number of the module with a name, 0 where there is none.
+fn module_at(source: &[u8], tok: Token) -> u64
+    ensures { λ r. ⌜ ((t : ℕ) → tok ≡ tokenAs (tokenOf (now (source .entry)) t) → r ≡ orZero (lookup 0 (nameAt (contents (tokens (now (source .entry)))) t))) ⌝ }
+{
+    let table = Constants::new();
+    let rows = table.rows;
+    let text = table.text;
+    constants::lookup(&rows, &text, 0, judging::name_at(source, tok))
+}
+
+// `import` of the name at the token t. A failed import poisons its name, as a failed `let` does.
+fn import(source: &[u8], toks: &[u64], imports: &mut [u64], diags: &mut [u64], t: u64, counts: Counts) -> Turn
+    requires { ⌜ Lexed (now source) (now toks) × (384 ≤ length (now imports)) × (counts .imported ≤ 64) ⌝ }
+    requires { ⌜ Room counts ⌝ }
+    ensures { λ r. ⌜ ((n : ℕ) (k : Known) (b u : List ℕ) → Knows (now (source .entry)) b (now (imports .entry)) counts k
+        → Ready (now (source .entry)) (now (toks .entry)) b (now (imports .entry)) counts
+        → Turns (now (source .entry)) (now (toks .entry)) counts (now (diags .entry)) u r b (now (imports .exit)) (now (diags .exit)) u
+            (stmt (contents (tokens (now (source .entry)))) n k (import′ t))) ⌝ }
+{
+    let tok = judging::token_at(toks, t);
+    let imported = counts.imported;
+    let i = judging::find(source, imports, imported, judging::name_at(source, tok));
+    if i < imported {
+        return Turn::Went(warn(diags, judging::named(2, 23, tok, 0, 0), counts));
+    }
+    if Checker::IMPORTS <= imported {
+        return Turn::Full(t);
+    }
+    let kind = module_at(source, tok);
+    let v = Value { kind, lo: 0, hi: 0 };
+    put_entry(imports, imported, name_span(tok), t, v);
+    let more = imported_one(counts);
+    if kind == 0 {
+        return Turn::Went(error(diags, judging::named(1, 4, tok, 0, 0), more));
+    }
+    Turn::Went(more)
 }
