@@ -3,3 +3,4 @@ pub mod Statements
 pub mod Trees
 pub mod Stores
 pub mod Imports
+pub mod Lets

@@ -243,14 +243,14 @@ tallied [] = refl
 tallied (d ∷ ds) = omega (arith, either (isError (d .what)), tallied ds)
 
 -- what is judged warns before it fails, and fails by an error
-abbrev Failing : judgements.Judged → Type 0
+abbrev pub Failing : judgements.Judged → Type 0
 Failing (val v) = Unit {0}
 Failing (err at w) = isError w ≡ true
 Failing poisoned = Unit {0}
 
-record Clean (j : judgements.Judgement) : Type 0 where
-  quiet : errorsIn (j .warns) ≡ 0
-  fails : Failing (j .out)
+pub record Clean (j : judgements.Judgement) : Type 0 where
+  pub quiet : errorsIn (j .warns) ≡ 0
+  pub fails : Failing (j .out)
 
 clean-on : (o : judgements.Judged) (ws : List Diag) (f : values.Value → judgements.Judgement) → errorsIn ws ≡ 0 → Failing o → ((v : values.Value) → Clean (f v))
     → Clean (andThen (judgement o ws) f)
@@ -396,7 +396,7 @@ clean-bound : (ts : List Content) (t : ℕ) (o : Option Binding) → Failing (bo
 clean-bound ts t none = refl
 clean-bound ts t (some b) = clean-value (b .value)
 
-clean : (ts : List Content) (n : ℕ) (k : Known) (e : Expr) → Clean (judge ts n k e)
+pub clean : (ts : List Content) (n : ℕ) (k : Known) (e : Expr) → Clean (judge ts n k e)
 unfolding judge errorsIn
 clean ts n k (literal t) = record { quiet = refl; fails = tt }
 clean ts n k (sock4 t) = record { quiet = refl; fails = tt }
@@ -443,7 +443,7 @@ module _ (s : List ℕ) (n : ℕ) (k : Known) (c c1 : Counts) (x y u : List ℕ)
   told-val (err at m) q h = never (cc)
   told-val poisoned q h = never (cc)
 
-  told-err : (o : judgements.Judged) (t : ℕ) {f : Fault} {c′ : Counts} {z : List ℕ} → Err f ≡ judgedAs s o → Failing o → c′ ≡ plusError c1
+  pub told-err : (o : judgements.Judged) (t : ℕ) {f : Fault} {c′ : Counts} {z : List ℕ} → Err f ≡ judgedAs s o → Failing o → c′ ≡ plusError c1
       → z ≡ putRow y (c1 .errors + c1 .warnings) (faultRow f) → GoesOf s c x u c′ z u k (told (contents (tokens.tokens s)) n k t o ws)
   unfolding errorsIn warningsIn
   told-err (val d) t q h g p = never (cc)
@@ -464,7 +464,7 @@ module _ (s : List ℕ) (n : ℕ) (k : Known) (c c1 : Counts) (x y u : List ℕ)
       (refl, same-on (length ws) a names, grown s ws a b e grows)
   told-err poisoned t q h g p = never (cc)
 
-  told-none : (o : judgements.Judged) (t : ℕ) → Poisoned ≡ judgedAs s o → GoesOf s c x u c1 y u k (told (contents (tokens.tokens s)) n k t o ws)
+  pub told-none : (o : judgements.Judged) (t : ℕ) → Poisoned ≡ judgedAs s o → GoesOf s c x u c1 y u k (told (contents (tokens.tokens s)) n k t o ws)
   told-none (val d) t q = never (cc)
   told-none (err at m) t q = never (cc)
   told-none poisoned t q =

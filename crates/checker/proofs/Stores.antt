@@ -29,7 +29,7 @@ module _ (ws : List ℕ) (u : ℕ) (row : List ℕ) (six : length row ≡ 6) (fi
   stored = put-fits ws u 6 row six (omega arith) ∙ sets-eq row ws (u * 6) (omega (arith, six))
 
   -- an entry that was there
-  old-word : (n : ℕ) → n < 6 * u → getD (putRow ws u row) n 0 ≡ getD ws n 0
+  pub old-word : (n : ℕ) → n < 6 * u → getD (putRow ws u row) n 0 ≡ getD ws n 0
   unfolding front
   old-word n h =
       ap (λ (l : List ℕ). getD l n 0) stored
@@ -37,7 +37,7 @@ module _ (ws : List ℕ) (u : ℕ) (row : List ℕ) (six : length row ≡ 6) (fi
       ∙ List·getD-append front row 0 n (omega (arith, front-long))
       ∙ getD-take (u * 6) ws n 0 (omega arith)
 
-  new-word : (j : ℕ) → j < 6 → getD (putRow ws u row) (6 * u + j) 0 ≡ getD row j 0
+  pub new-word : (j : ℕ) → j < 6 → getD (putRow ws u row) (6 * u + j) 0 ≡ getD row j 0
   new-word j h =
       let z : 6 * u + j ≡ length front + j = omega (arith, front-long) in
       ap (λ (l : List ℕ). getD l (6 * u + j) 0) stored

@@ -7,12 +7,12 @@ use mathlib.Core.Option.{Option, none, some}
 use lib.ListN.{length, getD}
 use Rattle.table.specs.Table.{flat, putRow}
 use Rattle.language.specs.Tokens as tokens
-use Rattle.language.specs.Tokens.{contents}
+use Rattle.language.specs.Tokens.{contents, between}
 use Rattle.language.specs.Sentences.{Expr, Stmt, import′, let′, expr′, firstOf, exprSize}
 use Rattle.language.specs.Values as values
 use Rattle.language.specs.Values.{typeOf}
 use Rattle.language.specs.Judgements as judgements
-use Rattle.language.specs.Judgements.{Diag, Held, Known, narrowed, errorsIn, warningsIn, goes, full, discarded, told, judge}
+use Rattle.language.specs.Judgements.{Diag, Held, Known, narrowed, errorsIn, warningsIn, goes, full, discarded, told, bound, nameAt, judge}
 use Rattle.language.specs.Findings.{valueText, shownLow, shownHigh, tyKind, diagRow, stmtRow}
 use Rattle.language.specs.Numbers.{tokenOf}
 use Rattle.judging.specs.declared.Token.{Token}
@@ -20,7 +20,8 @@ use Rattle.judging.specs.declared.Value.{Value}
 use Rattle.judging.specs.declared.Text.{Text}
 use Rattle.judging.specs.declared.Fault.{Fault}
 use Rattle.judging.specs.declared.Counts.{Counts}
-use Rattle.judging.specs.Judging.{valueAs, putRows, Lexed, Ready, Knows, word, RepAt, Fits}
+use Rattle.judging.specs.declared.Judgement.{Judgement}
+use Rattle.judging.specs.Judging.{valueAs, putRows, Lexed, Ready, Knows, Agrees, word, RepAt, Fits}
 use Rattle.checker.specs.declared.Turn.{Turn}
 use Rattle.checker.specs.declared.Turn.the-variants.{Went, Full}
 use Rattle.checker.specs.declared.Narrowed.{Narrowed}
@@ -131,6 +132,13 @@ TurnOf s toks c x u (Full t) b i y v (full t′) = t ≡ t′
 
 pub record Turns (s toks : List ℕ) (c : Counts) (x u : List ℕ) (r : Turn) (b i y v : List ℕ) (t : judgements.Turn) : Type 0 where
   pub turn : TurnOf s toks c x u r b i y v t
+
+-- a `let` after its value was judged
+pub record Binds (b x′ : List ℕ) (start end t : ℕ) (j : Judgement) (c′ : Counts) (b′ y : List ℕ) : Type 0 where
+  pub is : (s toks i x u : List ℕ) (n : ℕ) (k : Known) (c : Counts) (e : Expr) → Knows s b i c k → Ready s toks b i c
+      → between s start end ≡ nameAt (contents (tokens.tokens s)) t → Agrees s j x x′ c (judge (contents (tokens.tokens s)) n k e)
+      → TurnOf s toks c x u (Went c′) b′ i y u
+          (bound (contents (tokens.tokens s)) n k t (judge (contents (tokens.tokens s)) n k e .out) (judge (contents (tokens.tokens s)) n k e .warns))
 
 -- ---- statements in the node table: the loop goes over all rows
 

@@ -12,7 +12,7 @@ ghost use Rattle.constants.specs.Constants.{orZero};
 ghost use Rattle.language.specs.Sentences.{Expr, import′};
 ghost use Rattle.language.specs.Judgements.{Known, nameAt, stmt};
 ghost use Rattle.judging.specs.Judging.{tokenAs, Lexed, Ready, Knows, RepAt, Fits, faultRow, word, plusWarnings};
-ghost use Rattle.checker.specs.Checking.{plusError, plusStatement, plusName, plusImport, entryRow, HeldRow, bareAs, Narrow, Shown, Tells, Exprs, Turns, Room, StmtFits};
+ghost use Rattle.checker.specs.Checking.{plusError, plusStatement, plusName, plusImport, entryRow, HeldRow, bareAs, Narrow, Shown, Tells, Exprs, Turns, Binds, Room, StmtFits};
 use constants::Constants;
 use judging::{Counts, Detail, Fault, Judged, Judgement, Text, Token, Value};
 use wide::{Size, Wide};
@@ -311,4 +311,33 @@ fn import(source: &[u8], toks: &[u64], imports: &mut [u64], diags: &mut [u64], t
         return Turn::Went(error(diags, judging::named(1, 4, tok, 0, 0), more));
     }
     Turn::Went(more)
+}
+
+// Binds a name to what its value came to; where that failed, to nothing.
+fn bind(bindings: &mut [u64], diags: &mut [u64], name: Span, t: u64, j: Judgement) -> Counts
+    requires { ⌜ (j .counts .used < 512) × (3072 ≤ length (now bindings)) ⌝ }
+    requires { ⌜ Room (j .counts) ⌝ }
+    ensures { λ r. ⌜ Binds (now (bindings .entry)) (now (diags .entry)) (name .start) (name .end) t j r (now (bindings .exit)) (now (diags .exit)) ⌝ }
+{
+    let out = j.out;
+    let counts = j.counts;
+    let none = Value {
+        kind: 0,
+        lo: 0,
+        hi: 0,
+    };
+    match out {
+        Judged::Val(v) => {
+            put_entry(bindings, counts.used, name, t, v);
+            named_one(counts)
+        }
+        Judged::Err(f) => {
+            put_entry(bindings, counts.used, name, t, none);
+            named_one(error(diags, f, counts))
+        }
+        Judged::Poisoned => {
+            put_entry(bindings, counts.used, name, t, none);
+            named_one(counts)
+        }
+    }
 }
