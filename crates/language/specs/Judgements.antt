@@ -11,7 +11,7 @@ use Rattle.language.specs.Choice.{if′}
 use Rattle.language.specs.Integers.{IntType, u16, smallest, low16, isTruncated}
 use Rattle.language.specs.Lexemes.{Tok, lParen, rParen, dot, doubleColon, colon, semiColon, equals, comma, slash, importKeyword, letKeyword, identifier, booleanLiteral, ipv4Literal, hexLiteral, decLiteral, same}
 use Rattle.language.specs.Tokens.{Content, eof, plain, name, string}
-use Rattle.language.specs.Tables.{bit}
+use Rattle.language.specs.Tables.{bit, contentLow}
 use Rattle.language.specs.Sentences.{Expr, literal, sock4, local, path, member, call, slash′, Stmt, import′, let′, expr′, firstOf}
 use Rattle.language.specs.Values.{Value, isInteger, isBool, isSized, isIp4, isSock4, isString, isText, isFunction, Ty, tyInt, tyIp4, typeOf, Entry, entryAt, lookup}
 
@@ -163,17 +163,6 @@ literalValue t (plain k) = tokValue k
 literalValue t (name bs) = isInteger 0
 literalValue t eof = isInteger 0
 
--- the number that a token carries
-abbrev pub numberOf : Value → ℕ
-numberOf (isInteger n) = n
-numberOf (isIp4 n) = n
-numberOf (isBool b) = 0
-numberOf (isSized t n) = 0
-numberOf (isSock4 n p) = 0
-numberOf (isString t) = 0
-numberOf (isText a b) = 0
-numberOf (isFunction k) = 0
-
 abbrev pub nameIn : Content → List ℕ
 nameIn (name bs) = bs
 nameIn eof = []
@@ -289,7 +278,7 @@ module _ (ts : List Content) where
     -- an expression of the statement numbered n. Calls are refused before.
     unfoldable pub judge : Known → Expr → Judgement
     judge k (literal t) = judgement (val (literalAt t)) []
-    judge k (sock4 t) = judgement (val (isSock4 (numberOf (literalAt t)) (numberOf (literalAt (t + 2))))) []
+    judge k (sock4 t) = judgement (val (isSock4 (contentLow (content t)) (contentLow (content (t + 2))))) []
     judge k (local t) = judgement (boundTo t (find (k .bindings) (nameAt t))) []
     judge k (path t m) = judgement (below t m (findImport (k .imports) (nameAt t))) []
     -- "In the base no value has members: `NoMembers`, at the name"

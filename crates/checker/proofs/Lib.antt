@@ -1,0 +1,6 @@
+-- The laws that the proofs of the functions cite.
+pub mod Statements
+pub mod Trees
+pub mod Stores
+pub mod Imports
+pub mod Lets

@@ -1,0 +1,272 @@
+-- The rows of a program's nodes stand for its trees and its statements.
+use mathlib.Core.Path.{_≡_, refl, sym, ap, subst, _∙_}
+use mathlib.Core.List.{List, [], _∷_, _++_, append-assoc}
+use Prim.Native.Nat.{ℕ, zero, suc, _+_, _-_, _*_, _≤_, _<_}
+use native.Mathlib.Omega.{arith}
+use lib.ListN.{length, getD, length-append, List·getD-append}
+use lib.Seq.{getD-append-add}
+use Rattle.table.specs.Table.{flat}
+use Rattle.table.proofs.Laws.{length-flat}
+use Rattle.language.specs.Sentences.{Expr, literal, sock4, local, path, member, call, slash′, Args, none-given, given, named, Stmt, import′, let′, expr′, firstOf, Node, node, nameNodes, exprSize, argsSize, lastOf, exprNodes, argNodes, stmtNodes, nodesFrom, nodes, nodeRow}
+use Rattle.judging.specs.Judging.{word, RepAt, is-literal, is-sock4, is-local, is-path, is-member, is-slash, is-call}
+use Rattle.judging.proofs.Rows.{flat-word}
+use Rattle.checker.specs.Checking.{StmtsAt, at-end, no-stmt, an-import, a-let, an-expr}
+
+-- past the end
+abbrev nowhere : Node
+nowhere = node 0 0 0 0 0
+
+row-long : (n : Node) → length (nodeRow n) ≡ 5
+unfolding nodeRow
+row-long n = refl
+
+-- ---- how many nodes there are
+
+names-long : (t n : ℕ) → length (nameNodes t n) ≡ n
+names-long t zero = refl
+names-long t (suc n) = length-append (nameNodes t n) (node 1 (t + 2 * suc n) 0 0 0 ∷ []) ∙ omega (arith, names-long t n)
+
+mutual
+  expr-long : (k : ℕ) (e : Expr) → length (exprNodes k e) ≡ exprSize e
+  expr-long k (literal t) = refl
+  expr-long k (sock4 t) = refl
+  expr-long k (local t) = refl
+  expr-long k (path t n) = length-append (nameNodes t n) _ ∙ omega (arith, names-long t n)
+  expr-long k (member e t) = length-append (exprNodes k e) _ ∙ omega (arith, expr-long k e)
+  expr-long k (slash′ a b) = simp length-append (omega (arith, expr-long k a, expr-long (k + exprSize a) b))
+  expr-long k (call e t g) = simp length-append (omega (arith, expr-long k e, args-long (k + exprSize e) g))
+
+  args-long : (k : ℕ) (g : Args) → length (argNodes k g) ≡ argsSize g
+  args-long k none-given = refl
+  args-long k (given g e) = simp length-append (omega (arith, args-long k g, expr-long (k + argsSize g) e))
+  args-long k (named g t e) = simp length-append (omega (arith, args-long k g, expr-long (k + argsSize g) e))
+
+some-node : (e : Expr) → 1 ≤ exprSize e
+some-node (literal t) = omega arith
+some-node (sock4 t) = omega arith
+some-node (local t) = omega arith
+some-node (path t n) = omega arith
+some-node (member e t) = omega arith
+some-node (slash′ a b) = omega arith
+some-node (call e t g) = omega arith
+
+-- ---- a part of the nodes, from the one numbered k on
+
+pub record Part (ns : List Node) (k : ℕ) (xs : List Node) : Type 0 where
+  pub holds : (j : ℕ) → j < length xs → (k + j < length ns) × (getD ns (k + j) nowhere ≡ getD xs j nowhere)
+
+module _ {ns : List Node} {k : ℕ} where
+  part-left : (xs ys : List Node) → Part ns k (xs ++ ys) → Part ns k xs
+  part-left xs ys p =
+      record { holds = λ j h.
+        let q = p .holds j (rw length-append (omega arith)) in
+        (q .0, q .1 ∙ List·getD-append xs ys nowhere j h) }
+
+  part-right : (xs ys : List Node) {n : ℕ} → n ≡ k + length xs → Part ns k (xs ++ ys) → Part ns n ys
+  part-right xs ys {n} e p =
+      record { holds = λ j h.
+        let q = p .holds (length xs + j) (rw length-append (omega arith)) in
+        let z : k + (length xs + j) ≡ n + j = omega (arith, e) in
+        (omega (arith, q .0, z), ap (λ (m : ℕ). getD ns m nowhere) (sym z) ∙ q .1 ∙ getD-append-add xs ys j nowhere) }
+
+-- the whole
+pub part-all : (ns : List Node) → Part ns 0 ns
+part-all ns = record { holds = λ j h. let z : 0 + j ≡ j = omega arith in (omega (arith, h), ap (λ (m : ℕ). getD ns m nowhere) z) }
+
+module _ (ns : List Node) where
+  abbrev ws : List ℕ
+  ws = flat nodeRow ns
+
+  rows-long : length ws ≡ 5 * length ns
+  rows-long = length-flat nodeRow 5 row-long ns ∙ omega arith
+
+  row-in : (i : ℕ) → i < length ns → 5 * i + 5 ≤ length ws
+  row-in i h = omega (arith, rows-long)
+
+  row-word : (i j : ℕ) → i < length ns → j < 5 → word ws i j ≡ getD (nodeRow (getD ns i nowhere)) j 0
+  row-word i j h l = flat-word nodeRow 5 row-long (omega arith) ns i j h l nowhere
+
+  -- the words of a node
+  pub record IsRow (i : ℕ) (n : Node) : Type 0 where
+    pub inside : 5 * i + 5 ≤ length ws
+    pub kind : word ws i 0 ≡ n .kind
+    pub tok : word ws i 1 ≡ n .tok
+    pub first : word ws i 2 ≡ n .first
+    pub second : word ws i 3 ≡ n .second
+
+  -- the one node of a part
+  row-of : (i k : ℕ) (n : Node) → i ≡ k → Part ns k (n ∷ []) → IsRow i n
+  unfolding nodeRow
+  row-of i k n e p =
+      let q = p .holds 0 (omega arith) in
+      let z : k + 0 ≡ i = omega (arith, e) in
+      let l : i < length ns = omega (arith, q .0, z) in
+      let same : getD ns i nowhere ≡ n = ap (λ (m : ℕ). getD ns m nowhere) (sym z) ∙ q .1 in
+      record {
+        inside = row-in i l;
+        kind = row-word i 0 l (omega arith) ∙ ap (λ (m : Node). m .kind) same;
+        tok = row-word i 1 l (omega arith) ∙ ap (λ (m : Node). m .tok) same;
+        first = row-word i 2 l (omega arith) ∙ ap (λ (m : Node). m .first) same;
+        second = row-word i 3 l (omega arith) ∙ ap (λ (m : Node). m .second) same;
+      }
+
+  rep : (e : Expr) (k i : ℕ) → i + 1 ≡ k + exprSize e → Part ns k (exprNodes k e) → RepAt ws i e
+  rep (literal t) k i q p =
+      let r = row-of i k (node 2 t 0 0 0) (omega arith) p in
+      subst (λ (m : ℕ). RepAt ws i (literal m)) (r .tok) (is-literal (r .inside) (r .kind))
+  rep (sock4 t) k i q p =
+      let r = row-of i k (node 3 t 0 0 0) (omega arith) p in
+      subst (λ (m : ℕ). RepAt ws i (sock4 m)) (r .tok) (is-sock4 (r .inside) (r .kind))
+  rep (local t) k i q p =
+      let r = row-of i k (node 4 t 0 0 0) (omega arith) p in
+      subst (λ (m : ℕ). RepAt ws i (local m)) (r .tok) (is-local (r .inside) (r .kind))
+  rep (path t n) k i q p =
+      let r = row-of i i (node 5 t n 0 0) refl (part-right (nameNodes t n) (node 5 t n 0 0 ∷ []) (omega (arith, q, names-long t n)) p) in
+      subst (λ (m : ℕ). RepAt ws i (path t m)) (r .first) (subst (λ (m : ℕ). RepAt ws i (path m (word ws i 2))) (r .tok) (is-path (r .inside) (r .kind)))
+  rep (member e t) k i q p =
+      let n = node 6 (firstOf e) (k + exprSize e - 1) t 0 in
+      let r = row-of i i n refl (part-right (exprNodes k e) (n ∷ []) (omega (arith, q, expr-long k e)) p) in
+      let c = rep e k (k + exprSize e - 1) (omega (arith, some-node e)) (part-left (exprNodes k e) (n ∷ []) p) in
+      subst (λ (m : ℕ). RepAt ws i (member e m)) (r .second)
+      (is-member (r .inside) (r .kind) (r .tok) (omega (arith, q, r .first, some-node e)) (subst (λ (m : ℕ). RepAt ws m e) (sym (r .first)) c))
+  rep (slash′ a b) k i q p =
+      let n = node 7 (firstOf a) (k + exprSize a - 1) (k + exprSize a + exprSize b - 1) 0 in
+      let front = part-left (exprNodes k a ++ exprNodes (k + exprSize a) b) (n ∷ []) p in
+      let long : length (exprNodes k a ++ exprNodes (k + exprSize a) b) ≡ exprSize a + exprSize b =
+          length-append (exprNodes k a) (exprNodes (k + exprSize a) b) ∙ omega (arith, expr-long k a, expr-long (k + exprSize a) b) in
+      let r = row-of i i n refl (part-right (exprNodes k a ++ exprNodes (k + exprSize a) b) (n ∷ []) (omega (arith, q, long)) p) in
+      let l = rep a k (k + exprSize a - 1) (omega (arith, some-node a)) (part-left (exprNodes k a) (exprNodes (k + exprSize a) b) front) in
+      let m = rep b (k + exprSize a) (k + exprSize a + exprSize b - 1) (omega (arith, some-node b))
+          (part-right (exprNodes k a) (exprNodes (k + exprSize a) b) (omega (arith, expr-long k a)) front) in
+      is-slash (r .inside) (r .kind) (r .tok) (omega (arith, q, r .first, some-node a, some-node b)) (omega (arith, q, r .second, some-node b))
+      (subst (λ (z : ℕ). RepAt ws z a) (sym (r .first)) l) (subst (λ (z : ℕ). RepAt ws z b) (sym (r .second)) m)
+  rep (call e t g) k i q p =
+      let n = node 8 (firstOf e) (k + exprSize e - 1) (lastOf (k + exprSize e) g) t in
+      let front = exprNodes k e ++ argNodes (k + exprSize e) g in
+      let long : length front ≡ exprSize e + argsSize g =
+          length-append (exprNodes k e) (argNodes (k + exprSize e) g) ∙ omega (arith, expr-long k e, args-long (k + exprSize e) g) in
+      let r = row-of i i n refl (part-right front (n ∷ []) (omega (arith, q, long)) p) in
+      is-call (r .inside) (r .kind) (r .tok)
+
+-- ---- rows that are no statement
+
+pub record Small (xs : List Node) : Type 0 where
+  pub each : (j : ℕ) → j < length xs → getD xs j nowhere .kind < 11
+
+small-one : (n : Node) → n .kind < 11 → Small (n ∷ [])
+small-one n h = record { each = λ j l. by j l }
+  where
+    by : (j : ℕ) → j < 1 → getD (n ∷ []) j nowhere .kind < 11
+    by zero l = h
+    by (suc j) l = absurd (omega arith)
+
+small-cons : (x : Node) (xs : List Node) → x .kind < 11 → Small xs → Small (x ∷ xs)
+small-cons x xs h a = record { each = by }
+  where
+    by : (j : ℕ) → j < length (x ∷ xs) → getD (x ∷ xs) j nowhere .kind < 11
+    by zero l = h
+    by (suc j) l = a .each j (omega arith)
+
+small-both : (xs ys : List Node) → Small xs → Small ys → Small (xs ++ ys)
+small-both [] ys a b = b
+small-both (x ∷ xs) ys a b =
+    small-cons x (xs ++ ys) (a .each 0 (omega arith)) (small-both xs ys (record { each = λ j l. a .each (suc j) (omega arith) }) b)
+
+small-names : (t n : ℕ) → Small (nameNodes t n)
+small-names t zero = record { each = λ j l. absurd (omega arith) }
+small-names t (suc n) = small-both (nameNodes t n) _ (small-names t n) (small-one (node 1 (t + 2 * suc n) 0 0 0) (omega arith))
+
+mutual
+  small-expr : (k : ℕ) (e : Expr) → Small (exprNodes k e)
+  small-expr k (literal t) = small-one _ (omega arith)
+  small-expr k (sock4 t) = small-one _ (omega arith)
+  small-expr k (local t) = small-one _ (omega arith)
+  small-expr k (path t n) = small-both (nameNodes t n) _ (small-names t n) (small-one (node 5 t n 0 0) (omega arith))
+  small-expr k (member e t) = small-both (exprNodes k e) _ (small-expr k e) (small-one (node 6 (firstOf e) (k + exprSize e - 1) t 0) (omega arith))
+  small-expr k (slash′ a b) =
+      small-both (exprNodes k a ++ exprNodes (k + exprSize a) b) _ (small-both (exprNodes k a) _ (small-expr k a) (small-expr (k + exprSize a) b))
+      (small-one (node 7 (firstOf a) (k + exprSize a - 1) (k + exprSize a + exprSize b - 1) 0) (omega arith))
+  small-expr k (call e t g) =
+      small-both (exprNodes k e ++ argNodes (k + exprSize e) g) _ (small-both (exprNodes k e) _ (small-expr k e) (small-args (k + exprSize e) g))
+      (small-one (node 8 (firstOf e) (k + exprSize e - 1) (lastOf (k + exprSize e) g) t) (omega arith))
+
+  small-args : (k : ℕ) (g : Args) → Small (argNodes k g)
+  small-args k none-given = record { each = λ j l. absurd (omega arith) }
+  small-args k (given g e) =
+      small-both (argNodes k g ++ exprNodes (k + argsSize g) e) _ (small-both (argNodes k g) _ (small-args k g) (small-expr (k + argsSize g) e))
+      (small-one (node 9 (firstOf e) (k + argsSize g + exprSize e - 1) (lastOf k g) 0) (omega arith))
+  small-args k (named g t e) =
+      small-both (argNodes k g ++ exprNodes (k + argsSize g) e) _ (small-both (argNodes k g) _ (small-args k g) (small-expr (k + argsSize g) e))
+      (small-one (node 10 t (k + argsSize g + exprSize e - 1) (lastOf k g) 0) (omega arith))
+
+-- ---- statements
+
+length-all : (k : ℕ) (xs ys : List Node) → k + length (xs ++ ys) ≡ k + length xs + length ys
+length-all k xs ys = rw length-append (omega arith)
+
+module _ (ns : List Node) where
+  skip : (m k : ℕ) {ss : List Stmt} → ((j : ℕ) → j < m → (5 * (k + j) + 5 ≤ length (ws ns)) × (word (ws ns) (k + j) 0 < 11)) → StmtsAt (ws ns) (k + m) ss
+      → StmtsAt (ws ns) k ss
+  skip zero k {ss} h r = let z : k + 0 ≡ k = omega arith in subst (λ (n : ℕ). StmtsAt (ws ns) n ss) z r
+  skip (suc m) k {ss} h r =
+      let z : k + 0 ≡ k = omega arith in
+      let y : k + suc m ≡ k + 1 + m = omega arith in
+      let a : (5 * k + 5 ≤ length (ws ns)) × (word (ws ns) k 0 < 11) = subst (λ (n : ℕ). (5 * n + 5 ≤ length (ws ns)) × (word (ws ns) n 0 < 11)) z (h 0 (omega arith)) in
+      no-stmt (a .0) (a .1) (skip m (k + 1)
+        (λ j l. let x : k + suc j ≡ k + 1 + j = omega arith in subst (λ (n : ℕ). (5 * n + 5 ≤ length (ws ns)) × (word (ws ns) n 0 < 11)) x (h (suc j) (omega arith)))
+        (subst (λ (n : ℕ). StmtsAt (ws ns) n ss) y r))
+
+  -- the rows of a part whose nodes are no statements
+  skip-part : (xs : List Node) (k : ℕ) {n : ℕ} {ss : List Stmt} → Part ns k xs → Small xs → n ≡ length xs → StmtsAt (ws ns) (k + n) ss → StmtsAt (ws ns) k ss
+  unfolding nodeRow
+  skip-part xs k {n} {ss} p a e r =
+      skip (length xs) k (λ j l.
+        let q = p .holds j l in
+        let w : word (ws ns) (k + j) 0 ≡ getD ns (k + j) nowhere .kind = row-word ns (k + j) 0 (q .0) (omega arith) in
+        (row-in ns (k + j) (q .0), omega (arith, w, ap (λ (m : Node). m .kind) (q .1), a .each j l)))
+      (subst (λ (m : ℕ). StmtsAt (ws ns) (k + m) ss) e r)
+
+  -- an expression and the node of its statement
+  module _ (e : Expr) (k : ℕ) (n : Node) (p : Part ns k (exprNodes k e ++ n ∷ [])) where
+    stmt-row : IsRow ns (k + exprSize e) n
+    stmt-row = row-of ns (k + exprSize e) (k + exprSize e) n refl (part-right (exprNodes k e) (n ∷ []) (omega (arith, expr-long k e)) p)
+
+    stmt-tree : RepAt (ws ns) (k + exprSize e - 1) e
+    stmt-tree = rep ns e k (k + exprSize e - 1) (omega (arith, some-node e)) (part-left (exprNodes k e) (n ∷ []) p)
+
+    over : {ss : List Stmt} → StmtsAt (ws ns) (k + exprSize e) ss → StmtsAt (ws ns) k ss
+    over r = skip-part (exprNodes k e) k (part-left (exprNodes k e) (n ∷ []) p) (small-expr k e) (sym (expr-long k e)) r
+
+  from-part : (ss : List Stmt) (k : ℕ) → Part ns k (nodesFrom k ss) → length ns ≡ k + length (nodesFrom k ss) → StmtsAt (ws ns) k ss
+  unfolding nodesFrom
+  from-part [] k p l = let past : length (ws ns) ≤ 5 * k = omega (arith, l, rows-long ns) in at-end past
+  from-part (import′ t ∷ ss) k p l =
+      let n = node 11 t 0 0 0 in
+      let r = row-of ns k k n refl (part-left (n ∷ []) (nodesFrom (k + 1) ss) p) in
+      let on = from-part ss (k + 1) (part-right (n ∷ []) (nodesFrom (k + 1) ss) refl p) (omega (arith, l)) in
+      subst (λ (m : ℕ). StmtsAt (ws ns) k (import′ m ∷ ss)) (r .tok) (an-import (r .inside) (r .kind) on)
+  from-part (let′ t e ∷ ss) k p l =
+      let n = node 12 t (k + exprSize e - 1) 0 0 in
+      let m = k + length (exprNodes k e ++ n ∷ []) in
+      let one = part-left (exprNodes k e ++ n ∷ []) (nodesFrom m ss) p in
+      let long : length (exprNodes k e ++ n ∷ []) ≡ exprSize e + 1 = length-append (exprNodes k e) (n ∷ []) ∙ omega (arith, expr-long k e) in
+      let on = from-part ss m (part-right (exprNodes k e ++ n ∷ []) (nodesFrom m ss) refl p) (l ∙ length-all k (exprNodes k e ++ n ∷ []) (nodesFrom m ss)) in
+      let r = stmt-row e k n one in
+      let next : m ≡ k + exprSize e + 1 = omega (arith, long) in
+      over e k n one
+      (subst (λ (z : ℕ). StmtsAt (ws ns) (k + exprSize e) (let′ z e ∷ ss)) (r .tok)
+      (a-let (r .inside) (r .kind) (subst (λ (z : ℕ). RepAt (ws ns) z e) (sym (r .first)) (stmt-tree e k n one)) (subst (λ (z : ℕ). StmtsAt (ws ns) z ss) next on)))
+  from-part (expr′ e ∷ ss) k p l =
+      let n = node 13 (firstOf e) (k + exprSize e - 1) 0 0 in
+      let m = k + length (exprNodes k e ++ n ∷ []) in
+      let one = part-left (exprNodes k e ++ n ∷ []) (nodesFrom m ss) p in
+      let long : length (exprNodes k e ++ n ∷ []) ≡ exprSize e + 1 = length-append (exprNodes k e) (n ∷ []) ∙ omega (arith, expr-long k e) in
+      let on = from-part ss m (part-right (exprNodes k e ++ n ∷ []) (nodesFrom m ss) refl p) (l ∙ length-all k (exprNodes k e ++ n ∷ []) (nodesFrom m ss)) in
+      let r = stmt-row e k n one in
+      let next : m ≡ k + exprSize e + 1 = omega (arith, long) in
+      over e k n one
+      (an-expr (r .inside) (r .kind) (subst (λ (z : ℕ). RepAt (ws ns) z e) (sym (r .first)) (stmt-tree e k n one)) (subst (λ (z : ℕ). StmtsAt (ws ns) z ss) next on))
+
+-- the rows of a program are its statements
+pub all-stmts : (ss : List Stmt) → StmtsAt (flat nodeRow (nodes ss)) 0 ss
+all-stmts ss = from-part (nodes ss) ss 0 (part-all (nodes ss)) (omega arith)

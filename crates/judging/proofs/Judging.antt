@@ -1,0 +1,474 @@
+-- Rows of trees, and each way through judging one, as the code takes it.
+use mathlib.Core.Path.{_≡_, refl, sym, ap, subst, _∙_}
+use mathlib.Core.Bool.{Bool, true, false}
+use mathlib.Core.List.{List, [], _∷_, _++_, append-nil}
+use mathlib.Core.Option.{Option, none, some}
+use Prim.Native.Nat.{ℕ, zero, suc, _+_, _*_, _/_, _%_, _≤_, _<_}
+use native.Mathlib.Omega.{arith}
+use lib.ListN.{length, getD, length-append}
+use Rattle.table.specs.Table.{putRow}
+use Rattle.language.specs.Choice.{if′}
+use Rattle.language.specs.Integers.{u16, low16, isTruncated}
+use Rattle.language.specs.Tables as tables
+use Rattle.language.specs.Tokens as tokens
+use Rattle.language.specs.Tokens.{Content, contents}
+use Rattle.language.specs.Sentences.{Expr, literal, sock4, local, path, member, call, slash′, Args, firstOf, exprSize}
+use Rattle.language.specs.Values as values
+use Rattle.language.specs.Values.{Ty, tyInt, tyIp4, typeOf}
+use Rattle.language.specs.Judgements as judgements
+use Rattle.language.specs.Judgements.{What, Diag, diag, val, err, poisoned, judgement, Known, andThen, goesOn, leftOf, rightOf, cut, left, right, noMembers, operandType, truncated, integerOf, ip4Of, boundTo, below, find, findImport, nameAt, literalAt, judge}
+use Rattle.language.specs.Findings.{diagRow, valueLow, valueHigh}
+use Rattle.language.specs.Numbers.{tokenOf}
+use Rattle.judging.specs.declared.Token.{Token}
+use Rattle.judging.specs.declared.Value.{Value}
+use Rattle.judging.specs.declared.Fault.{Fault}
+use Rattle.judging.specs.declared.Counts.{Counts}
+use Rattle.judging.specs.declared.Judged.{Judged}
+use Rattle.judging.specs.declared.Judged.the-variants.{Val, Err, Poisoned}
+use Rattle.judging.specs.declared.Judgement.{Judgement}
+use Rattle.judging.specs.Judging.{tokenAs, valueAs, sock4As, faultAs, typedAs, truncatedAs, faultRow, judgedAs, putRows, isIntegral, boundIn, importsIn, knownIn, Knows, Ready, LocalIs, PathIs, plusWarnings, Agrees, LeafIs, Members, Operand, Narrows, Integral, word, RepAt, is-literal, is-sock4, is-local, is-path, is-member, is-slash, is-call, Fits, SlashFits}
+use Rattle.judging.proofs.Rows.{no-rows, one-row, more-rows}
+use Rattle.judging.proofs.TokenRows.{content-of}
+use Rattle.judging.proofs.Values.{numberAs, integer-is, integer-not, ip4-is, ip4-not}
+
+-- ---- rows
+
+pub record MemberAt (ws : List ℕ) (i : ℕ) (e : Expr) : Type 0 where
+  pub inner : Expr
+  pub near : word ws i 2 < i
+  pub rep : RepAt ws (word ws i 2) inner
+  pub is : e ≡ member inner (word ws i 3)
+
+pub record SlashAt (ws : List ℕ) (i : ℕ) (e : Expr) : Type 0 where
+  pub left : Expr
+  pub right : Expr
+  pub first : word ws i 1 ≡ firstOf left
+  pub near : word ws i 2 < i
+  pub near′ : word ws i 3 < i
+  pub left-rep : RepAt ws (word ws i 2) left
+  pub right-rep : RepAt ws (word ws i 3) right
+  pub is : e ≡ slash′ left right
+
+module _ {ws : List ℕ} where
+  pub row-in : {i : ℕ} {e : Expr} → RepAt ws i e → 5 * i + 5 ≤ length ws
+  row-in (is-literal f k) = f
+  row-in (is-sock4 f k) = f
+  row-in (is-local f k) = f
+  row-in (is-path f k) = f
+  row-in (is-member f k z n r) = f
+  row-in (is-slash f k z n m a b) = f
+  row-in (is-call f k z) = f
+
+  -- a row names the first token
+  pub first-at : {i : ℕ} {e : Expr} → RepAt ws i e → word ws i 1 ≡ firstOf e
+  first-at (is-literal f k) = refl
+  first-at (is-sock4 f k) = refl
+  first-at (is-local f k) = refl
+  first-at (is-path f k) = refl
+  first-at (is-member f k z n r) = z
+  first-at (is-slash f k z n m a b) = z
+  first-at (is-call f k z) = z
+
+  literal-at : {i : ℕ} {e : Expr} → RepAt ws i e → word ws i 0 ≡ 2 → e ≡ literal (word ws i 1)
+  literal-at (is-literal f k) q = refl
+  literal-at (is-sock4 f k) q = absurd (omega arith)
+  literal-at (is-local f k) q = absurd (omega arith)
+  literal-at (is-path f k) q = absurd (omega arith)
+  literal-at (is-member f k z n r) q = absurd (omega arith)
+  literal-at (is-slash f k z n m a b) q = absurd (omega arith)
+  literal-at (is-call f k z) q = absurd (omega arith)
+
+  sock4-at : {i : ℕ} {e : Expr} → RepAt ws i e → word ws i 0 ≡ 3 → e ≡ sock4 (word ws i 1)
+  sock4-at (is-literal f k) q = absurd (omega arith)
+  sock4-at (is-sock4 f k) q = refl
+  sock4-at (is-local f k) q = absurd (omega arith)
+  sock4-at (is-path f k) q = absurd (omega arith)
+  sock4-at (is-member f k z n r) q = absurd (omega arith)
+  sock4-at (is-slash f k z n m a b) q = absurd (omega arith)
+  sock4-at (is-call f k z) q = absurd (omega arith)
+
+  local-at : {i : ℕ} {e : Expr} → RepAt ws i e → word ws i 0 ≡ 4 → e ≡ local (word ws i 1)
+  local-at (is-literal f k) q = absurd (omega arith)
+  local-at (is-sock4 f k) q = absurd (omega arith)
+  local-at (is-local f k) q = refl
+  local-at (is-path f k) q = absurd (omega arith)
+  local-at (is-member f k z n r) q = absurd (omega arith)
+  local-at (is-slash f k z n m a b) q = absurd (omega arith)
+  local-at (is-call f k z) q = absurd (omega arith)
+
+  path-at : {i : ℕ} {e : Expr} → RepAt ws i e → (word ws i 0 ≡ 2 → ⊥) → (word ws i 0 ≡ 3 → ⊥) → (word ws i 0 ≡ 4 → ⊥) → word ws i 0 < 6
+      → e ≡ path (word ws i 1) (word ws i 2)
+  path-at (is-literal f k) o p q l = absurd (o k)
+  path-at (is-sock4 f k) o p q l = absurd (p k)
+  path-at (is-local f k) o p q l = absurd (q k)
+  path-at (is-path f k) o p q l = refl
+  path-at (is-member f k z n r) o p q l = absurd (omega arith)
+  path-at (is-slash f k z n m a b) o p q l = absurd (omega arith)
+  path-at (is-call f k z) o p q l = absurd (omega arith)
+
+  pub member-at : {i : ℕ} {e : Expr} → RepAt ws i e → word ws i 0 ≡ 6 → MemberAt ws i e
+  member-at (is-literal f k) q = absurd (omega arith)
+  member-at (is-sock4 f k) q = absurd (omega arith)
+  member-at (is-local f k) q = absurd (omega arith)
+  member-at (is-path f k) q = absurd (omega arith)
+  member-at (is-member {e = e} f k z n r) q = record { inner = e; near = n; rep = r; is = refl }
+  member-at (is-slash f k z n m a b) q = absurd (omega arith)
+  member-at (is-call f k z) q = absurd (omega arith)
+
+  pub slash-at : {i : ℕ} {e : Expr} → RepAt ws i e → 6 ≤ word ws i 0 → (word ws i 0 ≡ 8 → ⊥) → (word ws i 0 ≡ 6 → ⊥) → SlashAt ws i e
+  slash-at (is-literal f k) l p q = absurd (omega arith)
+  slash-at (is-sock4 f k) l p q = absurd (omega arith)
+  slash-at (is-local f k) l p q = absurd (omega arith)
+  slash-at (is-path f k) l p q = absurd (omega arith)
+  slash-at (is-member f k z n r) l p q = absurd (q k)
+  slash-at (is-slash {a = a} {b = b} f k z n m u v) l p q =
+      record { left = a; right = b; first = z; near = n; near′ = m; left-rep = u; right-rep = v; is = refl }
+  slash-at (is-call f k z) l p q = absurd (p k)
+
+  -- both operands of a row that is `/`
+  pub slash-parts : {i : ℕ} {a b : Expr} → RepAt ws i (slash′ a b)
+      → (word ws i 1 ≡ firstOf a) × (word ws i 3 < i) × RepAt ws (word ws i 3) b
+  slash-parts (is-slash f k z n m u v) = (z, m, v)
+
+-- ---- what a code's answer says of a judgement
+
+never : {A : Type 0} → _≡_ {A = ℕ} 0 1 → A
+never e = absurd (omega (arith, e))
+
+module _ (s : List ℕ) where
+  as-val : (o : judgements.Judged) {w : Value} → judgedAs s o ≡ Val w → (u : values.Value) × (o ≡ val u) × (w ≡ valueAs u)
+  as-val (val v) e = (v, refl, cc)
+  as-val (err at w) e = never (cc)
+  as-val poisoned e = never (cc)
+
+  as-err : (o : judgements.Judged) {f : Fault} → judgedAs s o ≡ Err f → (at : ℕ) × (w : What) × (o ≡ err at w)
+  as-err (val v) e = never (cc)
+  as-err (err at w) e = (at, w, refl)
+  as-err poisoned e = never (cc)
+
+  as-none : (o : judgements.Judged) → judgedAs s o ≡ Poisoned → o ≡ poisoned
+  as-none (val v) e = never (cc)
+  as-none (err at w) e = never (cc)
+  as-none poisoned e = refl
+
+plus-0 : (c : Counts) → c ≡ plusWarnings c 0
+plus-0 c = let e : c .warnings + 0 ≡ c .warnings = omega arith in rw e
+
+plus-more : (c : Counts) (a b : ℕ) → plusWarnings (plusWarnings c a) b ≡ plusWarnings c (a + b)
+plus-more c a b = let e : c .warnings + a + b ≡ c .warnings + (a + b) = omega arith in rw e
+
+module _ {s : List ℕ} where
+  -- no warning
+  pub give : {r : Judgement} {x : List ℕ} {c : Counts} (o : judgements.Judged) → r .out ≡ judgedAs s o → r .counts ≡ c → Agrees s r x x c (judgement o [])
+  give {c = c} o q e = record { out = q; counted = e ∙ plus-0 c; table = no-rows (diagRow (tokenOf s)) _ _ }
+
+  pub of-leaf : {r : Judgement} {x : List ℕ} {c : Counts} (j : judgements.Judgement) → LeafIs s (r .out) j → r .counts ≡ c → Agrees s r x x c j
+  of-leaf {c = c} j l e =
+      record { out = l .out; counted = e ∙ rw (l .quiet) (plus-0 c); table = rw (l .quiet) (no-rows (diagRow (tokenOf s)) _ _) }
+
+  module _ {L : Judgement} {x y : List ℕ} {c : Counts} (j : judgements.Judgement) (f : values.Value → judgements.Judgement) (l : Agrees s L x y c j) where
+    -- a value goes on
+    go : (u : values.Value) → j .out ≡ val u → {R : Judgement} {z : List ℕ} → Agrees s R y z (L .counts) (f u) → Agrees s R x z c (andThen j f)
+    unfolding andThen
+    go u q {R} {z} r =
+        let row = diagRow (tokenOf s) in
+        let k : L .counts .errors + L .counts .warnings ≡ c .errors + c .warnings + length (j .warns) =
+            ap (λ (a : Counts). a .errors + a .warnings) (l .counted) ∙ omega arith in
+        rw q (record {
+          out = r .out;
+          counted = r .counted ∙ ap (λ (a : Counts). plusWarnings a (length (f u .warns))) (l .counted)
+              ∙ plus-more c (length (j .warns)) (length (f u .warns)) ∙ ap (plusWarnings c) (sym (length-append (j .warns) (f u .warns)));
+          table = r .table ∙ rw (l .table, k) (more-rows row x (c .errors + c .warnings) (j .warns) (f u .warns));
+        })
+
+    pub goes : {v : Value} → L .out ≡ Val v → {R : Judgement} {z : List ℕ} → ((u : values.Value) → v ≡ valueAs u → Agrees s R y z (L .counts) (f u)) → Agrees s R x z c (andThen j f)
+    goes e h = let q = as-val s (j .out) (sym (l .out) ∙ e) in go (q .0) (q .1) (h (q .0) (q .2))
+
+    -- an error, or nothing, stays as it is
+    stop : (o : judgements.Judged) → j .out ≡ o → andThen j f ≡ judgement o (j .warns) → Agrees s L x y c (andThen j f)
+    stop o q e = rw e (record { out = l .out ∙ ap (judgedAs s) q; counted = l .counted; table = l .table })
+
+    stop-at : (at : ℕ) (w : What) → j .out ≡ err at w → Agrees s L x y c (andThen j f)
+    unfolding andThen
+    stop-at at w q = stop (err at w) q (ap (λ (o : judgements.Judged). goesOn o (j .warns) f) q)
+
+    pub stop-err : {g : Fault} → L .out ≡ Err g → Agrees s L x y c (andThen j f)
+    stop-err e = let q = as-err s (j .out) (sym (l .out) ∙ e) in stop-at (q .0) (q .1) (q .2)
+
+    pub stop-none : L .out ≡ Poisoned → Agrees s L x y c (andThen j f)
+    unfolding andThen
+    stop-none e = let q = as-none s (j .out) (sym (l .out) ∙ e) in stop poisoned q (rw q)
+
+-- ---- members
+
+pub no-members : (s : List ℕ) (t : ℕ) {tok : Token} → tok ≡ tokenAs (tokenOf s t) → (u : values.Value) → typedAs 1 9 tok (typeOf u) 0 0 0 ≡ faultAs s t (noMembers (typeOf u))
+no-members s t e u = rw e
+
+module _ (s : List ℕ) (t : ℕ) {l r : Judgement} where
+  pub members : {v : Value} {f : Fault} → l .out ≡ Val v → ((u : values.Value) → v ≡ valueAs u → f ≡ faultAs s t (noMembers (typeOf u)))
+      → r .out ≡ Err f → r .counts ≡ l .counts → Members s t l r
+  members e h q k = record { on = λ x y c j a. goes j _ a e (λ u w. give (err t (noMembers (typeOf u))) (q ∙ ap Err (h u w)) k) }
+
+pub members-err : (s : List ℕ) (t : ℕ) {l : Judgement} {f : Fault} → l .out ≡ Err f → Members s t l l
+members-err s t e = record { on = λ x y c j a. stop-err j _ a e }
+
+pub members-none : (s : List ℕ) (t : ℕ) {l : Judgement} → l .out ≡ Poisoned → Members s t l l
+members-none s t e = record { on = λ x y c j a. stop-none j _ a e }
+
+-- ---- the right operand
+
+module _ (ts : List Content) (n ip at : ℕ) (u : values.Value) where
+  pub right-none : integerOf u ≡ none → rightOf ts n ip at u ≡ judgement (err at (operandType right (tyInt u16) (typeOf u))) []
+  right-none e =
+      ap (λ (o : Option ℕ). elim o [
+        | some i ↦ judgement (val (values.isSock4 ip (low16 i))) (cut ts n at i)
+        | none ↦ judgement (err at (operandType right (tyInt u16) (typeOf u))) []
+      ]) e
+
+  pub right-some : {i : ℕ} → integerOf u ≡ some i → rightOf ts n ip at u ≡ judgement (val (values.isSock4 ip (low16 i))) (cut ts n at i)
+  right-some e =
+      ap (λ (o : Option ℕ). elim o [
+        | some i ↦ judgement (val (values.isSock4 ip (low16 i))) (cut ts n at i)
+        | none ↦ judgement (err at (operandType right (tyInt u16) (typeOf u))) []
+      ]) e
+
+module _ (ts : List Content) (at : ℕ) (f : ℕ → judgements.Judgement) (u : values.Value) where
+  pub left-none : ip4Of u ≡ none → leftOf ts at f u ≡ judgement (err at (operandType left tyIp4 (typeOf u))) []
+  left-none e = ap (λ (o : Option ℕ). elim o [ some n ↦ f n | none ↦ judgement (err at (operandType left tyIp4 (typeOf u))) [] ]) e
+
+  pub left-some : {n : ℕ} → ip4Of u ≡ some n → leftOf ts at f u ≡ f n
+  left-some e = ap (λ (o : Option ℕ). elim o [ some n ↦ f n | none ↦ judgement (err at (operandType left tyIp4 (typeOf u))) [] ]) e
+
+pub not-integer : (s : List ℕ) (ip t : ℕ) {r : Judgement} {v : Value} {c : Counts} {x : List ℕ} → isIntegral (v .kind) ≡ false
+    → Operand s t v 2 4 (r .out) → r .counts ≡ c → Narrows s ip t v c x r x
+not-integer s ip t h o k =
+    record { is = λ n u e.
+      let z = integer-not u (sym (ap (λ (w : Value). isIntegral (w .kind)) e) ∙ h) in
+      rw (right-none (contents (tokens.tokens s)) n ip t u z)
+      (give (err t (operandType right (tyInt u16) (typeOf u))) (o .is u right (tyInt u16) e refl refl) k) }
+
+abbrev total : Value → ℕ
+total v = v .hi * tables.word + v .lo
+
+integer-of : (v : Value) → isIntegral (v .kind) ≡ true → (u : values.Value) → v ≡ valueAs u → integerOf u ≡ some (total v)
+integer-of v h u e = integer-is u (sym (ap (λ (w : Value). isIntegral (w .kind)) e) ∙ h) ∙ ap some (sym (ap total e))
+
+module _ (s : List ℕ) (ip t : ℕ) (v : Value) (h : isIntegral (v .kind) ≡ true) {port : ℕ} (p : port ≡ low16 (total v)) where
+  port-is : Val (record { kind = 8; lo = ip; hi = port }) ≡ judgedAs s (val (values.isSock4 ip (low16 (total v))))
+  port-is = rw p
+
+  pub narrows-same : {r : Judgement} {c : Counts} {x : List ℕ} → false ≡ isTruncated (total v) → r .out ≡ Val (record { kind = 8; lo = ip; hi = port })
+      → r .counts ≡ c → Narrows s ip t v c x r x
+  narrows-same b q k =
+      record { is = λ n u e.
+        rw (right-some (contents (tokens.tokens s)) n ip t u (integer-of v h u e), ← b) (give (val (values.isSock4 ip (low16 (total v)))) (q ∙ port-is) k) }
+
+  pub narrows-cut : {r : Judgement} {c : Counts} {x : List ℕ} {tok : Token} {f : Fault} {y : List ℕ} → true ≡ isTruncated (total v)
+      → r .out ≡ Val (record { kind = 8; lo = ip; hi = port }) → v .lo < tables.word
+      → tok ≡ tokenAs (tokenOf s t) → f ≡ truncatedAs tok (v .lo) (v .hi) → y ≡ putRow x (c .errors + c .warnings) (faultRow f)
+      → r .counts ≡ plusWarnings c 1 → Narrows s ip t v c x r y
+  unfolding diagRow
+  narrows-cut {c = c} {x = x} {f = f} b q l e g o k =
+      let lo : total v % tables.word ≡ v .lo = omega (arith, l) in
+      let hi : total v / tables.word ≡ v .hi = omega (arith, l) in
+      record { is = λ n u w.
+        let d : Diag = diag n t (truncated (total v) (tyInt u16)) in
+        let same : faultRow f ≡ diagRow (tokenOf s) d = rw (g, e, lo, hi) in
+        rw (right-some (contents (tokens.tokens s)) n ip t u (integer-of v h u w), ← b) (record {
+          out = q ∙ port-is;
+          counted = k;
+          table = o ∙ rw same (one-row (diagRow (tokenOf s)) x (c .errors + c .warnings) d);
+        }) }
+
+module _ (s : List ℕ) (ip t : ℕ) {l : Judgement} {y : List ℕ} where
+  pub integral-goes : {v : Value} {r : Judgement} {z : List ℕ} → l .out ≡ Val v → Narrows s ip t v (l .counts) y r z → Integral s ip t l y r z
+  integral-goes e h = record { on = λ n x c j a. goes j _ a e (λ u w. h .is n u w) }
+
+  pub integral-err : {f : Fault} → l .out ≡ Err f → Integral s ip t l y l y
+  integral-err e = record { on = λ n x c j a. stop-err j _ a e }
+
+  pub integral-none : l .out ≡ Poisoned → Integral s ip t l y l y
+  integral-none e = record { on = λ n x c j a. stop-none j _ a e }
+
+-- ---- how many warnings
+
+few-then : (o : judgements.Judged) (ws : List Diag) (f : values.Value → judgements.Judgement) (m : ℕ) → ((u : values.Value) → length (f u .warns) ≤ m)
+    → length (andThen (judgement o ws) f .warns) ≤ length ws + m
+unfolding andThen
+few-then (val u) ws f m h = simp length-append (omega (arith, h u))
+few-then (err at w) ws f m h = omega arith
+few-then poisoned ws f m h = omega arith
+
+few-cut : (b : Bool) (d : Diag) → length (if′ b (d ∷ []) []) ≤ 1
+few-cut true d = omega arith
+few-cut false d = omega arith
+
+few-right : (ts : List Content) (n ip at : ℕ) (u : values.Value) → length (rightOf ts n ip at u .warns) ≤ 1
+few-right ts n ip at u = by (integerOf u) refl
+  where
+    by : (o : Option ℕ) → integerOf u ≡ o → length (rightOf ts n ip at u .warns) ≤ 1
+    by none e = rw (right-none ts n ip at u e) (omega arith)
+    by (some i) e = rw (right-some ts n ip at u e) (few-cut (isTruncated i) (diag n at (truncated i (tyInt u16))))
+
+few-left : (ts : List Content) (at : ℕ) (f : ℕ → judgements.Judgement) (m : ℕ) → ((n : ℕ) → length (f n .warns) ≤ m) → (u : values.Value)
+    → length (leftOf ts at f u .warns) ≤ m
+few-left ts at f m h u = by (ip4Of u) refl
+  where
+    by : (o : Option ℕ) → ip4Of u ≡ o → length (leftOf ts at f u .warns) ≤ m
+    by none e = rw (left-none ts at f u e) (omega arith)
+    by (some i) e = rw (left-some ts at f u e) (h i)
+
+module _ (ts : List Content) (n : ℕ) (k : Known) where
+  pub few : (e : Expr) → length (judge ts n k e .warns) ≤ exprSize e
+  unfolding judge
+  few (literal t) = omega arith
+  few (sock4 t) = omega arith
+  few (local t) = omega arith
+  few (path t m) = omega arith
+  few (member e t) = omega (arith, few e, few-then (judge ts n k e .out) (judge ts n k e .warns) (λ v. judgement (err t (noMembers (typeOf v))) []) 0 (λ u. omega arith))
+  few (slash′ a b) =
+      let f : ℕ → judgements.Judgement = λ ip. andThen (judge ts n k b) (rightOf ts n ip (firstOf b)) in
+      let g : (ip : ℕ) → length (f ip .warns) ≤ length (judge ts n k b .warns) + 1 = λ ip.
+          few-then (judge ts n k b .out) (judge ts n k b .warns) (rightOf ts n ip (firstOf b)) 1 (few-right ts n ip (firstOf b)) in
+      omega (arith, few a, few b, few-then (judge ts n k a .out) (judge ts n k a .warns) (leftOf ts (firstOf a) f) (length (judge ts n k b .warns) + 1)
+          (few-left ts (firstOf a) f (length (judge ts n k b .warns) + 1) g))
+  few (call e t g) = omega arith
+
+-- ---- leaves
+
+module _ (s : List ℕ) {ws : List ℕ} {i : ℕ} {e : Expr} (n : ℕ) (k : Known) (rep : RepAt ws i e) {t : ℕ} (at : t ≡ word ws i 1) where
+  pub leaf-literal : word ws i 0 ≡ 2 → {v : Value} → v ≡ valueAs (literalAt (contents (tokens.tokens s)) t) → LeafIs s (Val v) (judge (contents (tokens.tokens s)) n k e)
+  unfolding judge
+  leaf-literal q h = rw (literal-at rep q, ← at) (record { out = ap Val h; quiet = refl })
+
+  pub leaf-sock4 : word ws i 0 ≡ 3 → {v : Value} → v ≡ sock4As (tokenOf s t) (tokenOf s (t + 2)) → LeafIs s (Val v) (judge (contents (tokens.tokens s)) n k e)
+  unfolding judge
+  leaf-sock4 q h =
+      rw (sock4-at rep q, ← at) (record {
+        out = ap Val (h ∙ rw (content-of s t, content-of s (t + 2)));
+        quiet = refl;
+      })
+
+  module _ {toks bindings imports : List ℕ} {c : Counts} (kn : Knows s bindings imports c k) (ready : Ready s toks bindings imports c) {r : Judged} where
+    pub leaf-local : {tok : Token} → word ws i 0 ≡ 4 → tok ≡ tokenAs (tokenOf s t) → LocalIs s bindings (c .used) tok r → LeafIs s r (judge (contents (tokens.tokens s)) n k e)
+    unfolding judge
+    leaf-local q g h = rw (local-at rep q, ← at, kn .is) (record { out = h .is t g (ready .sound); quiet = refl })
+
+    pub leaf-path : (word ws i 0 ≡ 2 → ⊥) → (word ws i 0 ≡ 3 → ⊥) → (word ws i 0 ≡ 4 → ⊥) → word ws i 0 < 6 → {names : ℕ} → names ≡ word ws i 2
+        → PathIs s imports (c .imported) t names r → LeafIs s r (judge (contents (tokens.tokens s)) n k e)
+    unfolding judge
+    leaf-path o p q l m h = rw (path-at rep o p q l, ← at, ← m, kn .is) (record { out = h .is; quiet = refl })
+
+-- ---- trees
+
+module _ {s : List ℕ} where
+  -- a warning changes no name
+  pub knows-on : {L : Judgement} {x y bindings imports : List ℕ} {c : Counts} {j : judgements.Judgement} {k : Known} → Agrees s L x y c j
+      → Knows s bindings imports c k → Knows s bindings imports (L .counts) k
+  knows-on {bindings = bindings} {imports = imports} l kn = record { is = kn .is ∙ ap (knownIn s bindings imports) (sym (l .counted)) }
+
+  pub ready-on : {L : Judgement} {x y toks bindings imports : List ℕ} {c : Counts} {j : judgements.Judgement} → Agrees s L x y c j
+      → Ready s toks bindings imports c → Ready s toks bindings imports (L .counts)
+  ready-on {toks = toks} {bindings = bindings} {imports = imports} {c = c} {j = j} l r =
+      let q : Ready s toks bindings imports (plusWarnings c (length (j .warns))) = record { lexed = r .lexed; bound = r .bound; modules = r .modules; sound = r .sound } in
+      subst (λ (a : Counts). Ready s toks bindings imports a) (sym (l .counted)) q
+
+module _ (s : List ℕ) (n : ℕ) (k : Known) where
+  abbrev judged : Expr → judgements.Judgement
+  judged e = judge (contents (tokens.tokens s)) n k e
+
+  pub of-call : {ws : List ℕ} {i : ℕ} {e : Expr} {r : Judgement} {x : List ℕ} {c : Counts} → RepAt ws i e → word ws i 0 ≡ 8 → r .out ≡ Poisoned → r .counts ≡ c
+      → Agrees s r x x c (judged e)
+  unfolding judge
+  of-call (is-literal f k) q o w = absurd (omega arith)
+  of-call (is-sock4 f k) q o w = absurd (omega arith)
+  of-call (is-local f k) q o w = absurd (omega arith)
+  of-call (is-path f k) q o w = absurd (omega arith)
+  of-call (is-member f k z m r) q o w = absurd (omega arith)
+  of-call (is-slash f k z m l a b) q o w = absurd (omega arith)
+  of-call (is-call f k z) q o w = give poisoned o w
+
+  pub of-member : {ws : List ℕ} {i : ℕ} {e : Expr} {l r : Judgement} {x y : List ℕ} {c : Counts} {t : ℕ} (p : MemberAt ws i e) → t ≡ word ws i 3 → Members s t l r
+      → Agrees s l x y c (judged (p .inner)) → Agrees s r x y c (judged e)
+  unfolding judge
+  of-member p q m a = rw (p .is, ← q) (m .on _ _ _ _ a)
+
+  pub of-slash : {ws : List ℕ} {i : ℕ} {e : Expr} {r : Judgement} {x y : List ℕ} {c : Counts} (p : SlashAt ws i e)
+      → Agrees s r x y c (judged (slash′ (p .left) (p .right))) → Agrees s r x y c (judged e)
+  of-slash p a = rw (p .is) a
+
+  module _ (a b : Expr) {l : Judgement} {x y : List ℕ} {c : Counts} (h : Agrees s l x y c (judged a)) where
+    pub slash-bad : {v : Value} {r : Judgement} {t : ℕ} → l .out ≡ Val v → (v .kind ≡ 7 → ⊥) → t ≡ firstOf a → Operand s t v 1 7 (r .out) → r .counts ≡ l .counts
+        → Agrees s r x y c (judged (slash′ a b))
+    unfolding judge
+    slash-bad e d q o w =
+        goes (judged a) _ h e (λ u g.
+          rw (left-none (contents (tokens.tokens s)) (firstOf a) (λ ip. andThen (judged b) (rightOf (contents (tokens.tokens s)) n ip (firstOf b))) u (ip4-not u (λ z. d (ap (λ (f : Value). f .kind) g ∙ z))))
+          (give (err (firstOf a) (operandType left tyIp4 (typeOf u)))
+            (o .is u left tyIp4 g refl refl ∙ ap (λ (f : ℕ). judgedAs s (err f (operandType left tyIp4 (typeOf u)))) q) w))
+
+    pub slash-good : {v : Value} {m r : Judgement} {z z′ : List ℕ} {t : ℕ} → l .out ≡ Val v → v .kind ≡ 7 → t ≡ firstOf b → Agrees s m y z (l .counts) (judged b)
+        → Integral s (v .lo) t m z r z′ → Agrees s r x z′ c (judged (slash′ a b))
+    unfolding judge
+    slash-good {v = v} {r = r} {z′ = z′} e d q g o =
+        goes (judged a) _ h e (λ u f.
+          rw (left-some (contents (tokens.tokens s)) (firstOf a) (λ ip. andThen (judged b) (rightOf (contents (tokens.tokens s)) n ip (firstOf b))) u (ip4-is u (sym (ap (λ (w : Value). w .kind) f) ∙ d)))
+          (subst (λ (p : ℕ). Agrees s r y z′ (l .counts) (andThen (judged b) (rightOf (contents (tokens.tokens s)) n p (firstOf b)))) (ap (λ (w : Value). w .lo) f)
+          (subst (λ (p : ℕ). Agrees s r y z′ (l .counts) (andThen (judged b) (rightOf (contents (tokens.tokens s)) n (v .lo) p))) q (o .on n _ _ _ g))))
+
+    pub slash-err : {f : Fault} → l .out ≡ Err f → Agrees s l x y c (judged (slash′ a b))
+    unfolding judge
+    slash-err e = stop-err (judged a) _ h e
+
+    pub slash-none : l .out ≡ Poisoned → Agrees s l x y c (judged (slash′ a b))
+    unfolding judge
+    slash-none e = stop-none (judged a) _ h e
+
+  -- what is left of the room
+  module _ {ws : List ℕ} {i : ℕ} (c : Counts) where
+    pub fits-slash : (f : Fits ws i (c .errors + c .warnings)) (p : SlashAt ws i (f .tree)) {l : Judgement} {x y : List ℕ}
+        → Agrees s l x y c (judged (p .left)) → SlashFits ws i (l .counts .errors + l .counts .warnings)
+    fits-slash f p {l} a =
+        let m : l .counts .errors + l .counts .warnings ≡ c .errors + c .warnings + length (judged (p .left) .warns) =
+            ap (λ (g : Counts). g .errors + g .warnings) (a .counted) ∙ omega arith in
+        record {
+          left = p .left;
+          right = p .right;
+          rep = subst (λ (e : Expr). RepAt ws i e) (p .is) (f .rep);
+          room = omega (arith, m, f .room, ap exprSize (p .is), few (contents (tokens.tokens s)) n k (p .left));
+        }
+
+    pub fits-more : (f : SlashFits ws i (c .errors + c .warnings)) {m : Judgement} {x y : List ℕ} → Agrees s m x y c (judged (f .right))
+        → m .counts .errors + m .counts .warnings < 4611686018427387904
+    fits-more f {m} a =
+        let w : m .counts .errors + m .counts .warnings ≡ c .errors + c .warnings + length (judged (f .right) .warns) =
+            ap (λ (g : Counts). g .errors + g .warnings) (a .counted) ∙ omega arith in
+        omega (arith, w, f .room, few (contents (tokens.tokens s)) n k (f .right))
+
+pub fits-right : {ws : List ℕ} {i b count : ℕ} → SlashFits ws i count → b ≡ word ws i 3 → Fits ws b count
+fits-right f e = record { tree = f .right; rep = rw e (slash-parts (f .rep) .2); room = omega (arith, f .room) }
+
+-- the first operand, of `/` or of a member
+pub record ChildAt (ws : List ℕ) (i : ℕ) (e : Expr) : Type 0 where
+  pub child : Expr
+  pub near : word ws i 2 < i
+  pub rep : RepAt ws (word ws i 2) child
+  pub less : exprSize child + 1 ≤ exprSize e
+
+pub child-at : {ws : List ℕ} {i : ℕ} {e : Expr} → RepAt ws i e → 6 ≤ word ws i 0 → (word ws i 0 ≡ 8 → ⊥) → ChildAt ws i e
+child-at (is-literal f k) l p = absurd (omega arith)
+child-at (is-sock4 f k) l p = absurd (omega arith)
+child-at (is-local f k) l p = absurd (omega arith)
+child-at (is-path f k) l p = absurd (omega arith)
+child-at (is-member {e = e} f k z n r) l p = record { child = e; near = n; rep = r; less = omega arith }
+child-at (is-slash {a = a} f k z n m u v) l p = record { child = a; near = n; rep = u; less = omega arith }
+child-at (is-call f k z) l p = absurd (p k)
+
+pub fits-child : {ws : List ℕ} {i a count : ℕ} (f : Fits ws i count) (p : ChildAt ws i (f .tree)) → a ≡ word ws i 2 → Fits ws a count
+fits-child f p e = record { tree = p .child; rep = rw e (p .rep); room = omega (arith, f .room, p .less) }
+
+pub at-row : {ws : List ℕ} {i j : ℕ} {e : Expr} → j ≡ i → RepAt ws i e → RepAt ws j e
+at-row q r = rw q r
+
+pub same-tree : {ws : List ℕ} {i : ℕ} {e d : Expr} → e ≡ d → RepAt ws i e → RepAt ws i d
+same-tree {ws} {i} q r = subst (λ (t : Expr). RepAt ws i t) q r

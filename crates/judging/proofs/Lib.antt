@@ -1,0 +1,7 @@
+-- The laws that the proofs of the functions cite.
+pub mod Rows
+pub mod NameTokens
+pub mod TokenRows
+pub mod Values
+pub mod Names
+pub mod Judging

@@ -1,0 +1,300 @@
+-- Tables of names: the search, what is found, and paths through the constant table.
+use mathlib.Core.Path.{_≡_, refl, sym, ap, subst, _∙_}
+use mathlib.Core.Bool.{Bool, true, false, _&&_}
+use mathlib.Core.List.{List, [], _∷_, _++_}
+use mathlib.Core.Option.{Option, none, some}
+use Prim.Native.Nat.{ℕ, zero, suc, _+_, _-_, _*_, _≤_, _<_}
+use native.Mathlib.Omega.{arith}
+use native.Mathlib.Decide.{decLe}
+use borrow.Author.Tests.{eq-eqb, ne-eqb}
+use lib.Dec.{eqb}
+use lib.ListN.{length, getD}
+use Rattle.constants.specs.Constants.{tableRows, kindOf, lowOf, highOf, orZero, entryWord}
+use Rattle.constants.proofs.Entries.{words}
+use Rattle.language.specs.Choice.{if′}
+use Rattle.language.specs.Lexemes.{same}
+use Rattle.language.specs.Tokens as tokens
+use Rattle.language.specs.Tokens.{Content, eof, contents, between}
+use Rattle.language.specs.Values as values
+use Rattle.language.specs.Values.{Entry, entries, entryAt, entryName, tableText, lookupFrom, lookup}
+use Rattle.language.specs.Judgements.{err, val, poisoned, unknownName, unknownItem, notAModule, notAValue, notImported, Binding, Import, find, findImport, nameAt, boundTo, below, walk, lastItem, innerItem}
+use Rattle.language.specs.Judgements as judgements
+use Rattle.language.specs.Findings.{valueKind, valueLow, valueHigh}
+use Rattle.language.specs.Numbers.{tokenOf}
+use Rattle.judging.specs.declared.Token.{Token}
+use Rattle.judging.specs.declared.Judged.{Judged}
+use Rattle.judging.specs.declared.Judged.the-variants.{Val, Err, Poisoned}
+use Rattle.judging.specs.Judging.{tokenAs, Lexed, opened, Canon, heldAs, judgedAs, namedAs, faultAs, nameWord, nameOf, namesIn, bindingAt, boundIn, orNone, importAt, importsIn, place}
+use Rattle.judging.proofs.TokenRows.{content-of, past-token, rows-long}
+use Rattle.judging.proofs.Values.{some-kind}
+
+-- ---- the search
+
+module _ (s ws w : List ℕ) (used i : ℕ) where
+  pub search-start : 0 + place (namesIn s ws (used - 0) 0) w ≡ place (namesIn s ws used 0) w
+  search-start = let e : used - 0 ≡ used = omega arith in rw e (omega arith)
+
+  module _ (h : i < used) where
+    more : used - i ≡ suc (used - (i + 1))
+    more = omega arith
+
+    module _ {p : List ℕ} {b : Bool} (q : p ≡ nameOf s ws i) (o : b ≡ same p w) where
+      tested : same (nameOf s ws i) w ≡ b
+      tested = sym (o ∙ ap (λ (x : List ℕ). same x w) q)
+
+      pub search-hit : b ≡ true → i ≡ i + place (namesIn s ws (used - i) i) w
+      unfolding namesIn place
+      search-hit e = let t = tested ∙ e in rw (more, t) (omega arith)
+
+      pub search-miss : b ≡ false → i + 1 + place (namesIn s ws (used - (i + 1)) (i + 1)) w ≡ i + place (namesIn s ws (used - i) i) w
+      unfolding namesIn place
+      search-miss e = let t = tested ∙ e in rw (more, t) (omega arith)
+
+  pub search-end : i ≤ used → used ≤ i → used ≡ i + place (namesIn s ws (used - i) i) w
+  unfolding namesIn place
+  search-end l h = let e : used - i ≡ 0 = omega arith in rw e (omega arith)
+
+-- ---- what it finds: a table's entries as a list, and the first of a name in it
+
+module _ (s ws : List ℕ) {A : Type 0} (entry : ℕ → A) (listed : ℕ → ℕ → List A) (first : List A → List ℕ → Option A)
+    (empty : (i : ℕ) → listed zero i ≡ []) (one : (k i : ℕ) → listed (suc k) i ≡ entry i ∷ listed k (i + 1))
+    (nothing : (w : List ℕ) → first [] w ≡ none)
+    (step : (i : ℕ) (xs : List A) (w : List ℕ) → first (entry i ∷ xs) w ≡ if′ (same (nameOf s ws i) w) (some (entry i)) (first xs w)) where
+  Found : ℕ → ℕ → List ℕ → ℕ → Type 0
+  Found k i w r = (r < k → first (listed k i) w ≡ some (entry (i + r))) × (k ≤ r → first (listed k i) w ≡ none)
+
+  found-step : (k i : ℕ) (w : List ℕ) (r n : ℕ) (b : Bool) → same (nameOf s ws i) w ≡ b → r ≡ if′ b 0 (suc n) → Found k (i + 1) w n → Found (suc k) i w r
+  unfolding Found
+  found-step k i w r n true q e on =
+      ((λ h. let t : i + r ≡ i = omega arith in rw (one k i, step i (listed k (i + 1)) w, q, t)), (λ h. absurd (omega arith)))
+  found-step k i w r n false q e on =
+      let t : i + r ≡ i + 1 + n = omega arith in
+      ((λ h. rw (one k i, step i (listed k (i + 1)) w, q, t) (on .0 (omega arith))), (λ h. rw (one k i, step i (listed k (i + 1)) w, q) (on .1 (omega arith))))
+
+  found-from : (k i : ℕ) (w : List ℕ) (r : ℕ) → r ≡ place (namesIn s ws k i) w → Found k i w r
+  unfolding namesIn place Found
+  found-from zero i w r e = ((λ h. absurd (omega arith)), (λ h. rw (empty i) (nothing w)))
+  found-from (suc k) i w r e =
+      found-step k i w r (place (namesIn s ws k (i + 1)) w) (same (nameOf s ws i) w) refl e (found-from k (i + 1) w (place (namesIn s ws k (i + 1)) w) refl)
+
+module _ (s ws w : List ℕ) (used r : ℕ) (e : r ≡ place (namesIn s ws used 0) w) where
+  zeroth : 0 + r ≡ r
+  zeroth = omega arith
+
+  pub bound-found : r < used → find (boundIn s ws used 0) w ≡ some (bindingAt s ws r)
+  unfolding find boundIn Found
+  bound-found h =
+      found-from s ws (bindingAt s ws) (boundIn s ws) find (λ i. refl) (λ k i. refl) (λ w. refl) (λ i xs w. refl) used 0 w r e .0 h
+      ∙ ap (λ (i : ℕ). some (bindingAt s ws i)) zeroth
+
+  pub bound-lost : used ≤ r → find (boundIn s ws used 0) w ≡ none
+  unfolding find boundIn Found
+  bound-lost h = found-from s ws (bindingAt s ws) (boundIn s ws) find (λ i. refl) (λ k i. refl) (λ w. refl) (λ i xs w. refl) used 0 w r e .1 h
+
+  pub import-found : r < used → findImport (importsIn s ws used 0) w ≡ some (importAt s ws r)
+  unfolding findImport importsIn Found
+  import-found h =
+      found-from s ws (importAt s ws) (importsIn s ws) findImport (λ i. refl) (λ k i. refl) (λ w. refl) (λ i xs w. refl) used 0 w r e .0 h
+      ∙ ap (λ (i : ℕ). some (importAt s ws i)) zeroth
+
+  pub import-lost : used ≤ r → findImport (importsIn s ws used 0) w ≡ none
+  unfolding findImport importsIn Found
+  import-lost h = found-from s ws (importAt s ws) (importsIn s ws) findImport (λ i. refl) (λ k i. refl) (λ w. refl) (λ i xs w. refl) used 0 w r e .1 h
+
+-- ---- a name's value
+
+module _ (s : List ℕ) (ts : List Content) (t : ℕ) where
+  held-as : (name : List ℕ) (tok k l h : ℕ) (o : Option values.Value) → kindOf o ≡ k → lowOf o ≡ l → highOf o ≡ h
+      → heldAs k l h ≡ judgedAs s (boundTo ts t (some (record { name = name; tok = tok; value = o })))
+  unfolding heldAs
+  held-as name tok k l h none p q r = rw (← p)
+  held-as name tok k l h (some v) p q r = rw (← p, ← q, ← r, ne-eqb (valueKind v) 0 (some-kind v))
+
+  module _ (ws w v : List ℕ) (used i : ℕ) (p : i ≡ place (namesIn s ws used 0) w) (o : w ≡ v) where
+    e : i ≡ place (namesIn s ws used 0) v
+    e = p ∙ ap (place (namesIn s ws used 0)) o
+
+    pub local-found : {r : Judged} → i < used → ((j : ℕ) → j < used → Canon (nameWord ws j 3) (nameWord ws j 4) (nameWord ws j 5))
+        → r ≡ heldAs (nameWord ws i 3) (nameWord ws i 4) (nameWord ws i 5) → r ≡ judgedAs s (boundTo ts t (find (boundIn s ws used 0) v))
+    local-found h c q =
+      let a = c i h in
+      q ∙ held-as (nameOf s ws i) (nameWord ws i 2) (nameWord ws i 3) (nameWord ws i 4) (nameWord ws i 5) (opened (nameWord ws i 3) (nameWord ws i 4) (nameWord ws i 5)) (a .kind) (a .low) (a .high)
+      ∙ sym (ap (λ (o : Option Binding). judgedAs s (boundTo ts t o)) (bound-found s ws v used i e h))
+
+    pub local-lost : {r : Judged} {tok : Token} → used ≤ i → tok ≡ tokenAs (tokenOf s t) → r ≡ Err (namedAs 1 1 tok 0 0) → r ≡ judgedAs s (boundTo ts t (find (boundIn s ws used 0) v))
+    local-lost h k q = q ∙ rw (k, bound-lost s ws v used i e h)
+
+-- ---- paths
+
+and-false : (b : Bool) → (b && false) ≡ false
+and-false true = refl
+and-false false = refl
+
+-- no entry has an empty name
+no-empty : (m : ℕ) → lookup m [] ≡ none
+unfolding lookupFrom entries tableText
+no-empty m = simp and-false refl
+
+-- an entry's number is 1 or more
+abbrev AtLeast : ℕ → Option ℕ → Type 0
+AtLeast k none = Unit {0}
+AtLeast k (some j) = k ≤ j
+
+at-least-step : (b : Bool) (k : ℕ) (o : Option ℕ) → AtLeast (suc k) o → AtLeast k (if′ b (some k) o)
+at-least-step true k o h = omega arith
+at-least-step false k none h = h
+at-least-step false k (some j) h = omega (arith, h)
+
+at-least : (es : List Entry) (k m : ℕ) (bs : List ℕ) → AtLeast k (lookupFrom es k m bs)
+unfolding lookupFrom
+at-least [] k m bs = tt
+at-least (e ∷ es) k m bs = at-least-step (eqb (e .inside) m && same (entryName e) bs) k (lookupFrom es (suc k) m bs) (at-least es (suc k) m bs)
+
+is-none : (o : Option ℕ) → AtLeast 1 o → 0 ≡ orZero o → o ≡ none
+is-none none h e = refl
+is-none (some j) h e = absurd (omega (arith, h, e))
+
+is-some : (o : Option ℕ) (k : ℕ) → k ≡ orZero o → (k ≡ 0 → ⊥) → o ≡ some k
+is-some none k e n = absurd (n e)
+is-some (some j) k e n = ap some (sym e)
+
+pub module-of : (o : Option ℕ) → AtLeast 1 o → orNone (orZero o) ≡ o
+module-of none h = refl
+module-of (some zero) h = absurd (omega (arith, h))
+module-of (some (suc j)) h = refl
+
+pub found-module : (m : ℕ) (bs : List ℕ) → orNone (orZero (lookup m bs)) ≡ lookup m bs
+found-module m bs = module-of (lookup m bs) (at-least entries 1 m bs)
+
+module _ (s : List ℕ) where
+  abbrev texts : List Content
+  texts = contents (tokens.tokens s)
+
+  module _ (left inside at k : ℕ) (e : k ≡ orZero (lookup inside (nameAt texts (at + 2)))) where
+    module _ (z : k ≡ 0) where
+      none-there : lookup inside (nameAt texts (at + 2)) ≡ none
+      none-there = is-none (lookup inside (nameAt texts (at + 2))) (at-least entries 1 inside (nameAt texts (at + 2))) (sym z ∙ e)
+
+      missing : (n : ℕ) → 0 < n → err (at + 2) (unknownItem inside) ≡ walk texts n inside at
+      unfolding walk
+      missing zero h = absurd (omega arith)
+      missing (suc zero) h =
+          ap (λ (o : Option ℕ). elim o [ none ↦ err (at + 2) (unknownItem inside) | some j ↦ lastItem texts (at + 2) (entryAt j .value) ]) (sym none-there)
+      missing (suc (suc n)) h =
+          ap (λ (o : Option ℕ). elim o [ none ↦ err (at + 2) (unknownItem inside) | some j ↦ innerItem texts (at + 2) (entryAt j .value) (walk texts (suc n) j (at + 2)) ]) (sym none-there)
+
+    pub walk-missing : 0 < left → k ≡ 0 → err (at + 2) (unknownItem inside) ≡ walk texts left inside at
+    walk-missing l z = missing z left l
+
+    module _ (n : k ≡ 0 → ⊥) where
+      there : lookup inside (nameAt texts (at + 2)) ≡ some k
+      there = is-some (lookup inside (nameAt texts (at + 2))) k e n
+
+      -- a name that is found is a token of the source
+      pub in-source : at + 2 < length (tokens.tokens s)
+      in-source =
+          elim (decLe (suc (at + 2)) (length (tokens.tokens s))) [
+            | yes h ↦ h
+            | no h ↦
+                let c : nameAt texts (at + 2) ≡ [] = ap judgements.nameIn (content-of s (at + 2) ∙ ap (λ (t : tokens.Token). t .content) (past-token s (at + 2) (omega arith))) in
+                let z : k ≡ 0 = e ∙ ap (λ (bs : List ℕ). orZero (lookup inside bs)) c ∙ ap orZero (no-empty inside) in
+                absurd (n z)
+          ]
+
+      pub walk-last : left ≡ 1 → lastItem texts (at + 2) (entryAt k .value) ≡ walk texts left inside at
+      unfolding walk
+      walk-last l =
+          rw l (ap (λ (o : Option ℕ). elim o [ none ↦ err (at + 2) (unknownItem inside) | some j ↦ lastItem texts (at + 2) (entryAt j .value) ]) (sym there))
+
+      inner : (m : ℕ) → walk texts (suc (suc m)) inside at ≡ innerItem texts (at + 2) (entryAt k .value) (walk texts (suc m) k (at + 2))
+      unfolding walk
+      inner m =
+          ap (λ (o : Option ℕ). elim o [ none ↦ err (at + 2) (unknownItem inside) | some j ↦ innerItem texts (at + 2) (entryAt j .value) (walk texts (suc m) j (at + 2)) ]) there
+
+      not-module : (o : Option values.Value) (on : judgements.Judged) → (kindOf o ≡ 0 → ⊥) → err (at + 2) notAModule ≡ innerItem texts (at + 2) o on
+      not-module none on h = absurd (h refl)
+      not-module (some v) on h = refl
+
+      a-module : (o : Option values.Value) (on : judgements.Judged) → kindOf o ≡ 0 → on ≡ innerItem texts (at + 2) o on
+      a-module none on h = refl
+      a-module (some v) on h = absurd (some-kind v h)
+
+      two-left : 0 < left → (left ≡ 1 → ⊥) → left ≡ suc (suc (left - 2))
+      two-left l h = omega arith
+
+      module _ (l : 0 < left) (h : left ≡ 1 → ⊥) where
+        pub walk-stops : (kindOf (entryAt k .value) ≡ 0 → ⊥) → err (at + 2) notAModule ≡ walk texts left inside at
+        walk-stops z =
+            not-module (entryAt k .value) (walk texts (suc (left - 2)) k (at + 2)) z ∙ sym (inner (left - 2))
+            ∙ ap (λ (n : ℕ). walk texts n inside at) (sym (two-left l h))
+
+        pub walk-on : kindOf (entryAt k .value) ≡ 0 → walk texts (left - 1) k (at + 2) ≡ walk texts left inside at
+        walk-on z =
+            let one : left - 1 ≡ suc (left - 2) = omega arith in
+            ap (λ (n : ℕ). walk texts n k (at + 2)) one ∙ a-module (entryAt k .value) (walk texts (suc (left - 2)) k (at + 2)) z ∙ sym (inner (left - 2))
+            ∙ ap (λ (n : ℕ). walk texts n inside at) (sym (two-left l h))
+
+  pub walk-ended : (left inside at : ℕ) → left ≤ 0 → poisoned ≡ walk texts left inside at
+  unfolding walk
+  walk-ended zero inside at h = refl
+  walk-ended (suc n) inside at h = absurd (omega arith)
+
+-- the value of an entry, or none
+pub item-value : (s : List ℕ) (ts : List Content) (t k l h : ℕ) (o : Option values.Value) → k ≡ kindOf o → l ≡ lowOf o → h ≡ highOf o → (k ≡ 0 → ⊥)
+    → Val (record { kind = k; lo = l; hi = h }) ≡ judgedAs s (lastItem ts t o)
+item-value s ts t k l h none p q r n = absurd (n p)
+item-value s ts t k l h (some v) p q r n = rw (p, q, r)
+
+pub item-module : (s : List ℕ) (ts : List Content) (t : ℕ) (o : Option values.Value) → kindOf o ≡ 0 → lastItem ts t o ≡ err t notAValue
+item-module s ts t none h = refl
+item-module s ts t (some v) h = absurd (some-kind v h)
+
+-- ---- a path's module
+
+module _ (s ws : List ℕ) (used i t n : ℕ) (ts : List Content) (w v : List ℕ) (p : i ≡ place (namesIn s ws used 0) w) (o : w ≡ v) where
+  e′ : i ≡ place (namesIn s ws used 0) v
+  e′ = p ∙ ap (place (namesIn s ws used 0)) o
+
+  pub below-failed : (top : ℕ) → i < used → top ≡ nameWord ws i 3 → top ≡ 0 → poisoned ≡ below ts t n (findImport (importsIn s ws used 0) v)
+  below-failed zero h q z = rw (import-found s ws v used i e′ h, ← q)
+  below-failed (suc m) h q z = absurd (omega arith)
+
+  pub below-found : (top : ℕ) → i < used → top ≡ nameWord ws i 3 → (top ≡ 0 → ⊥) → walk ts n top t ≡ below ts t n (findImport (importsIn s ws used 0) v)
+  below-found zero h q z = absurd (z refl)
+  below-found (suc m) h q z = rw (import-found s ws v used i e′ h, ← q)
+
+  pub below-lost : used ≤ i → err t notImported ≡ below ts t n (findImport (importsIn s ws used 0) v)
+  below-lost h = rw (import-lost s ws v used i e′ h)
+
+-- ---- findings that show a name
+
+module _ (s : List ℕ) (t : ℕ) {tok : Token} (e : tok ≡ tokenAs (tokenOf s t)) where
+  pub not-imported : namedAs 1 5 tok 0 0 ≡ faultAs s t notImported
+  not-imported = rw e
+
+  pub not-a-module : namedAs 1 6 tok 0 0 ≡ faultAs s t notAModule
+  not-a-module = rw e
+
+  pub not-a-value : namedAs 1 7 tok 0 0 ≡ faultAs s t notAValue
+  not-a-value = rw e
+
+  pub unknown-item : (m : ℕ) {rows : List ℕ} {a b : ℕ} → rows ≡ tableRows → a ≡ entryWord rows m 1 → b ≡ entryWord rows m 2
+      → namedAs 1 2 tok a b ≡ faultAs s t (unknownItem m)
+  unknown-item m r p q = let w = words m in rw (p, q, r, w .start, w .end, e)
+
+-- ---- the words of an entry
+
+module _ (k : ℕ) {rows : List ℕ} {x : ℕ} (r : rows ≡ tableRows) where
+  pub entry-kind : x ≡ entryWord rows k 3 → x ≡ kindOf (entryAt k .value)
+  entry-kind e = e ∙ rw r (words k .kind)
+
+  pub entry-low : x ≡ entryWord rows k 4 → x ≡ lowOf (entryAt k .value)
+  entry-low e = e ∙ rw r (words k .low)
+
+  pub entry-high : x ≡ entryWord rows k 5 → x ≡ highOf (entryAt k .value)
+  entry-high e = e ∙ rw r (words k .high)
+
+-- a name that was read, looked up
+pub looked : (s : List ℕ) (m t : ℕ) {k : ℕ} {w : List ℕ} → w ≡ nameAt (contents (tokens.tokens s)) t → k ≡ orZero (lookup m w)
+    → k ≡ orZero (lookup m (nameAt (contents (tokens.tokens s)) t))
+looked s m t e q = q ∙ ap (λ (w : List ℕ). orZero (lookup m w)) e

@@ -1,0 +1,314 @@
+-- Values as three words: what a kind says of a value, and findings that show it.
+use mathlib.Core.Path.{_≡_, refl, sym, ap, _∙_}
+use mathlib.Core.Bool.{Bool, true, false, _&&_, _||_}
+use mathlib.Core.Option.{Option, none, some}
+use mathlib.Core.List.{List, [], _∷_}
+use Prim.Native.Nat.{ℕ, zero, suc, _+_, _*_, _/_, _%_, _≤_, _<_}
+use native.Mathlib.Omega.{arith}
+use borrow.Author.Tests.{eq-eqb, ne-eqb}
+use lib.Dec.{eqb, leb}
+use lib.ListN.{length, getD}
+use Rattle.constants.specs.Constants.{tableRows, kindOf, lowOf, highOf, entryWord}
+use Rattle.constants.proofs.Entries.{words}
+use Rattle.language.specs.Choice.{if′}
+use Rattle.language.specs.Integers.{IntType, u8, u16, u32, u64}
+use Rattle.language.specs.Lexemes.{Tok, lParen, rParen, dot, doubleColon, colon, semiColon, equals, comma, slash, importKeyword, letKeyword, identifier, booleanLiteral, ipv4Literal, hexLiteral, decLiteral}
+use Rattle.language.specs.Tables as tables
+use Rattle.language.specs.Tables.{contentKind, contentLow, contentHigh, bit}
+use Rattle.language.specs.Tokens as tokens
+use Rattle.language.specs.Tokens.{Content, eof, plain, name, string, contents}
+use Rattle.language.specs.Values.{isInteger, isBool, isSized, isIp4, isSock4, isString, isText, isFunction, Ty, typeOf, entryAt}
+use Rattle.language.specs.Values as values
+use Rattle.language.specs.Judgements.{literalValue, literalAt, integerOf, ip4Of, Side, operandType}
+use Rattle.language.specs.Findings.{valueKind, valueLow, valueHigh, tyKind, sideKind}
+use Rattle.language.specs.Numbers.{tokenOf}
+use Rattle.judging.specs.declared.Token.{Token}
+use Rattle.judging.specs.declared.Value.{Value}
+use Rattle.judging.specs.declared.Text.{Text}
+use Rattle.judging.specs.declared.Judged.{Judged}
+use Rattle.judging.specs.declared.Judged.the-variants.{Val, Err, Poisoned}
+use Rattle.judging.specs.Judging.{tokenAs, valueAs, opened, Canon, heldAs, isIntegral, textAs, typedAs, faultAs, sock4As, judgedAs}
+use Rattle.judging.proofs.TokenRows.{content-of}
+
+-- ---- three words read back
+
+pub opened-as : (o : Option values.Value) → opened (kindOf o) (lowOf o) (highOf o) ≡ o
+unfolding opened
+opened-as none = refl
+opened-as (some (isInteger n)) = let e : n / tables.word * tables.word + n % tables.word ≡ n = omega arith in rw e
+opened-as (some (isBool true)) = refl
+opened-as (some (isBool false)) = refl
+opened-as (some (isSized u8 n)) = refl
+opened-as (some (isSized u16 n)) = refl
+opened-as (some (isSized u32 n)) = refl
+opened-as (some (isSized u64 n)) = refl
+opened-as (some (isIp4 n)) = refl
+opened-as (some (isSock4 n p)) = refl
+opened-as (some (isString t)) = refl
+opened-as (some (isText a b)) = refl
+opened-as (some (isFunction k)) = refl
+
+pub canon-of : (o : Option values.Value) → Canon (kindOf o) (lowOf o) (highOf o)
+canon-of o = let e = opened-as o in record { kind = rw e; low = rw e; high = rw e }
+
+pub some-kind : (u : values.Value) → valueKind u ≡ 0 → ⊥
+some-kind (isInteger n) e = omega arith
+some-kind (isBool b) e = omega arith
+some-kind (isSized u8 n) e = omega arith
+some-kind (isSized u16 n) e = omega arith
+some-kind (isSized u32 n) e = omega arith
+some-kind (isSized u64 n) e = omega arith
+some-kind (isIp4 n) e = omega arith
+some-kind (isSock4 n p) e = omega arith
+some-kind (isString t) e = omega arith
+some-kind (isText a b) e = omega arith
+some-kind (isFunction k) e = omega arith
+
+-- ---- types
+
+pub kind-17 : (u : values.Value) → valueKind u ≡ 17 → 9 ≡ tyKind (typeOf u)
+kind-17 (isInteger n) e = absurd (omega arith)
+kind-17 (isBool b) e = absurd (omega arith)
+kind-17 (isSized u8 n) e = absurd (omega arith)
+kind-17 (isSized u16 n) e = absurd (omega arith)
+kind-17 (isSized u32 n) e = absurd (omega arith)
+kind-17 (isSized u64 n) e = absurd (omega arith)
+kind-17 (isIp4 n) e = absurd (omega arith)
+kind-17 (isSock4 n p) e = absurd (omega arith)
+kind-17 (isString t) e = refl
+kind-17 (isText a b) e = refl
+kind-17 (isFunction k) e = absurd (omega arith)
+
+pub kind-type : (u : values.Value) → (valueKind u ≡ 17 → ⊥) → valueKind u ≡ tyKind (typeOf u)
+kind-type (isInteger n) h = refl
+kind-type (isBool b) h = refl
+kind-type (isSized t n) h = refl
+kind-type (isIp4 n) h = refl
+kind-type (isSock4 n p) h = refl
+kind-type (isString t) h = refl
+kind-type (isText a b) h = absurd (h refl)
+kind-type (isFunction k) h = refl
+
+pub plain-text : (u : values.Value) → (valueKind u ≡ 14 → ⊥) → record { from = 0; start = 0; end = 0 } ≡ textAs (typeOf u)
+plain-text (isInteger n) h = refl
+plain-text (isBool b) h = refl
+plain-text (isSized t n) h = refl
+plain-text (isIp4 n) h = refl
+plain-text (isSock4 n p) h = refl
+plain-text (isString t) h = refl
+plain-text (isText a b) h = refl
+plain-text (isFunction k) h = absurd (h refl)
+
+pub function-text : {rows : List ℕ} → rows ≡ tableRows → (u : values.Value) → valueKind u ≡ 14
+    → record { from = 2; start = entryWord rows (valueLow u) 1; end = entryWord rows (valueLow u) 2 } ≡ textAs (typeOf u)
+function-text r (isInteger n) e = absurd (omega arith)
+function-text r (isBool b) e = absurd (omega arith)
+function-text r (isSized u8 n) e = absurd (omega arith)
+function-text r (isSized u16 n) e = absurd (omega arith)
+function-text r (isSized u32 n) e = absurd (omega arith)
+function-text r (isSized u64 n) e = absurd (omega arith)
+function-text r (isIp4 n) e = absurd (omega arith)
+function-text r (isSock4 n p) e = absurd (omega arith)
+function-text r (isString t) e = absurd (omega arith)
+function-text r (isText a b) e = absurd (omega arith)
+function-text r (isFunction k) e = let w = words k in rw (r, w .start, w .end)
+
+-- ---- operands of `/`
+
+pub ip4-is : (u : values.Value) → valueKind u ≡ 7 → ip4Of u ≡ some (valueLow u)
+ip4-is (isInteger n) e = absurd (omega arith)
+ip4-is (isBool b) e = absurd (omega arith)
+ip4-is (isSized u8 n) e = absurd (omega arith)
+ip4-is (isSized u16 n) e = absurd (omega arith)
+ip4-is (isSized u32 n) e = absurd (omega arith)
+ip4-is (isSized u64 n) e = absurd (omega arith)
+ip4-is (isIp4 n) e = refl
+ip4-is (isSock4 n p) e = absurd (omega arith)
+ip4-is (isString t) e = absurd (omega arith)
+ip4-is (isText a b) e = absurd (omega arith)
+ip4-is (isFunction k) e = absurd (omega arith)
+
+pub ip4-not : (u : values.Value) → (valueKind u ≡ 7 → ⊥) → ip4Of u ≡ none
+ip4-not (isInteger n) h = refl
+ip4-not (isBool b) h = refl
+ip4-not (isSized t n) h = refl
+ip4-not (isIp4 n) h = absurd (h refl)
+ip4-not (isSock4 n p) h = refl
+ip4-not (isString t) h = refl
+ip4-not (isText a b) h = refl
+ip4-not (isFunction k) h = refl
+
+-- the number that two words are
+abbrev pub numberAs : values.Value → ℕ
+numberAs u = valueHigh u * tables.word + valueLow u
+
+pub integer-is : (u : values.Value) → isIntegral (valueKind u) ≡ true → integerOf u ≡ some (numberAs u)
+unfolding isIntegral
+integer-is (isInteger n) e = let q : n ≡ n / tables.word * tables.word + n % tables.word = omega arith in ap some q
+integer-is (isBool b) e = let q : bit b ≡ 0 * tables.word + bit b = omega arith in ap some q
+integer-is (isSized t n) e = let q : n ≡ 0 * tables.word + n = omega arith in ap some q
+integer-is (isIp4 n) e = cc
+integer-is (isSock4 n p) e = cc
+integer-is (isString t) e = cc
+integer-is (isText a b) e = cc
+integer-is (isFunction k) e = cc
+
+pub integer-not : (u : values.Value) → isIntegral (valueKind u) ≡ false → integerOf u ≡ none
+unfolding isIntegral
+integer-not (isInteger n) e = cc
+integer-not (isBool b) e = cc
+integer-not (isSized u8 n) e = cc
+integer-not (isSized u16 n) e = cc
+integer-not (isSized u32 n) e = cc
+integer-not (isSized u64 n) e = cc
+integer-not (isIp4 n) e = refl
+integer-not (isSock4 n p) e = refl
+integer-not (isString t) e = refl
+integer-not (isText a b) e = refl
+integer-not (isFunction k) e = refl
+
+-- ---- literals
+
+module _ (t : ℕ) where
+  pub bool-literal : (c : Content) → contentKind c ≡ 14 → record { kind = 2; lo = contentLow c; hi = 0 } ≡ valueAs (literalValue t c)
+  bool-literal eof e = absurd (omega arith)
+  bool-literal (plain lParen) e = absurd (omega arith)
+  bool-literal (plain rParen) e = absurd (omega arith)
+  bool-literal (plain dot) e = absurd (omega arith)
+  bool-literal (plain doubleColon) e = absurd (omega arith)
+  bool-literal (plain colon) e = absurd (omega arith)
+  bool-literal (plain semiColon) e = absurd (omega arith)
+  bool-literal (plain equals) e = absurd (omega arith)
+  bool-literal (plain comma) e = absurd (omega arith)
+  bool-literal (plain slash) e = absurd (omega arith)
+  bool-literal (plain importKeyword) e = absurd (omega arith)
+  bool-literal (plain letKeyword) e = absurd (omega arith)
+  bool-literal (plain identifier) e = absurd (omega arith)
+  bool-literal (plain (booleanLiteral b)) e = refl
+  bool-literal (plain (ipv4Literal n)) e = absurd (omega arith)
+  bool-literal (plain (hexLiteral n)) e = absurd (omega arith)
+  bool-literal (plain (decLiteral n)) e = absurd (omega arith)
+  bool-literal (name bs) e = absurd (omega arith)
+  bool-literal (string b bs) e = absurd (omega arith)
+
+  pub ip4-literal : (c : Content) → contentKind c ≡ 15 → record { kind = 7; lo = contentLow c; hi = 0 } ≡ valueAs (literalValue t c)
+  ip4-literal eof e = absurd (omega arith)
+  ip4-literal (plain lParen) e = absurd (omega arith)
+  ip4-literal (plain rParen) e = absurd (omega arith)
+  ip4-literal (plain dot) e = absurd (omega arith)
+  ip4-literal (plain doubleColon) e = absurd (omega arith)
+  ip4-literal (plain colon) e = absurd (omega arith)
+  ip4-literal (plain semiColon) e = absurd (omega arith)
+  ip4-literal (plain equals) e = absurd (omega arith)
+  ip4-literal (plain comma) e = absurd (omega arith)
+  ip4-literal (plain slash) e = absurd (omega arith)
+  ip4-literal (plain importKeyword) e = absurd (omega arith)
+  ip4-literal (plain letKeyword) e = absurd (omega arith)
+  ip4-literal (plain identifier) e = absurd (omega arith)
+  ip4-literal (plain (booleanLiteral b)) e = absurd (omega arith)
+  ip4-literal (plain (ipv4Literal n)) e = refl
+  ip4-literal (plain (hexLiteral n)) e = absurd (omega arith)
+  ip4-literal (plain (decLiteral n)) e = absurd (omega arith)
+  ip4-literal (name bs) e = absurd (omega arith)
+  ip4-literal (string b bs) e = absurd (omega arith)
+
+  pub string-literal : (c : Content) → contentKind c ≡ 16 → record { kind = 9; lo = t; hi = 0 } ≡ valueAs (literalValue t c)
+  string-literal eof e = absurd (omega arith)
+  string-literal (plain lParen) e = absurd (omega arith)
+  string-literal (plain rParen) e = absurd (omega arith)
+  string-literal (plain dot) e = absurd (omega arith)
+  string-literal (plain doubleColon) e = absurd (omega arith)
+  string-literal (plain colon) e = absurd (omega arith)
+  string-literal (plain semiColon) e = absurd (omega arith)
+  string-literal (plain equals) e = absurd (omega arith)
+  string-literal (plain comma) e = absurd (omega arith)
+  string-literal (plain slash) e = absurd (omega arith)
+  string-literal (plain importKeyword) e = absurd (omega arith)
+  string-literal (plain letKeyword) e = absurd (omega arith)
+  string-literal (plain identifier) e = absurd (omega arith)
+  string-literal (plain (booleanLiteral b)) e = absurd (omega arith)
+  string-literal (plain (ipv4Literal n)) e = absurd (omega arith)
+  string-literal (plain (hexLiteral n)) e = absurd (omega arith)
+  string-literal (plain (decLiteral n)) e = absurd (omega arith)
+  string-literal (name bs) e = absurd (omega arith)
+  string-literal (string b bs) e = refl
+
+  -- an integer, or a token that is no literal and carries no value
+  pub other-literal : (c : Content) → (contentKind c ≡ 14 → ⊥) → (contentKind c ≡ 15 → ⊥) → (contentKind c ≡ 16 → ⊥)
+      → record { kind = 16; lo = contentLow c; hi = contentHigh c } ≡ valueAs (literalValue t c)
+  other-literal eof p q o = refl
+  other-literal (plain lParen) p q o = refl
+  other-literal (plain rParen) p q o = refl
+  other-literal (plain dot) p q o = refl
+  other-literal (plain doubleColon) p q o = refl
+  other-literal (plain colon) p q o = refl
+  other-literal (plain semiColon) p q o = refl
+  other-literal (plain equals) p q o = refl
+  other-literal (plain comma) p q o = refl
+  other-literal (plain slash) p q o = refl
+  other-literal (plain importKeyword) p q o = refl
+  other-literal (plain letKeyword) p q o = refl
+  other-literal (plain identifier) p q o = refl
+  other-literal (plain (booleanLiteral b)) p q o = absurd (p refl)
+  other-literal (plain (ipv4Literal n)) p q o = absurd (q refl)
+  other-literal (plain (hexLiteral n)) p q o = refl
+  other-literal (plain (decLiteral n)) p q o = refl
+  other-literal (name bs) p q o = refl
+  other-literal (string b bs) p q o = absurd (o refl)
+
+  module _ (s : List ℕ) {tok : Token} (e : tok ≡ tokenAs (tokenOf s t)) where
+    is-at : {v : Value} → v ≡ valueAs (literalValue t (tokenOf s t .content)) → v ≡ valueAs (literalAt (contents (tokens.tokens s)) t)
+    is-at h = h ∙ sym (ap (λ (c : Content). valueAs (literalValue t c)) (content-of s t))
+
+    kind-is : tok .kind ≡ contentKind (tokenOf s t .content)
+    kind-is = ap (λ (k : Token). k .kind) e
+
+    pub literal-bool : tok .kind ≡ 14 → record { kind = 2; lo = tok .lo; hi = 0 } ≡ valueAs (literalAt (contents (tokens.tokens s)) t)
+    literal-bool k = is-at (rw e (bool-literal (tokenOf s t .content) (sym kind-is ∙ k)))
+
+    pub literal-ip4 : tok .kind ≡ 15 → record { kind = 7; lo = tok .lo; hi = 0 } ≡ valueAs (literalAt (contents (tokens.tokens s)) t)
+    literal-ip4 k = is-at (rw e (ip4-literal (tokenOf s t .content) (sym kind-is ∙ k)))
+
+    pub literal-string : tok .kind ≡ 16 → record { kind = 9; lo = t; hi = 0 } ≡ valueAs (literalAt (contents (tokens.tokens s)) t)
+    literal-string k = is-at (string-literal (tokenOf s t .content) (sym kind-is ∙ k))
+
+    pub literal-other : (tok .kind ≡ 14 → ⊥) → (tok .kind ≡ 15 → ⊥) → (tok .kind ≡ 16 → ⊥)
+        → record { kind = 16; lo = tok .lo; hi = tok .hi } ≡ valueAs (literalAt (contents (tokens.tokens s)) t)
+    literal-other p q r =
+        is-at (rw e (other-literal (tokenOf s t .content) (λ z. p (kind-is ∙ z)) (λ z. q (kind-is ∙ z)) (λ z. r (kind-is ∙ z))))
+
+pub sock4-is : {a p : Token} (x y : tokens.Token) → a ≡ tokenAs x → p ≡ tokenAs y → record { kind = 8; lo = a .lo; hi = p .lo } ≡ sock4As x y
+sock4-is x y e f = rw (e, f)
+
+-- ---- findings that show a type
+
+pub shown-text : {v : Value} {rows : List ℕ} {a b : ℕ} (u : values.Value) → v ≡ valueAs u → rows ≡ tableRows → v .kind ≡ 14
+    → a ≡ entryWord rows (v .lo) 1 → b ≡ entryWord rows (v .lo) 2 → record { from = 2; start = a; end = b } ≡ textAs (typeOf u)
+shown-text {rows = rows} u e r k p q =
+    rw (p, q, e) (function-text r u (sym (ap (λ (x : Value). x .kind) e) ∙ k))
+
+pub typed-is : {severity kind a b c ty : ℕ} (tok : Token) {x : Text} (u : values.Value) → x ≡ textAs (typeOf u) → ty ≡ tyKind (typeOf u)
+    → record {
+        line = tok .line;
+        column = tok .column;
+        detail = record { severity = severity; kind = kind; text = x .from; start = x .start; end = x .end; ty = ty; first = a; second = b; third = c };
+      } ≡ typedAs severity kind tok (typeOf u) a b c
+typed-is tok u e f = rw (e, f)
+
+pub operand-is : (s : List ℕ) (t : ℕ) {tok : Token} → tok ≡ tokenAs (tokenOf s t) → (u : values.Value) (d : Side) (ty : Ty) {side wanted : ℕ}
+    → side ≡ sideKind d → wanted ≡ tyKind ty → typedAs 1 10 tok (typeOf u) side wanted 1 ≡ faultAs s t (operandType d ty (typeOf u))
+operand-is s t e u d ty p q = rw (e, p, q)
+
+-- ---- tests
+
+pub held-none : (k l h : ℕ) → k ≡ 0 → Poisoned ≡ heldAs k l h
+unfolding heldAs
+held-none k l h e = rw (eq-eqb k 0 e)
+
+pub held-some : (k l h : ℕ) → (k ≡ 0 → ⊥) → Val (record { kind = k; lo = l; hi = h }) ≡ heldAs k l h
+unfolding heldAs
+held-some k l h n = rw (ne-eqb k 0 n)
+
+pub integral-is : (k : ℕ) → ((leb 2 k && leb k 6) || eqb k 16) ≡ isIntegral k
+unfolding isIntegral
+integral-is k = refl

@@ -1,0 +1,22 @@
+use mathlib.Core.Path.{ap, _∙_}
+use Rattle.judging.specs.declared.Judged.the-variants.{Err}
+use Rattle.judging.proofs.Values.{operand-is}
+use borrow.Author.Needs.{needs}
+use Rattle.judging.proofs.operand.Statement.{statement}
+use Rattle.judging.proofs.operand.Tie as tie
+use Rattle.judging.proofs.operand.Reads as reads
+use Rattle.judging.proofs.operand.Lts as lts
+use Rattle.judging.proofs.token_at.Reads as token-at-reads
+use Rattle.judging.proofs.typed.Reads as typed-reads
+
+token-at-requires : tie.Need-token-at-requires
+token-at-requires c κs = search needs
+
+typed-requires : tie.Need-typed-requires
+typed-requires c κs = search needs
+
+returns : tie.Need-returns
+returns c = λ s o. record { is = λ u d ty e p q. ap Err (c .typed .ensures .is u e ∙ operand-is s _ (c .before .token-at .ensures s o) u d ty p q) }
+
+pub operand-spec : {M : Type 1} → statement M
+operand-spec = tie.close (tie.spec token-at-requires typed-requires returns)

@@ -1,0 +1,68 @@
+use mathlib.Core.Path.{_≡_, refl, sym, ap, _∙_}
+use Rattle.judging.specs.declared.Judged.the-variants.{Err}
+use Rattle.judging.specs.Judging.{judgedAs}
+use Rattle.judging.proofs.TokenRows.{some-row}
+use Rattle.judging.proofs.Names.{below-failed, below-found, below-lost, not-imported}
+use borrow.Author.Needs.{needs}
+use Rattle.judging.proofs.path.Statement.{statement}
+use Rattle.judging.proofs.path.Tie as tie
+use Rattle.judging.proofs.path.Reads as reads
+use Rattle.judging.proofs.path.Lts as lts
+use Rattle.judging.proofs.find.Reads as find-reads
+use Rattle.judging.proofs.name_at.Reads as name-at-reads
+use Rattle.judging.proofs.named.Reads as named-reads
+use Rattle.judging.proofs.token_at.Reads as token-at-reads
+use Rattle.judging.proofs.walk.Reads as walk-reads
+
+token-at-requires : tie.Need-token-at-requires
+token-at-requires c κs = some-row (c .before .before .before .pre .0)
+
+name-at-requires : tie.Need-name-at-requires
+name-at-requires c κs = search needs
+
+find-requires : tie.Need-find-requires
+find-requires c κs = search needs
+
+mul-top : tie.Need-mul-top
+mul-top c = search needs
+
+add-top : tie.Need-add-top
+add-top c = search needs
+
+mul-top-2 : tie.Need-mul-top-2
+mul-top-2 c = search needs
+
+shared-slice-read-top : tie.Need-shared-slice-read-top
+shared-slice-read-top c = search needs
+
+returns : tie.Need-returns
+returns c = record { is = ap (judgedAs _) (below-failed _ _ _ _ _ _ _ _ _ (c .before .before .before .find .ensures) (c .before .before .before .before .name-at .ensures _ (c .before .before .before .before .before .token-at .ensures _ (c .before .before .before .before .before .before .before .before .before .pre .0))) _ (c .before .before .if1 .taken) refl (c .if2 .taken)) }
+
+walk-requires : tie.Need-walk-requires
+walk-requires c κs = c .before .before .before .before .before .before .before .before .before .pre .0
+
+returns-2 : tie.Need-returns-2
+returns-2 c = record { is = c .walk .ensures ∙ ap (judgedAs _) (below-found _ _ _ _ _ _ _ _ _ (c .before .before .before .before .find .ensures) (c .before .before .before .before .before .name-at .ensures _ (c .before .before .before .before .before .before .token-at .ensures _ (c .before .before .before .before .before .before .before .before .before .before .pre .0))) _ (c .before .before .before .if1 .taken) refl (c .before .if2 .left)) }
+
+named-requires : tie.Need-named-requires
+named-requires c κs = search needs
+
+returns-3 : tie.Need-returns-3
+returns-3 c = record { is = ap Err (c .named .ensures ∙ not-imported _ _ (c .before .before .before .before .token-at .ensures _ (c .before .before .before .before .before .before .before .before .pre .0))) ∙ ap (judgedAs _) (below-lost _ _ _ _ _ _ _ _ _ (c .before .before .find .ensures) (c .before .before .before .name-at .ensures _ (c .before .before .before .before .token-at .ensures _ (c .before .before .before .before .before .before .before .before .pre .0))) (c .before .if1 .left)) }
+
+pub path-spec : {M : Type 1} → statement M
+path-spec =
+    tie.close
+    (tie.spec
+    token-at-requires
+    name-at-requires
+    find-requires
+    mul-top
+    add-top
+    mul-top-2
+    shared-slice-read-top
+    returns
+    walk-requires
+    returns-2
+    named-requires
+    returns-3)
