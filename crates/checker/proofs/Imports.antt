@@ -73,20 +73,12 @@ module _ (s : List ℕ) (n t : ℕ) (m : What) (c c′ : Counts) (x u y : List �
 module _ (ts : List Content) (n : ℕ) (k : Known) (t : ℕ) where
   again : {i : Import} → findImport (k .imports) (nameAt ts t) ≡ some i → stmt ts n k (import′ t) ≡ goes k (diag n t multipleImports ∷ []) []
   unfolding stmt
-  again e =
-      ap (λ (o : Option Import). elim o [
-        | some i ↦ goes k (diag n t multipleImports ∷ []) []
-        | none ↦ if′ (ltb (length (k .imports)) mostImports) (imported ts n k t (lookup 0 (nameAt ts t))) (full t)
-      ]) e
+  again e = ap (judgements.importStmt ts n k t) e
 
   not-yet : findImport (k .imports) (nameAt ts t) ≡ none
       → stmt ts n k (import′ t) ≡ if′ (ltb (length (k .imports)) mostImports) (imported ts n k t (lookup 0 (nameAt ts t))) (full t)
   unfolding stmt
-  not-yet e =
-      ap (λ (o : Option Import). elim o [
-        | some i ↦ goes k (diag n t multipleImports ∷ []) []
-        | none ↦ if′ (ltb (length (k .imports)) mostImports) (imported ts n k t (lookup 0 (nameAt ts t))) (full t)
-      ]) e
+  not-yet e = ap (judgements.importStmt ts n k t) e
 
 -- ---- turns
 
