@@ -175,7 +175,7 @@ pub record Checked : Type 0 where
 abbrev pub refusedCheck : Verdict → Checked
 refusedCheck v = record { verdict = v; tokens = 0; nodes = 0; errors = 0; warnings = 0; statements = 0 }
 
--- the smallest token of a `(` that stands in a node of a call, and the other
+-- the earlier of a token and another, if there is another
 abbrev pub sooner : ℕ → Option ℕ → Option ℕ
 sooner t none = some t
 sooner t (some u) = if′ (ltb u t) (some u) (some t)
