@@ -119,23 +119,23 @@ pub record StmtFits (ws : List ℕ) (i : ℕ) (c : Counts) : Type 0 where
 -- ---- turns that may bind a name
 
 -- then the tables of names are b and i, the others y and v
-pub record Steps (s toks : List ℕ) (c : Counts) (x u : List ℕ) (c′ : Counts) (b i y v : List ℕ) (k : Known) (ds : List Diag) (hs : List Held) : Type 0 where
+pub record Steps (s toks : List ℕ) (c : Counts) (x u : List ℕ) (c′ : Counts) (b i : List (List ℕ)) (y v : List ℕ) (k : Known) (ds : List Diag) (hs : List Held) : Type 0 where
   pub knows : Knows s b i c′ k
   pub ready : Ready s toks b i c′
   pub grows : Grows s c x u c′ y v ds hs
 
-abbrev pub TurnOf : List ℕ → List ℕ → Counts → List ℕ → List ℕ → Turn → List ℕ → List ℕ → List ℕ → List ℕ → judgements.Turn → Type 0
+abbrev pub TurnOf : List ℕ → List ℕ → Counts → List ℕ → List ℕ → Turn → List (List ℕ) → List (List ℕ) → List ℕ → List ℕ → judgements.Turn → Type 0
 TurnOf s toks c x u (Went c′) b i y v (goes k ds hs) = Steps s toks c x u c′ b i y v k ds hs
 TurnOf s toks c x u (Went c′) b i y v (full t) = ⊥
 TurnOf s toks c x u (Full t) b i y v (goes k ds hs) = ⊥
 TurnOf s toks c x u (Full t) b i y v (full t′) = t ≡ t′
 
-pub record Turns (s toks : List ℕ) (c : Counts) (x u : List ℕ) (r : Turn) (b i y v : List ℕ) (t : judgements.Turn) : Type 0 where
+pub record Turns (s toks : List ℕ) (c : Counts) (x u : List ℕ) (r : Turn) (b i : List (List ℕ)) (y v : List ℕ) (t : judgements.Turn) : Type 0 where
   pub turn : TurnOf s toks c x u r b i y v t
 
 -- a `let` after its value was judged
-pub record Binds (b x′ : List ℕ) (start end t : ℕ) (j : Judgement) (c′ : Counts) (b′ y : List ℕ) : Type 0 where
-  pub is : (s toks i x u : List ℕ) (n : ℕ) (k : Known) (c : Counts) (e : Expr) → Knows s b i c k → Ready s toks b i c
+pub record Binds (b : List (List ℕ)) (x′ : List ℕ) (start end t : ℕ) (j : Judgement) (c′ : Counts) (b′ : List (List ℕ)) (y : List ℕ) : Type 0 where
+  pub is : (s toks : List ℕ) (i : List (List ℕ)) (x u : List ℕ) (n : ℕ) (k : Known) (c : Counts) (e : Expr) → Knows s b i c k → Ready s toks b i c
       → between s start end ≡ nameAt (contents (tokens.tokens s)) t → Agrees s j x x′ c (judge (contents (tokens.tokens s)) n k e)
       → TurnOf s toks c x u (Went c′) b′ i y u
           (bound (contents (tokens.tokens s)) n k t (judge (contents (tokens.tokens s)) n k e .out) (judge (contents (tokens.tokens s)) n k e .warns))

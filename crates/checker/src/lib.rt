@@ -3,7 +3,7 @@
 ghost use mathlib.Core.Path.{_≡_};
 ghost use mathlib.Core.List.{List, []};
 ghost use Prim.Native.Nat.{ℕ, _+_, _*_, _<_, _≤_};
-ghost use lib.ListN.{length, getD};
+ghost use lib.ListN.{length, set};
 ghost use Rattle.table.specs.Table.{putRow};
 ghost use Rattle.language.specs.Tokens.{tokens, contents, between};
 ghost use Rattle.language.specs.Numbers.{tokenOf};
@@ -17,24 +17,43 @@ use constants::Constants;
 use judging::{Counts, Detail, Fault, Judged, Judgement, Text, Token, Value};
 use wide::{Size, Wide};
 
-// The names that are bound and imported: tables of 512 and 64 empty entries of six words each (crate `judging`).
-pub struct Checker {
-    pub bindings: [u64; Checker::BINDING_WORDS],
-    pub imports: [u64; Checker::IMPORT_WORDS],
-}
+// The checker's state: two arrays of empty entries for the names that are bound and imported, filled in order of binding,
+// and `Counts`, which says how many of each are filled. An entry holds where the name's span starts and ends, its token, and
+// its value as three words (crate `judging`).
+pub struct Checker {}
 
 impl Checker {
     pub const NAMES: usize = 512;
     pub const IMPORTS: usize = 64;
-    pub const BINDING_WORDS: usize = 3072;
-    pub const IMPORT_WORDS: usize = 384;
 
-    pub fn new() -> Self
-        ensures { λ r. ⌜ (length (r .bindings) ≡ 3072) × (length (r .imports) ≡ 384) ⌝ }
+    // An entry with no name and no value.
+    pub const EMPTY: [u64; 6] = [0; 6];
+
+    // No names yet.
+    pub fn names() -> [[u64; 6]; Checker::NAMES]
+        ensures { λ r. ⌜ length r ≡ 512 ⌝ }
     {
-        let bindings = [0u64; Checker::BINDING_WORDS];
-        let imports = [0u64; Checker::IMPORT_WORDS];
-        Checker { bindings, imports }
+        [Checker::EMPTY; Checker::NAMES]
+    }
+
+    // No imports yet.
+    pub fn modules() -> [[u64; 6]; Checker::IMPORTS]
+        ensures { λ r. ⌜ length r ≡ 64 ⌝ }
+    {
+        [Checker::EMPTY; Checker::IMPORTS]
+    }
+
+    // Nothing is bound, imported, found or held.
+    pub fn start() -> Counts
+        ensures { λ r. ⌜ r ≡ record { used = 0; imported = 0; errors = 0; warnings = 0; statements = 0 } ⌝ }
+    {
+        Counts {
+            used: 0,
+            imported: 0,
+            errors: 0,
+            warnings: 0,
+            statements: 0,
+        }
     }
 }
 
@@ -126,12 +145,11 @@ fn name_span(tok: Token) -> Span
 }
 
 // Writes an entry of a table of names.
-fn put_entry(entries: &mut [u64], row: usize, name: Span, t: u64, v: Value)
-    requires { ⌜ row ≤ 512 ⌝ }
-    ensures { λ _. ⌜ now (entries .exit) ≡ putRow (now (entries .entry)) row (entryRow (name .start) (name .end) t v) ⌝ }
+fn put_entry(entries: &mut [[u64; 6]], row: usize, name: Span, t: u64, v: Value)
+    requires { ⌜ row < length (now entries) ⌝ }
+    ensures { λ _. ⌜ now (entries .exit) ≡ set (now (entries .entry)) row (entryRow (name .start) (name .end) t v) ⌝ }
 {
-    let words: [u64; 6] = [name.start, name.end, t, v.kind, v.lo, v.hi];
-    table::put_row(entries, row, &words);
+    entries[row] = [name.start, name.end, t, v.kind, v.lo, v.hi];
 }
 
 // What is shown of a value that a statement discards: which text (0 none, 1 the source, 2 the constant table's), and two
@@ -257,7 +275,7 @@ fn tell(toks: &[u64], diags: &mut [u64], stmts: &mut [u64], t: u64, v: Value, co
 }
 
 // An expression as a statement: row i.
-fn expr_stmt(source: &[u8], toks: &[u64], nodes: &[u64], bindings: &[u64], imports: &[u64], diags: &mut [u64], stmts: &mut [u64], i: usize, counts: Counts) -> Counts
+fn expr_stmt(source: &[u8], toks: &[u64], nodes: &[u64], bindings: &[[u64; 6]], imports: &[[u64; 6]], diags: &mut [u64], stmts: &mut [u64], i: usize, counts: Counts) -> Counts
     requires { ⌜ Ready (now source) (now toks) (now bindings) (now imports) counts ⌝ }
     requires { ⌜ StmtFits (now nodes) i counts × (5 * i + 5 ≤ length (now nodes)) ⌝ }
     ensures { λ r. ⌜ ((n : ℕ) (k : Known) (e : Expr) → Knows (now (source .entry)) (now (bindings .entry)) (now (imports .entry)) counts k
@@ -286,10 +304,10 @@ fn module_at(source: &[u8], tok: Token) -> u64
 }
 
 // `import` of the name at the token t. A failed import poisons its name, as a failed `let` does.
-fn import(source: &[u8], toks: &[u64], imports: &mut [u64], diags: &mut [u64], t: u64, counts: Counts) -> Turn
-    requires { ⌜ Lexed (now source) (now toks) × (384 ≤ length (now imports)) × (counts .imported ≤ 64) ⌝ }
+fn import(source: &[u8], toks: &[u64], imports: &mut [[u64; 6]], diags: &mut [u64], t: u64, counts: Counts) -> Turn
+    requires { ⌜ Lexed (now source) (now toks) × (64 ≤ length (now imports)) × (counts .imported ≤ 64) ⌝ }
     requires { ⌜ Room counts ⌝ }
-    ensures { λ r. ⌜ ((n : ℕ) (k : Known) (b u : List ℕ) → Knows (now (source .entry)) b (now (imports .entry)) counts k
+    ensures { λ r. ⌜ ((n : ℕ) (k : Known) (b : List (List ℕ)) (u : List ℕ) → Knows (now (source .entry)) b (now (imports .entry)) counts k
         → Ready (now (source .entry)) (now (toks .entry)) b (now (imports .entry)) counts
         → Turns (now (source .entry)) (now (toks .entry)) counts (now (diags .entry)) u r b (now (imports .exit)) (now (diags .exit)) u
             (stmt (contents (tokens (now (source .entry)))) n k (import′ t))) ⌝ }
@@ -314,8 +332,8 @@ fn import(source: &[u8], toks: &[u64], imports: &mut [u64], diags: &mut [u64], t
 }
 
 // Binds a name to what its value came to; where that failed, to nothing.
-fn bind(bindings: &mut [u64], diags: &mut [u64], name: Span, t: u64, j: Judgement) -> Counts
-    requires { ⌜ (j .counts .used < 512) × (3072 ≤ length (now bindings)) ⌝ }
+fn bind(bindings: &mut [[u64; 6]], diags: &mut [u64], name: Span, t: u64, j: Judgement) -> Counts
+    requires { ⌜ (j .counts .used < 512) × (512 ≤ length (now bindings)) ⌝ }
     requires { ⌜ Room (j .counts) ⌝ }
     ensures { λ r. ⌜ Binds (now (bindings .entry)) (now (diags .entry)) (name .start) (name .end) t j r (now (bindings .exit)) (now (diags .exit)) ⌝ }
 {
