@@ -152,3 +152,43 @@ pub data StmtsAt (ws : List ℕ) : ℕ → List Stmt → Type 0 where
       → StmtsAt ws i (let′ (word ws i 1) e ∷ ss)
   an-expr : {i : ℕ} {e : Expr} {ss : List Stmt} → 5 * i + 5 ≤ length ws → word ws i 0 ≡ 13 → RepAt ws (word ws i 2) e → StmtsAt ws (i + 1) ss
       → StmtsAt ws i (expr′ e ∷ ss)
+
+-- how many rows a statement has, which is as many findings as it can have, or more
+abbrev pub stmtSize : Stmt → ℕ
+stmtSize (import′ t) = 1
+stmtSize (let′ t e) = exprSize e + 1
+stmtSize (expr′ e) = exprSize e + 1
+
+unfoldable pub stmtsSize : List Stmt → ℕ
+stmtsSize [] = 0
+stmtsSize (s ∷ ss) = stmtSize s + stmtsSize ss
+
+-- the statements from row i on can be judged, and what they find and hold be counted
+pub record RowFits (ws : List ℕ) (i : ℕ) (c : Counts) : Type 0 where
+  pub list : List Stmt
+  pub stands : StmtsAt ws i list
+  pub room : c .errors + c .warnings + stmtsSize list ≤ 4611686018427387904
+  pub held : c .statements + stmtsSize list ≤ 4611686018427387904
+
+-- row i of the statements ss that are left: it passes a row of an expression, or takes a turn with the first. Before, the
+-- tables of names were b and m, the others x and u.
+pub data RowTurns (s toks ws : List ℕ) (i n : ℕ) (k : Known) (c : Counts) (b m : List (List ℕ)) (x u : List ℕ)
+    (r : Turn) (b′ m′ : List (List ℕ)) (y v : List ℕ) : List Stmt → Type 0 where
+  passes : {ss : List Stmt} → StmtsAt ws (i + 1) ss → r ≡ Went c → b′ ≡ b → m′ ≡ m → y ≡ x → v ≡ u → RowTurns s toks ws i n k c b m x u r b′ m′ y v ss
+  takes : {st : Stmt} {ss : List Stmt} → StmtsAt ws (i + 1) ss → Turns s toks c x u r b′ m′ y v (judgements.stmt (contents (tokens.tokens s)) n k st)
+      → RowTurns s toks ws i n k c b m x u r b′ m′ y v (st ∷ ss)
+
+-- ---- the run
+
+abbrev pub noCounts : Counts
+noCounts = record { used = 0; imported = 0; errors = 0; warnings = 0; statements = 0 }
+
+abbrev pub ComesTo : List ℕ → List ℕ → List ℕ → Turn → List ℕ → List ℕ → judgements.Outcome → Type 0
+ComesTo s x u (Went c) y v (judgements.judged ds hs) = Grows s noCounts x u c y v ds hs
+ComesTo s x u (Went c) y v (judgements.refused t) = ⊥
+ComesTo s x u (Full t) y v (judgements.judged ds hs) = ⊥
+ComesTo s x u (Full t) y v (judgements.refused t′) = t ≡ t′
+
+-- the tables of findings and of held statements were x and u, and are y and v after the run
+pub record Comes (s x u : List ℕ) (r : Turn) (y v : List ℕ) (o : judgements.Outcome) : Type 0 where
+  pub come : ComesTo s x u r y v o

@@ -2,18 +2,22 @@
 // definitions are `Judgements` and `Numbers` of the crate `language`.
 ghost use mathlib.Core.Path.{_≡_};
 ghost use mathlib.Core.List.{List, []};
+ghost use mathlib.Core.Option.{none};
 ghost use Prim.Native.Nat.{ℕ, _+_, _*_, _<_, _≤_};
-ghost use lib.ListN.{length, set};
-ghost use Rattle.table.specs.Table.{putRow};
+ghost use lib.ListN.{length, set, take};
+ghost use Rattle.table.specs.Table.{flat, putRow, padTo};
 ghost use Rattle.language.specs.Tokens.{tokens, contents, between};
-ghost use Rattle.language.specs.Numbers.{tokenOf};
+ghost use Rattle.language.specs.Numbers.{tokenOf, verdict, placed, tokenPlace, firstCall, parsedNodes, checked};
 ghost use Rattle.language.specs.Values.{lookup};
 ghost use Rattle.constants.specs.Constants.{orZero};
-ghost use Rattle.language.specs.Sentences.{Expr, import′};
-ghost use Rattle.language.specs.Judgements.{Known, nameAt, stmt};
+ghost use Rattle.language.specs.Sentences.{Expr, Stmt, import′, let′, Node, nodeRow, program};
+ghost use Rattle.language.specs.Judgements.{Known, Diag, Held, nameAt, stmt, judged, judgeAll};
 ghost use Rattle.judging.specs.Judging.{tokenAs, Lexed, Ready, Knows, RepAt, Fits, faultRow, word, plusWarnings};
-ghost use Rattle.checker.specs.Checking.{plusError, plusStatement, plusName, plusImport, entryRow, HeldRow, bareAs, Narrow, Shown, Tells, Exprs, Turns, Binds, Room, StmtFits};
+ghost use Rattle.checker.specs.Checking.{plusError, plusStatement, plusName, plusImport, entryRow, HeldRow, bareAs, Narrow, Shown, Tells, Exprs, Turns, Binds, Room, StmtFits, StmtsAt, RowFits, RowTurns, noCounts, Grows, Comes};
+ghost use Rattle.scan.specs.Scanning.{verdictAs};
+ghost use Rattle.checker.specs.Entry.{refusal, callAs, GivesUp, Parses, CheckSource};
 use constants::Constants;
+use scan::Verdict;
 use judging::{Counts, Detail, Fault, Judged, Judgement, Text, Token, Value};
 use wide::{Size, Wide};
 
@@ -358,4 +362,224 @@ fn bind(bindings: &mut [[u64; 6]], diags: &mut [u64], name: Span, t: u64, j: Jud
             named_one(counts)
         }
     }
+}
+
+// `let` in row i. `AlreadyBound` is found before the value is read.
+fn let_stmt(source: &[u8], toks: &[u64], nodes: &[u64], bindings: &mut [[u64; 6]], imports: &[[u64; 6]], diags: &mut [u64], i: usize, counts: Counts) -> Turn
+    requires { ⌜ Ready (now source) (now toks) (now bindings) (now imports) counts × (length (now bindings) ≡ 512) ⌝ }
+    requires { ⌜ StmtFits (now nodes) i counts × (5 * i + 5 ≤ length (now nodes)) ⌝ }
+    ensures { λ r. ⌜ ((n : ℕ) (k : Known) (e : Expr) (u : List ℕ) → Knows (now (source .entry)) (now (bindings .entry)) (now (imports .entry)) counts k
+        → RepAt (now (nodes .entry)) (word (now (nodes .entry)) i 2) e
+        → Turns (now (source .entry)) (now (toks .entry)) counts (now (diags .entry)) u r (now (bindings .exit)) (now (imports .entry)) (now (diags .exit)) u
+            (stmt (contents (tokens (now (source .entry)))) n k (let′ (word (now (nodes .entry)) i 1) e))) ⌝ }
+{
+    let t = judging::word(nodes, i, 1);
+    let tok = judging::token_at(toks, t);
+    let used = counts.used;
+    let at = judging::find(source, bindings, used, judging::name_at(source, tok));
+    if at < used {
+        let first = judging::token_at(toks, bindings[at][2]);
+        return Turn::Went(error(diags, judging::named(1, 8, tok, first.line, first.column), counts));
+    }
+    if Checker::NAMES <= used {
+        return Turn::Full(t);
+    }
+    let e = judging::word(nodes, i, 2) as usize;
+    let j = judging::judge(source, toks, nodes, bindings, imports, diags, e, counts);
+    Turn::Went(bind(bindings, diags, name_span(tok), t, j))
+}
+
+// Row i: a statement takes its turn, a row of an expression is passed.
+fn stmt(source: &[u8], toks: &[u64], nodes: &[u64], bindings: &mut [[u64; 6]], imports: &mut [[u64; 6]], diags: &mut [u64], stmts: &mut [u64], i: usize, counts: Counts) -> Turn
+    requires { ⌜ Ready (now source) (now toks) (now bindings) (now imports) counts × (length (now bindings) ≡ 512) × (length (now imports) ≡ 64) ⌝ }
+    requires { ⌜ RowFits (now nodes) i counts × (5 * i + 5 ≤ length (now nodes)) ⌝ }
+    ensures { λ r. ⌜ ((n : ℕ) (k : Known) (ss : List Stmt) → Knows (now (source .entry)) (now (bindings .entry)) (now (imports .entry)) counts k
+        → StmtsAt (now (nodes .entry)) i ss
+        → RowTurns (now (source .entry)) (now (toks .entry)) (now (nodes .entry)) i n k counts (now (bindings .entry)) (now (imports .entry)) (now (diags .entry)) (now (stmts .entry))
+            r (now (bindings .exit)) (now (imports .exit)) (now (diags .exit)) (now (stmts .exit)) ss) ⌝ }
+{
+    match judging::word(nodes, i, 0) {
+        11 => import(source, toks, imports, diags, judging::word(nodes, i, 1), counts),
+        12 => let_stmt(source, toks, nodes, bindings, imports, diags, i, counts),
+        13 => Turn::Went(expr_stmt(source, toks, nodes, bindings, imports, diags, stmts, i, counts)),
+        _ => Turn::Went(counts),
+    }
+}
+
+// All statements, one row after the other. Ports `run`.
+fn run(source: &[u8], toks: &[u64], nodes: &[u64], diags: &mut [u64], stmts: &mut [u64]) -> Turn
+    requires { ⌜ Lexed (now source) (now toks) ⌝ }
+    requires { ⌜ RowFits (now nodes) 0 noCounts ⌝ }
+    ensures { λ r. ⌜ ((ss : List Stmt) → StmtsAt (now (nodes .entry)) 0 ss
+        → Comes (now (source .entry)) (now (diags .entry)) (now (stmts .entry)) r (now (diags .exit)) (now (stmts .exit)) (judgeAll (contents (tokens (now (source .entry)))) ss)) ⌝ }
+{
+    let mut bindings = Checker::names();
+    let mut imports = Checker::modules();
+    let mut counts = Checker::start();
+    let rows = nodes.len() / 5;
+    let mut i: usize = 0;
+    while i < rows {
+        match stmt(source, toks, nodes, &mut bindings, &mut imports, diags, stmts, i, counts) {
+            Turn::Went(then) => counts = then,
+            Turn::Full(t) => return Turn::Full(t),
+        }
+        i += 1;
+    }
+    Turn::Went(counts)
+}
+
+// ---- the entry
+
+pub struct CheckAnswer {
+    pub verdict: Verdict,
+    pub tokens: u64,
+    pub nodes: u64,
+    pub errors: u64,
+    pub warnings: u64,
+    pub statements: u64,
+}
+
+// The `(` of the first call.
+pub enum Call {
+    At(u64),
+    Nowhere,
+}
+
+fn first_call(nodes: &[u64]) -> Call
+    ensures { λ r. ⌜ ((ns : List Node) → now (nodes .entry) ≡ flat nodeRow ns → r ≡ callAs (firstCall ns)) ⌝ }
+{
+    let mut found = false;
+    let mut at: u64 = 0;
+    let mut i = nodes.len() / 5;
+    while 0 < i {
+        i -= 1;
+        let t = judging::word(nodes, i, 4);
+        if judging::word(nodes, i, 0) == 8 && (!found || t < at) {
+            found = true;
+            at = t;
+        }
+    }
+    if found {
+        return Call::At(at);
+    }
+    Call::Nowhere
+}
+
+// The answer of a refusal: no counts.
+fn refused(verdict: Verdict) -> CheckAnswer
+    ensures { λ r. ⌜ r ≡ refusal verdict ⌝ }
+{
+    CheckAnswer {
+        verdict: verdict,
+        tokens: 0,
+        nodes: 0,
+        errors: 0,
+        warnings: 0,
+        statements: 0,
+    }
+}
+
+// The answer where nothing is refused.
+fn done(counts: Counts, count: usize, rows: usize, statements: usize) -> CheckAnswer
+    ensures { λ r. ⌜ r ≡ record { verdict = verdictAs (verdict 0 0 0); tokens = count; nodes = rows; errors = counts .errors; warnings = counts .warnings; statements = statements } ⌝ }
+{
+    CheckAnswer {
+        verdict: Verdict::new(0, 0, 0),
+        tokens: count as u64,
+        nodes: rows as u64,
+        errors: counts.errors as u64,
+        warnings: counts.warnings as u64,
+        statements: statements as u64,
+    }
+}
+
+// A refusal that leaves nothing in any table.
+fn give_up(verdict: Verdict, toks: &mut [u64], nodes: &mut [u64], diags: &mut [u64], stmts: &mut [u64]) -> CheckAnswer
+    ensures { λ r. ⌜ GivesUp verdict (length (now (toks .entry))) (length (now (nodes .entry))) (length (now (diags .entry))) (length (now (stmts .entry)))
+        r (now (toks .exit)) (now (nodes .exit)) (now (diags .exit)) (now (stmts .exit)) ⌝ }
+{
+    table::clear(toks);
+    table::clear(nodes);
+    table::clear(diags);
+    table::clear(stmts);
+    refused(verdict)
+}
+
+// A refusal at the token with an index, of `count`.
+fn at_token(toks: &[u64], count: usize, number: u64, t: u64) -> Verdict
+    requires { ⌜ (1 ≤ count) × (7 * count ≤ length (now toks)) ⌝ }
+    ensures { λ r. ⌜ ((s : List ℕ) → Lexed s (take (7 * count) (now (toks .entry))) → r ≡ verdictAs (placed number (tokenPlace s t))) ⌝ }
+{
+    let rows = 7 * count;
+    let tok = judging::token_at(&toks[..rows], t);
+    Verdict::new(number, tok.line, tok.column)
+}
+
+// The answer where all statements were judged: the statements are kept where there is no error.
+fn conclude(counts: Counts, count: usize, rows: usize, toks: &mut [u64], nodes: &mut [u64], diags: &mut [u64], stmts: &mut [u64]) -> CheckAnswer
+    ensures { λ r. ⌜ ((s : List ℕ) (ds : List Diag) (hs : List Held) → Parses s (now (toks .entry)) (now (nodes .entry)) count rows
+        → firstCall (parsedNodes (program (contents (tokens s)))) ≡ none → checked s ≡ judged ds hs
+        → Grows s noCounts (padTo (length (now (diags .entry))) []) (padTo (length (now (stmts .entry))) []) counts (now (diags .entry)) (now (stmts .entry)) ds hs
+        → CheckSource s (length (now (toks .entry))) (length (now (nodes .entry))) (length (now (diags .entry))) (length (now (stmts .entry)))
+            r (now (toks .exit)) (now (nodes .exit)) (now (diags .exit)) (now (stmts .exit))) ⌝ }
+{
+    if counts.errors != 0 {
+        table::clear(stmts);
+        return done(counts, count, rows, 0);
+    }
+    if stmts.len() / 7 < counts.statements {
+        return give_up(Verdict::new(11, 0, 0), toks, nodes, diags, stmts);
+    }
+    done(counts, count, rows, counts.statements)
+}
+
+// Judges a tree without calls. The tables of diagnostics and statements start out as zeros.
+fn check_statements(source: &[u8], toks: &mut [u64], nodes: &mut [u64], diags: &mut [u64], stmts: &mut [u64], count: usize, rows: usize) -> CheckAnswer
+    requires { ⌜ Parses (now source) (now toks) (now nodes) count rows ⌝ }
+    requires { ⌜ (now diags ≡ padTo (length (now diags)) []) × (now stmts ≡ padTo (length (now stmts)) []) ⌝ }
+    ensures { λ r. ⌜ (firstCall (parsedNodes (program (contents (tokens (now (source .entry)))))) ≡ none
+        → CheckSource (now (source .entry)) (length (now (toks .entry))) (length (now (nodes .entry))) (length (now (diags .entry))) (length (now (stmts .entry)))
+            r (now (toks .exit)) (now (nodes .exit)) (now (diags .exit)) (now (stmts .exit))) ⌝ }
+{
+    let token_words = 7 * count;
+    let node_words = 5 * rows;
+    match run(source, &toks[..token_words], &nodes[..node_words], diags, stmts) {
+        Turn::Went(counts) => conclude(counts, count, rows, toks, nodes, diags, stmts),
+        Turn::Full(t) => {
+            let found = at_token(toks, count, 9, t);
+            give_up(found, toks, nodes, diags, stmts)
+        }
+    }
+}
+
+// Checks a tree. The tables of diagnostics and statements start out as zeros.
+fn check_tree(source: &[u8], toks: &mut [u64], nodes: &mut [u64], diags: &mut [u64], stmts: &mut [u64], count: usize, rows: usize) -> CheckAnswer
+    requires { ⌜ Parses (now source) (now toks) (now nodes) count rows ⌝ }
+    requires { ⌜ (now diags ≡ padTo (length (now diags)) []) × (now stmts ≡ padTo (length (now stmts)) []) ⌝ }
+    ensures { λ r. ⌜ CheckSource (now (source .entry)) (length (now (toks .entry))) (length (now (nodes .entry))) (length (now (diags .entry))) (length (now (stmts .entry)))
+        r (now (toks .exit)) (now (nodes .exit)) (now (diags .exit)) (now (stmts .exit)) ⌝ }
+{
+    let node_words = 5 * rows;
+    match first_call(&nodes[..node_words]) {
+        Call::At(t) => {
+            let found = at_token(toks, count, 8, t);
+            give_up(found, toks, nodes, diags, stmts)
+        }
+        Call::Nowhere => check_statements(source, toks, nodes, diags, stmts, count, rows),
+    }
+}
+
+// Checks a source into four lent tables: of tokens, nodes, diagnostics and statements.
+pub fn check_source(source: &[u8], toks: &mut [u64], nodes: &mut [u64], diags: &mut [u64], stmts: &mut [u64]) -> CheckAnswer
+    ensures { λ r. ⌜ CheckSource (now (source .entry)) (length (now (toks .entry))) (length (now (nodes .entry))) (length (now (diags .entry))) (length (now (stmts .entry)))
+        r (now (toks .exit)) (now (nodes .exit)) (now (diags .exit)) (now (stmts .exit)) ⌝ }
+{
+    table::clear(diags);
+    table::clear(stmts);
+    let parsed = parse::parse_source(source, toks, nodes);
+    let verdict = parsed.verdict;
+    if verdict.number != 0 {
+        return refused(verdict);
+    }
+    check_tree(source, toks, nodes, diags, stmts, parsed.tokens as usize, parsed.nodes as usize)
 }
