@@ -1,3 +1,10 @@
+use mathlib.Core.Path.{refl, _∙_}
+use native.Mathlib.Omega.{arith}
+use Rattle.judging.specs.Judging.{knownIn}
+use Rattle.judging.proofs.TokenRows.{some-row}
+use Rattle.judging.proofs.Judging.{at-row}
+use Rattle.checker.proofs.Statements.{fits-expr, room-after}
+use Rattle.checker.proofs.LetStmts.{turn-again, turn-full, turn-bound, bound-twice, used-after}
 use borrow.Author.Needs.{needs}
 use Rattle.checker.proofs.let_stmt.Statement.{statement}
 use Rattle.checker.proofs.let_stmt.Tie as tie
@@ -17,7 +24,7 @@ word-requires : tie.Need-word-requires
 word-requires c κs = search needs
 
 token-at-requires : tie.Need-token-at-requires
-token-at-requires c κs = ?
+token-at-requires c κs = some-row (c .before .before .before .before .before .pre .0 .0 .lexed)
 
 name-at-requires : tie.Need-name-at-requires
 name-at-requires c κs = search needs
@@ -35,13 +42,13 @@ index-2-token-at : tie.Need-index-2-token-at
 index-2-token-at c = search needs
 
 token-at-requires-2 : tie.Need-token-at-requires-2
-token-at-requires-2 c κs = ?
+token-at-requires-2 c κs = some-row (c .before .before .before .before .before .before .before .before .before .before .before .pre .0 .0 .lexed)
 
 named-requires : tie.Need-named-requires
 named-requires c κs = search needs
 
 error-requires : tie.Need-error-requires
-error-requires c κs = ?
+error-requires c κs = omega (arith, c .before .before .before .before .before .before .before .before .before .before .before .before .before .before .pre .1 .0 .room)
 
 same-length : tie.Need-same-length
 same-length c = search needs
@@ -50,25 +57,27 @@ same-length-2 : tie.Need-same-length-2
 same-length-2 c = search needs
 
 returns : tie.Need-returns
-returns c = ?
+returns c = λ n k e u kn rep. turn-again (c .before .before .before .before .before .before .before .before .before .before .before .before .before .before .before .before .before .args .source .now) (c .before .before .before .before .before .before .before .before .before .before .before .before .before .before .before .before .before .args .toks .now) n _ _ (c .before .before .before .before .before .before .before .before .before .before .before .before .word .ensures) k e (c .before .before .before .before .before .before .before .before .before .before .before .before .before .before .before .before .before .args .bindings .now) (c .before .before .before .before .before .before .before .before .before .before .before .before .before .before .before .before .before .args .imports .now) u (c .before .before .before .before .before .before .before .before .before .before .before .before .before .before .before .before .before .args .diags .now) (c .before .before .before .before .before .before .before .before .before .before .before .before .before .before .before .before .before .args .counts) kn (c .before .before .before .before .before .before .before .before .before .before .before .before .before .before .before .before .before .pre .0 .0) _ _ (c .before .before .before .before .before .before .before .before .find .ensures) (c .before .before .before .before .before .before .before .before .before .name-at .ensures _ (c .before .before .before .before .before .before .before .before .before .before .before .token-at .ensures _ (c .before .before .before .before .before .before .before .before .before .before .before .before .before .before .before .before .before .pre .0 .0 .lexed))) (c .before .before .before .before .before .before .before .if1 .taken) (c .before .before .before .named .ensures ∙ bound-twice _ _ _ (c .before .before .before .before .before .before .before .before .before .before .before .token-at .ensures _ (c .before .before .before .before .before .before .before .before .before .before .before .before .before .before .before .before .before .pre .0 .0 .lexed)) (c .before .before .before .before .before .token-at2 .ensures _ (c .before .before .before .before .before .before .before .before .before .before .before .before .before .before .before .before .before .pre .0 .0 .lexed))) (c .before .before .error .ensures .0) (c .before .before .error .ensures .1)
 
 same-length-3 : tie.Need-same-length-3
 same-length-3 c = search needs
 
 returns-2 : tie.Need-returns-2
-returns-2 c = ?
+returns-2 c = λ n k e u kn rep. turn-full (c .before .before .before .before .before .before .before .before .before .before .before .args .source .now) (c .before .before .before .before .before .before .before .before .before .before .before .args .toks .now) n _ _ (c .before .before .before .before .before .before .word .ensures) k e (c .before .before .before .before .before .before .before .before .before .before .before .args .bindings .now) (c .before .before .before .before .before .before .before .before .before .before .before .args .imports .now) u (c .before .before .before .before .before .before .before .before .before .before .before .args .diags .now) (c .before .before .before .before .before .before .before .before .before .before .before .args .counts) kn (c .before .before .before .before .before .before .before .before .before .before .before .pre .0 .0) _ _ (c .before .before .find .ensures) (c .before .before .before .name-at .ensures _ (c .before .before .before .before .before .token-at .ensures _ (c .before .before .before .before .before .before .before .before .before .before .before .pre .0 .0 .lexed))) (c .before .if1 .left) (c .if2 .taken)
 
 word-requires-2 : tie.Need-word-requires-2
 word-requires-2 c κs = search needs
 
 judge-requires : tie.Need-judge-requires
-judge-requires c κs = ?
+judge-requires c κs = (c .before .before .before .before .before .before .before .before .before .before .before .before .before .before .pre .0 .0, fits-expr (c .before .before .before .before .before .before .before .before .before .before .before .before .before .before .pre .1 .0) (c .before .before .word2 .ensures))
 
 name-span-requires : tie.Need-name-span-requires
 name-span-requires c κs = search needs
 
 bind-requires : tie.Need-bind-requires
-bind-requires c κs = ?
+bind-requires c κs =
+    let agrees = c .before .before .before .before .before .judge .ensures 0 (knownIn (c .before .before .before .before .before .before .before .before .before .before .before .before .before .before .before .before .before .before .before .before .args .source .now) (c .before .before .before .before .before .before .before .before .before .before .before .before .before .before .before .before .before .before .before .before .args .bindings .now) (c .before .before .before .before .before .before .before .before .before .before .before .before .before .before .before .before .before .before .before .before .args .imports .now) (c .before .before .before .before .before .before .before .before .before .before .before .before .before .before .before .before .before .before .before .before .args .counts)) (c .before .before .before .before .before .before .before .before .before .before .before .before .before .before .before .before .before .before .before .before .pre .1 .0 .tree) (record { is = refl }) (at-row (c .before .before .before .before .before .before .before .before .word2 .ensures) (c .before .before .before .before .before .before .before .before .before .before .before .before .before .before .before .before .before .before .before .before .pre .1 .0 .rep)) in
+    ((used-after agrees (omega (arith, c .before .before .before .before .before .before .before .before .before .if2 .left)), omega (arith, c .before .before .before .before .before .before .before .before .before .before .before .before .before .before .before .before .before .before .before .before .pre .0 .1)), room-after (c .before .before .before .before .before .before .before .before .before .before .before .before .before .before .before .before .before .before .before .before .pre .1 .0) (c .before .before .before .before .before .before .before .before .before .before .before .before .before .before .before .before .before .before .before .before .args .source .now) 0 (knownIn (c .before .before .before .before .before .before .before .before .before .before .before .before .before .before .before .before .before .before .before .before .args .source .now) (c .before .before .before .before .before .before .before .before .before .before .before .before .before .before .before .before .before .before .before .before .args .bindings .now) (c .before .before .before .before .before .before .before .before .before .before .before .before .before .before .before .before .before .before .before .before .args .imports .now) (c .before .before .before .before .before .before .before .before .before .before .before .before .before .before .before .before .before .before .before .before .args .counts)) agrees)
 
 same-length-4 : tie.Need-same-length-4
 same-length-4 c = search needs
@@ -77,7 +86,7 @@ same-length-5 : tie.Need-same-length-5
 same-length-5 c = search needs
 
 returns-3 : tie.Need-returns-3
-returns-3 c = ?
+returns-3 c = λ n k e u kn rep. turn-bound (c .before .before .before .before .before .before .before .before .before .before .before .before .before .before .before .before .before .before .before .before .before .before .before .before .args .source .now) (c .before .before .before .before .before .before .before .before .before .before .before .before .before .before .before .before .before .before .before .before .before .before .before .before .args .toks .now) n _ _ (c .before .before .before .before .before .before .before .before .before .before .before .before .before .before .before .before .before .before .before .word .ensures) k e (c .before .before .before .before .before .before .before .before .before .before .before .before .before .before .before .before .before .before .before .before .before .before .before .before .args .bindings .now) (c .before .before .before .before .before .before .before .before .before .before .before .before .before .before .before .before .before .before .before .before .before .before .before .before .args .imports .now) u (c .before .before .before .before .before .before .before .before .before .before .before .before .before .before .before .before .before .before .before .before .before .before .before .before .args .diags .now) (c .before .before .before .before .before .before .before .before .before .before .before .before .before .before .before .before .before .before .before .before .before .before .before .before .args .counts) kn (c .before .before .before .before .before .before .before .before .before .before .before .before .before .before .before .before .before .before .before .before .before .before .before .before .pre .0 .0) _ _ (c .before .before .before .before .before .before .before .before .before .before .before .before .before .before .before .find .ensures) (c .before .before .before .before .before .before .before .before .before .before .before .before .before .before .before .before .name-at .ensures _ (c .before .before .before .before .before .before .before .before .before .before .before .before .before .before .before .before .before .before .token-at .ensures _ (c .before .before .before .before .before .before .before .before .before .before .before .before .before .before .before .before .before .before .before .before .before .before .before .before .pre .0 .0 .lexed))) (c .before .before .before .before .before .before .before .before .before .before .before .before .before .before .if1 .left) (omega (arith, c .before .before .before .before .before .before .before .before .before .before .before .before .before .if2 .left)) (c .before .before .before .bind .ensures .is _ _ _ _ u n k _ e kn (c .before .before .before .before .before .before .before .before .before .before .before .before .before .before .before .before .before .before .before .before .before .before .before .before .pre .0 .0) (c .before .before .before .before .name-span .ensures _ _ (c .before .before .before .before .before .before .before .before .before .before .before .before .before .before .before .before .before .before .token-at .ensures _ (c .before .before .before .before .before .before .before .before .before .before .before .before .before .before .before .before .before .before .before .before .before .before .before .before .pre .0 .0 .lexed))) (c .before .before .before .before .before .before .before .before .before .judge .ensures n k e kn (at-row (c .before .before .before .before .before .before .before .before .before .before .before .before .word2 .ensures) rep)))
 
 pub let-stmt-spec : {M : Type 1} → statement M
 let-stmt-spec =
