@@ -5,3 +5,4 @@ pub mod Stores
 pub mod Imports
 pub mod Lets
 pub mod LetStmts
+pub mod StmtRows
