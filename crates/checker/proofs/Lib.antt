@@ -4,3 +4,4 @@ pub mod Trees
 pub mod Stores
 pub mod Imports
 pub mod Lets
+pub mod Runs
