@@ -6,3 +6,4 @@ pub mod Imports
 pub mod Lets
 pub mod LetStmts
 pub mod StmtRows
+pub mod Runs
