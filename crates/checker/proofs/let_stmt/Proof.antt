@@ -57,27 +57,45 @@ same-length-2 : tie.Need-same-length-2
 same-length-2 c = search needs
 
 returns : tie.Need-returns
-returns c = λ n k e u kn rep. turn-again (c .before .before .before .before .before .before .before .before .before .before .before .before .before .before .before .before .before .args .source .now) (c .before .before .before .before .before .before .before .before .before .before .before .before .before .before .before .before .before .args .toks .now) n _ _ (c .before .before .before .before .before .before .before .before .before .before .before .before .word .ensures) k e (c .before .before .before .before .before .before .before .before .before .before .before .before .before .before .before .before .before .args .bindings .now) (c .before .before .before .before .before .before .before .before .before .before .before .before .before .before .before .before .before .args .imports .now) u (c .before .before .before .before .before .before .before .before .before .before .before .before .before .before .before .before .before .args .diags .now) (c .before .before .before .before .before .before .before .before .before .before .before .before .before .before .before .before .before .args .counts) kn (c .before .before .before .before .before .before .before .before .before .before .before .before .before .before .before .before .before .pre .0 .0) _ _ (c .before .before .before .before .before .before .before .before .find .ensures) (c .before .before .before .before .before .before .before .before .before .name-at .ensures _ (c .before .before .before .before .before .before .before .before .before .before .before .token-at .ensures _ (c .before .before .before .before .before .before .before .before .before .before .before .before .before .before .before .before .before .pre .0 .0 .lexed))) (c .before .before .before .before .before .before .before .if1 .taken) (c .before .before .before .named .ensures ∙ bound-twice _ _ _ (c .before .before .before .before .before .before .before .before .before .before .before .token-at .ensures _ (c .before .before .before .before .before .before .before .before .before .before .before .before .before .before .before .before .before .pre .0 .0 .lexed)) (c .before .before .before .before .before .token-at2 .ensures _ (c .before .before .before .before .before .before .before .before .before .before .before .before .before .before .before .before .before .pre .0 .0 .lexed))) (c .before .before .error .ensures .0) (c .before .before .error .ensures .1)
+returns c =
+    let start = c .before .before .before .before .before .before .before .before .before .before .before .before .before .before .before .before .before in
+    let tok = c .before .before .before .before .before .before .before .before .before .before .before .token-at .ensures _ (start .pre .0 .0 .lexed) in
+    let first = c .before .before .before .before .before .token-at2 .ensures _ (start .pre .0 .0 .lexed) in
+    λ n k e u kn rep. turn-again (start .args .source .now) (start .args .toks .now) n _ _ (c .before .before .before .before .before .before .before .before .before .before .before .before .word .ensures) k e (start .args .bindings .now)
+      (start .args .imports .now) u (start .args .diags .now) (start .args .counts) kn (start .pre .0 .0) _ _ (c .before .before .before .before .before .before .before .before .find .ensures)
+      (c .before .before .before .before .before .before .before .before .before .name-at .ensures _ tok) (c .before .before .before .before .before .before .before .if1 .taken)
+      (c .before .before .before .named .ensures ∙ bound-twice _ _ _ tok first) (c .before .before .error .ensures .0) (c .before .before .error .ensures .1)
 
 same-length-3 : tie.Need-same-length-3
 same-length-3 c = search needs
 
 returns-2 : tie.Need-returns-2
-returns-2 c = λ n k e u kn rep. turn-full (c .before .before .before .before .before .before .before .before .before .before .before .args .source .now) (c .before .before .before .before .before .before .before .before .before .before .before .args .toks .now) n _ _ (c .before .before .before .before .before .before .word .ensures) k e (c .before .before .before .before .before .before .before .before .before .before .before .args .bindings .now) (c .before .before .before .before .before .before .before .before .before .before .before .args .imports .now) u (c .before .before .before .before .before .before .before .before .before .before .before .args .diags .now) (c .before .before .before .before .before .before .before .before .before .before .before .args .counts) kn (c .before .before .before .before .before .before .before .before .before .before .before .pre .0 .0) _ _ (c .before .before .find .ensures) (c .before .before .before .name-at .ensures _ (c .before .before .before .before .before .token-at .ensures _ (c .before .before .before .before .before .before .before .before .before .before .before .pre .0 .0 .lexed))) (c .before .if1 .left) (c .if2 .taken)
+returns-2 c =
+    let start = c .before .before .before .before .before .before .before .before .before .before .before in
+    let tok = c .before .before .before .before .before .token-at .ensures _ (start .pre .0 .0 .lexed) in
+    λ n k e u kn rep. turn-full (start .args .source .now) (start .args .toks .now) n _ _ (c .before .before .before .before .before .before .word .ensures) k e (start .args .bindings .now)
+      (start .args .imports .now) u (start .args .diags .now) (start .args .counts) kn (start .pre .0 .0) _ _ (c .before .before .find .ensures)
+      (c .before .before .before .name-at .ensures _ tok) (c .before .if1 .left) (c .if2 .taken)
 
 word-requires-2 : tie.Need-word-requires-2
 word-requires-2 c κs = search needs
 
 judge-requires : tie.Need-judge-requires
-judge-requires c κs = (c .before .before .before .before .before .before .before .before .before .before .before .before .before .before .pre .0 .0, fits-expr (c .before .before .before .before .before .before .before .before .before .before .before .before .before .before .pre .1 .0) (c .before .before .word2 .ensures))
+judge-requires c κs =
+    let start = c .before .before .before .before .before .before .before .before .before .before .before .before .before .before in
+    (start .pre .0 .0, fits-expr (start .pre .1 .0) (c .before .before .word2 .ensures))
 
 name-span-requires : tie.Need-name-span-requires
 name-span-requires c κs = search needs
 
 bind-requires : tie.Need-bind-requires
 bind-requires c κs =
-    let agrees = c .before .before .before .before .before .judge .ensures 0 (knownIn (c .before .before .before .before .before .before .before .before .before .before .before .before .before .before .before .before .before .before .before .before .args .source .now) (c .before .before .before .before .before .before .before .before .before .before .before .before .before .before .before .before .before .before .before .before .args .bindings .now) (c .before .before .before .before .before .before .before .before .before .before .before .before .before .before .before .before .before .before .before .before .args .imports .now) (c .before .before .before .before .before .before .before .before .before .before .before .before .before .before .before .before .before .before .before .before .args .counts)) (c .before .before .before .before .before .before .before .before .before .before .before .before .before .before .before .before .before .before .before .before .pre .1 .0 .tree) (record { is = refl }) (at-row (c .before .before .before .before .before .before .before .before .word2 .ensures) (c .before .before .before .before .before .before .before .before .before .before .before .before .before .before .before .before .before .before .before .before .pre .1 .0 .rep)) in
-    ((used-after agrees (omega (arith, c .before .before .before .before .before .before .before .before .before .if2 .left)), omega (arith, c .before .before .before .before .before .before .before .before .before .before .before .before .before .before .before .before .before .before .before .before .pre .0 .1)), room-after (c .before .before .before .before .before .before .before .before .before .before .before .before .before .before .before .before .before .before .before .before .pre .1 .0) (c .before .before .before .before .before .before .before .before .before .before .before .before .before .before .before .before .before .before .before .before .args .source .now) 0 (knownIn (c .before .before .before .before .before .before .before .before .before .before .before .before .before .before .before .before .before .before .before .before .args .source .now) (c .before .before .before .before .before .before .before .before .before .before .before .before .before .before .before .before .before .before .before .before .args .bindings .now) (c .before .before .before .before .before .before .before .before .before .before .before .before .before .before .before .before .before .before .before .before .args .imports .now) (c .before .before .before .before .before .before .before .before .before .before .before .before .before .before .before .before .before .before .before .before .args .counts)) agrees)
+    let start = c .before .before .before .before .before .before .before .before .before .before .before .before .before .before .before .before .before .before .before .before in
+    let known = knownIn (start .args .source .now) (start .args .bindings .now) (start .args .imports .now) (start .args .counts) in
+    let rep = at-row (c .before .before .before .before .before .before .before .before .word2 .ensures) (start .pre .1 .0 .rep) in
+    let agrees = c .before .before .before .before .before .judge .ensures 0 known (start .pre .1 .0 .tree) (record { is = refl }) rep in
+    let used = used-after agrees (omega (arith, c .before .before .before .before .before .before .before .before .before .if2 .left)) in
+    ((used, omega (arith, start .pre .0 .1)), room-after (start .pre .1 .0) (start .args .source .now) 0 known agrees)
 
 same-length-4 : tie.Need-same-length-4
 same-length-4 c = search needs
@@ -86,7 +104,15 @@ same-length-5 : tie.Need-same-length-5
 same-length-5 c = search needs
 
 returns-3 : tie.Need-returns-3
-returns-3 c = λ n k e u kn rep. turn-bound (c .before .before .before .before .before .before .before .before .before .before .before .before .before .before .before .before .before .before .before .before .before .before .before .before .args .source .now) (c .before .before .before .before .before .before .before .before .before .before .before .before .before .before .before .before .before .before .before .before .before .before .before .before .args .toks .now) n _ _ (c .before .before .before .before .before .before .before .before .before .before .before .before .before .before .before .before .before .before .before .word .ensures) k e (c .before .before .before .before .before .before .before .before .before .before .before .before .before .before .before .before .before .before .before .before .before .before .before .before .args .bindings .now) (c .before .before .before .before .before .before .before .before .before .before .before .before .before .before .before .before .before .before .before .before .before .before .before .before .args .imports .now) u (c .before .before .before .before .before .before .before .before .before .before .before .before .before .before .before .before .before .before .before .before .before .before .before .before .args .diags .now) (c .before .before .before .before .before .before .before .before .before .before .before .before .before .before .before .before .before .before .before .before .before .before .before .before .args .counts) kn (c .before .before .before .before .before .before .before .before .before .before .before .before .before .before .before .before .before .before .before .before .before .before .before .before .pre .0 .0) _ _ (c .before .before .before .before .before .before .before .before .before .before .before .before .before .before .before .find .ensures) (c .before .before .before .before .before .before .before .before .before .before .before .before .before .before .before .before .name-at .ensures _ (c .before .before .before .before .before .before .before .before .before .before .before .before .before .before .before .before .before .before .token-at .ensures _ (c .before .before .before .before .before .before .before .before .before .before .before .before .before .before .before .before .before .before .before .before .before .before .before .before .pre .0 .0 .lexed))) (c .before .before .before .before .before .before .before .before .before .before .before .before .before .before .if1 .left) (omega (arith, c .before .before .before .before .before .before .before .before .before .before .before .before .before .if2 .left)) (c .before .before .before .bind .ensures .is _ _ _ _ u n k _ e kn (c .before .before .before .before .before .before .before .before .before .before .before .before .before .before .before .before .before .before .before .before .before .before .before .before .pre .0 .0) (c .before .before .before .before .name-span .ensures _ _ (c .before .before .before .before .before .before .before .before .before .before .before .before .before .before .before .before .before .before .token-at .ensures _ (c .before .before .before .before .before .before .before .before .before .before .before .before .before .before .before .before .before .before .before .before .before .before .before .before .pre .0 .0 .lexed))) (c .before .before .before .before .before .before .before .before .before .judge .ensures n k e kn (at-row (c .before .before .before .before .before .before .before .before .before .before .before .before .word2 .ensures) rep)))
+returns-3 c =
+    let start = c .before .before .before .before .before .before .before .before .before .before .before .before .before .before .before .before .before .before .before .before .before .before .before .before in
+    let tok = c .before .before .before .before .before .before .before .before .before .before .before .before .before .before .before .before .before .before .token-at .ensures _ (start .pre .0 .0 .lexed) in
+    λ n k e u kn rep. turn-bound (start .args .source .now) (start .args .toks .now) n _ _ (c .before .before .before .before .before .before .before .before .before .before .before .before .before .before .before .before .before .before .before .word .ensures) k e (start .args .bindings .now)
+      (start .args .imports .now) u (start .args .diags .now) (start .args .counts) kn (start .pre .0 .0) _ _ (c .before .before .before .before .before .before .before .before .before .before .before .before .before .before .before .find .ensures)
+      (c .before .before .before .before .before .before .before .before .before .before .before .before .before .before .before .before .name-at .ensures _ tok) (c .before .before .before .before .before .before .before .before .before .before .before .before .before .before .if1 .left)
+      (omega (arith, c .before .before .before .before .before .before .before .before .before .before .before .before .before .if2 .left))
+      (c .before .before .before .bind .ensures .is _ _ _ _ u n k _ e kn (start .pre .0 .0) (c .before .before .before .before .name-span .ensures _ _ tok)
+        (c .before .before .before .before .before .before .before .before .before .judge .ensures n k e kn (at-row (c .before .before .before .before .before .before .before .before .before .before .before .before .word2 .ensures) rep)))
 
 pub let-stmt-spec : {M : Type 1} → statement M
 let-stmt-spec =

@@ -18,13 +18,23 @@ word-requires-2 : tie.Need-word-requires-2
 word-requires-2 c κs = search needs
 
 import-requires : tie.Need-import-requires
-import-requires c κs = ((c .before .before .before .before .before .before .before .before .before .before .pre .0 .0 .lexed, omega (arith, c .before .before .before .before .before .before .before .before .before .before .pre .0 .2), omega (arith, c .before .before .before .before .before .before .before .before .before .before .pre .0 .0 .modules, c .before .before .before .before .before .before .before .before .before .before .pre .0 .2)), import-room (c .before .before .before .before .before .before .before .before .before .before .pre .1 .1) (c .before .before .before .before .before .before .before .before .before .before .pre .1 .0) (sym (c .before .before .before .before .word .ensures) ∙ c .before .before .before .match .keys1))
+import-requires c κs =
+    let start = c .before .before .before .before .before .before .before .before .before .before in
+    let kind = sym (c .before .before .before .before .word .ensures) ∙ c .before .before .before .match .keys1 in
+    ((start .pre .0 .0 .lexed, omega (arith, start .pre .0 .2), omega (arith, start .pre .0 .0 .modules, start .pre .0 .2)),
+      import-room (start .pre .1 .1) (start .pre .1 .0) kind)
 
 let-stmt-requires : tie.Need-let-stmt-requires
-let-stmt-requires c κs = ((c .before .before .before .before .before .before .before .before .before .before .pre .0 .0, c .before .before .before .before .before .before .before .before .before .before .pre .0 .1), (stmt-fits (c .before .before .before .before .before .before .before .before .before .before .pre .1 .1) (c .before .before .before .before .before .before .before .before .before .before .pre .1 .0) (omega (arith, c .before .before .before .before .word .ensures, c .before .before .before .match .keys2)), c .before .before .before .before .before .before .before .before .before .before .pre .1 .1))
+let-stmt-requires c κs =
+    let start = c .before .before .before .before .before .before .before .before .before .before in
+    let fits = stmt-fits (start .pre .1 .1) (start .pre .1 .0) (omega (arith, c .before .before .before .before .word .ensures, c .before .before .before .match .keys2)) in
+    ((start .pre .0 .0, start .pre .0 .1), (fits, start .pre .1 .1))
 
 expr-stmt-requires : tie.Need-expr-stmt-requires
-expr-stmt-requires c κs = (c .before .before .before .before .before .before .before .before .before .before .before .pre .0 .0, (stmt-fits (c .before .before .before .before .before .before .before .before .before .before .before .pre .1 .1) (c .before .before .before .before .before .before .before .before .before .before .before .pre .1 .0) (omega (arith, c .before .before .before .before .before .word .ensures, c .before .before .before .before .match .keys3)), c .before .before .before .before .before .before .before .before .before .before .before .pre .1 .1))
+expr-stmt-requires c κs =
+    let start = c .before .before .before .before .before .before .before .before .before .before .before in
+    let fits = stmt-fits (start .pre .1 .1) (start .pre .1 .0) (omega (arith, c .before .before .before .before .before .word .ensures, c .before .before .before .before .match .keys3)) in
+    (start .pre .0 .0, (fits, start .pre .1 .1))
 
 same-length : tie.Need-same-length
 same-length c = search needs
@@ -33,7 +43,12 @@ same-length-2 : tie.Need-same-length-2
 same-length-2 c = search needs
 
 returns : tie.Need-returns
-returns c = λ n k ss kn at. row-import (c .before .before .before .before .before .before .before .before .before .before .before .before .before .before .pre .1 .1) (c .before .before .before .before .before .before .before .before .before .before .before .before .before .before .args .source .now) (c .before .before .before .before .before .before .before .before .before .before .before .before .before .before .args .toks .now) n k (c .before .before .before .before .before .before .before .before .before .before .before .before .before .before .args .counts) (c .before .before .before .before .before .before .before .before .before .before .before .before .before .before .args .bindings .now) (c .before .before .before .before .before .before .before .before .before .before .before .before .before .before .args .imports .now) (c .before .before .before .before .before .before .before .before .before .before .before .before .before .before .args .diags .now) (c .before .before .before .before .before .before .before .before .before .before .before .before .before .before .args .stmts .now) (sym (c .before .before .before .before .before .before .before .before .word .ensures) ∙ c .before .before .before .before .before .before .before .match .keys1) (c .before .before .before .before .word2 .ensures) at (c .before .before .before .import .ensures n k _ (c .before .before .before .before .before .before .before .before .before .before .before .before .before .before .args .stmts .now) kn (c .before .before .before .before .before .before .before .before .before .before .before .before .before .before .pre .0 .0))
+returns c =
+    let start = c .before .before .before .before .before .before .before .before .before .before .before .before .before .before in
+    let kind = sym (c .before .before .before .before .before .before .before .before .word .ensures) ∙ c .before .before .before .before .before .before .before .match .keys1 in
+    λ n k ss kn at. row-import (start .pre .1 .1) (start .args .source .now) (start .args .toks .now) n k (start .args .counts) (start .args .bindings .now)
+      (start .args .imports .now) (start .args .diags .now) (start .args .stmts .now) kind (c .before .before .before .before .word2 .ensures) at
+      (c .before .before .before .import .ensures n k _ (start .args .stmts .now) kn (start .pre .0 .0))
 
 same-length-3 : tie.Need-same-length-3
 same-length-3 c = search needs
@@ -45,7 +60,12 @@ same-length-5 : tie.Need-same-length-5
 same-length-5 c = search needs
 
 returns-2 : tie.Need-returns-2
-returns-2 c = λ n k ss kn at. row-let (c .before .before .before .before .before .before .before .before .before .before .before .before .before .before .pre .1 .1) (c .before .before .before .before .before .before .before .before .before .before .before .before .before .before .args .source .now) (c .before .before .before .before .before .before .before .before .before .before .before .before .before .before .args .toks .now) n k (c .before .before .before .before .before .before .before .before .before .before .before .before .before .before .args .counts) (c .before .before .before .before .before .before .before .before .before .before .before .before .before .before .args .bindings .now) (c .before .before .before .before .before .before .before .before .before .before .before .before .before .before .args .imports .now) (c .before .before .before .before .before .before .before .before .before .before .before .before .before .before .args .diags .now) (c .before .before .before .before .before .before .before .before .before .before .before .before .before .before .args .stmts .now) (sym (c .before .before .before .before .before .before .before .before .word .ensures) ∙ c .before .before .before .before .before .before .before .match .keys2) at (λ e rep. c .before .before .before .let-stmt .ensures n k e (c .before .before .before .before .before .before .before .before .before .before .before .before .before .before .args .stmts .now) kn rep)
+returns-2 c =
+    let start = c .before .before .before .before .before .before .before .before .before .before .before .before .before .before in
+    let kind = sym (c .before .before .before .before .before .before .before .before .word .ensures) ∙ c .before .before .before .before .before .before .before .match .keys2 in
+    λ n k ss kn at. row-let (start .pre .1 .1) (start .args .source .now) (start .args .toks .now) n k (start .args .counts) (start .args .bindings .now)
+      (start .args .imports .now) (start .args .diags .now) (start .args .stmts .now) kind at
+      (λ e rep. c .before .before .before .let-stmt .ensures n k e (start .args .stmts .now) kn rep)
 
 same-length-6 : tie.Need-same-length-6
 same-length-6 c = search needs
@@ -60,10 +80,20 @@ same-length-9 : tie.Need-same-length-9
 same-length-9 c = search needs
 
 returns-3 : tie.Need-returns-3
-returns-3 c = λ n k ss kn at. row-expr (c .before .before .before .before .before .before .before .before .before .before .before .before .before .before .before .before .pre .1 .1) (c .before .before .before .before .before .before .before .before .before .before .before .before .before .before .before .before .args .source .now) (c .before .before .before .before .before .before .before .before .before .before .before .before .before .before .before .before .args .toks .now) n k (c .before .before .before .before .before .before .before .before .before .before .before .before .before .before .before .before .args .counts) (c .before .before .before .before .before .before .before .before .before .before .before .before .before .before .before .before .args .bindings .now) (c .before .before .before .before .before .before .before .before .before .before .before .before .before .before .before .before .args .imports .now) (c .before .before .before .before .before .before .before .before .before .before .before .before .before .before .before .before .args .diags .now) (c .before .before .before .before .before .before .before .before .before .before .before .before .before .before .before .before .args .stmts .now) (sym (c .before .before .before .before .before .before .before .before .before .before .word .ensures) ∙ c .before .before .before .before .before .before .before .before .before .match .keys3) kn (c .before .before .before .before .before .before .before .before .before .before .before .before .before .before .before .before .pre .0 .0) at (λ e rep. c .before .before .before .before .expr-stmt .ensures n k e kn rep)
+returns-3 c =
+    let start = c .before .before .before .before .before .before .before .before .before .before .before .before .before .before .before .before in
+    let kind = sym (c .before .before .before .before .before .before .before .before .before .before .word .ensures) ∙ c .before .before .before .before .before .before .before .before .before .match .keys3 in
+    λ n k ss kn at. row-expr (start .pre .1 .1) (start .args .source .now) (start .args .toks .now) n k (start .args .counts) (start .args .bindings .now)
+      (start .args .imports .now) (start .args .diags .now) (start .args .stmts .now) kind kn (start .pre .0 .0) at
+      (λ e rep. c .before .before .before .before .expr-stmt .ensures n k e kn rep)
 
 returns-4 : tie.Need-returns-4
-returns-4 c = λ n k ss kn at. row-passed (c .before .before .before .before .before .before .before .pre .1 .1) (c .before .before .before .before .before .before .before .args .source .now) (c .before .before .before .before .before .before .before .args .toks .now) n k (c .before .before .before .before .before .before .before .args .counts) (c .before .before .before .before .before .before .before .args .bindings .now) (c .before .before .before .before .before .before .before .args .imports .now) (c .before .before .before .before .before .before .before .args .diags .now) (c .before .before .before .before .before .before .before .args .stmts .now) (λ q. c .match .rest .0 .0 .1 (c .before .word .ensures ∙ q)) (λ q. c .match .rest .0 .1 (c .before .word .ensures ∙ q)) (λ q. c .match .rest .1 (c .before .word .ensures ∙ q)) at
+returns-4 c =
+    let start = c .before .before .before .before .before .before .before in
+    let word = c .before .word .ensures in
+    λ n k ss kn at. row-passed (start .pre .1 .1) (start .args .source .now) (start .args .toks .now) n k (start .args .counts) (start .args .bindings .now)
+      (start .args .imports .now) (start .args .diags .now) (start .args .stmts .now) (λ q. c .match .rest .0 .0 .1 (word ∙ q)) (λ q. c .match .rest .0 .1 (word ∙ q))
+      (λ q. c .match .rest .1 (word ∙ q)) at
 
 pub stmt-spec : {M : Type 1} → statement M
 stmt-spec =
