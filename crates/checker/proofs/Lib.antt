@@ -4,3 +4,5 @@ pub mod Trees
 pub mod Stores
 pub mod Imports
 pub mod Lets
+pub mod Calls
+pub mod Entry
