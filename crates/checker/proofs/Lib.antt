@@ -5,4 +5,5 @@ pub mod Stores
 pub mod Imports
 pub mod Lets
 pub mod Calls
+pub mod Tables
 pub mod Entry
