@@ -35,6 +35,16 @@ pub sooner-only : {t : ℕ} {f : Call} → f ≡ Nowhere → (o : Option ℕ) �
 sooner-only q none e = refl
 sooner-only q (some w) e = never (cc)
 
+-- ---- what was found
+
+pub some-call : {t : ℕ} {o : Option ℕ} → At t ≡ callAs o → o ≡ some t
+some-call {o = none} e = never (cc)
+some-call {o = some u} e = cc
+
+pub none-called : {o : Option ℕ} → Nowhere ≡ callAs o → o ≡ none
+none-called {o = none} e = refl
+none-called {o = some u} e = never (cc)
+
 -- ---- the loop
 
 -- what was found in the rows from i on

@@ -1,5 +1,5 @@
 -- What checking a source answers and leaves, for each way that it goes, and the proof of the claim of specs/Entry.antt.
-use mathlib.Core.Path.{_≡_, refl, sym, ap, _∙_}
+use mathlib.Core.Path.{_≡_, refl, sym, ap, subst, _∙_}
 use mathlib.Core.Bool.{Bool, true, false}
 use mathlib.Core.List.{List, []}
 use mathlib.Core.Option.{Option, none, some}
@@ -9,25 +9,33 @@ use borrow.Author.Tests.{eq-eqb, ne-eqb, lt-ltb, le-ltb}
 use lib.Dec.{eqb}
 use lib.ListN.{length, take}
 use lib.Seq.{length-take-le}
-use Rattle.table.specs.Table.{padTo, tabled}
+use Rattle.table.specs.Table.{padTo, flat, tabled}
 use Rattle.table.proofs.Laws.{tabled-none}
 use Rattle.language.specs.Tokens.{contents, tokens}
 use Rattle.language.specs.Tables.{tokenRow}
-use Rattle.language.specs.Sentences.{program, nodeRow}
+use Rattle.language.specs.Sentences.{Stmt, Node, program, nodeRow}
 use Rattle.language.specs.Judgements as judgements
-use Rattle.language.specs.Judgements.{Diag, Held, errorsIn, warningsIn}
+use Rattle.language.specs.Judgements.{Diag, Held, Outcome, errorsIn, warningsIn, judgeAll}
 use Rattle.language.specs.Findings.{diagRow, stmtRow}
 use Rattle.language.specs.Numbers as numbers
-use Rattle.language.specs.Numbers.{verdict, tokenOf, placed, tokenPlace, parsedNodes, firstCall, checked, refusedCheck, judgedWithin, checkAnswer, checkTokens, checkNodes, checkDiags, checkStmts}
+use Rattle.language.specs.Numbers.{verdict, tokenOf, placed, tokenPlace, parseAnswer, parseTokens, parseNodes, parsedNodes, statementsOf, firstCall, checked, refusedCheck, judgedWithin, checkAnswer, checkTokens, checkNodes, checkDiags, checkStmts}
 use Rattle.scan.specs.declared.Verdict.{Verdict}
 use Rattle.scan.specs.Scanning.{verdictAs}
 use Rattle.judging.specs.declared.Token.{Token}
 use Rattle.judging.specs.declared.Counts.{Counts}
-use Rattle.judging.specs.Judging.{tokenAs}
+use Rattle.judging.specs.Judging.{tokenAs, Lexed}
+use Rattle.parse.specs.declared.ParseAnswer.{ParseAnswer}
+use Rattle.parse.specs.Entry.{ParseSource}
+use Rattle.checker.specs.declared.Turn.{Turn}
+use Rattle.checker.specs.declared.Turn.the-variants.{Went, Full}
+use Rattle.checker.specs.declared.Call.{Call}
+use Rattle.checker.specs.declared.Call.the-variants.{At, Nowhere}
 use Rattle.checker.specs.declared.CheckAnswer.{CheckAnswer}
-use Rattle.checker.specs.Checking.{noCounts, Grows}
-use Rattle.checker.specs.Entry.{Parses, GivesUp, CheckSource}
+use Rattle.checker.specs.Checking.{StmtsAt, noCounts, Grows, ComesTo, Comes}
+use Rattle.checker.specs.Entry.{refusal, callAs, Parses, GivesUp, CheckSource}
 use Rattle.checker.proofs.Tables.{all-findings, all-held}
+use Rattle.checker.proofs.Calls.{some-call, none-called}
+use Rattle.checker.proofs.Parsed.{lexed-part, node-part, stmts-part, number-is, tokens-long, nodes-left}
 
 -- a refusal where a token is
 pub at-place : (s : List ℕ) (t number : ℕ) {tok : Token} {v : Verdict} → tok ≡ tokenAs (tokenOf s t)
@@ -124,3 +132,78 @@ module _ {s toks tree : List ℕ} {count rows : ℕ} (p : Parses s toks tree cou
             diags = g .diags ∙ all-findings (tokenOf s) (length found) ds ∙ rw (a, o);
             stmts = g .stmts ∙ all-held (tokenOf s) (length held) hs ∙ rw (a, o, no-errors);
           }
+
+-- ---- the run
+
+module _ {s x u y v : List ℕ} {r : Turn} where
+  went : {c : Counts} {o : Outcome} → r ≡ Went c → Comes s x u r y v o
+      → (ds : List Diag) × (hs : List Held) × (o ≡ judgements.judged ds hs) × Grows s noCounts x u c y v ds hs
+  went {c} {o = judgements.judged ds hs} q h = (ds, hs, refl, subst (λ (z : Turn). ComesTo s x u z y v (judgements.judged ds hs)) q (h .come))
+  went {c} {o = judgements.refused t} q h = absurd (subst (λ (z : Turn). ComesTo s x u z y v (judgements.refused t)) q (h .come))
+
+  full-at : {t : ℕ} {o : Outcome} → r ≡ Full t → Comes s x u r y v o → o ≡ judgements.refused t
+  full-at {t} {o = judgements.judged ds hs} q h = absurd (subst (λ (z : Turn). ComesTo s x u z y v (judgements.judged ds hs)) q (h .come))
+  full-at {t} {o = judgements.refused t′} q h = ap judgements.refused (sym (subst (λ (z : Turn). ComesTo s x u z y v (judgements.refused t′)) q (h .come)))
+
+module _ {s toks tree : List ℕ} {count rows : ℕ} (p : Parses s toks tree count rows) where
+  -- 8
+  pub refused-call : {t d k : ℕ} {w : Verdict} {f : Call} {r : CheckAnswer} {a b e g : List ℕ} → f ≡ At t
+      → ((ns : List Node) → take (5 * rows) tree ≡ flat nodeRow ns → f ≡ callAs (firstCall ns))
+      → ((z : List ℕ) → Lexed z (take (7 * count) toks) → w ≡ verdictAs (placed 8 (tokenPlace z t)))
+      → GivesUp w (length toks) (length tree) d k r a b e g → CheckSource s (length toks) (length tree) d k r a b e g
+  refused-call {t} {d} {k} q c l g =
+      gave-up s (length toks) (length tree) d k (placed 8 (tokenPlace s t)) (called-as p (k / 7) t (some-call (sym q ∙ c _ (node-part p)))) refl (l s (lexed-part p)) g
+
+  pub no-calls : {f : Call} → f ≡ Nowhere → ((ns : List Node) → take (5 * rows) tree ≡ flat nodeRow ns → f ≡ callAs (firstCall ns))
+      → firstCall (parsedNodes (program (contents (tokens s)))) ≡ none
+  no-calls q c = none-called (sym q ∙ c _ (node-part p))
+
+  module _ (quiet : firstCall (parsedNodes (program (contents (tokens s)))) ≡ none) {x u y v : List ℕ} {r : Turn} (same-found : length y ≡ length x) (same-held : length v ≡ length u)
+      (on : (ss : List Stmt) → StmtsAt (take (5 * rows) tree) 0 ss → Comes s x u r y v (judgeAll (contents (tokens s)) ss)) where
+    came : Comes s x u r y v (checked s)
+    unfolding checked
+    came = on (statementsOf (program (contents (tokens s)))) (stmts-part p)
+
+    pub concluded : {c : Counts} {q : CheckAnswer} {a b e f : List ℕ} → (x ≡ padTo (length x) []) × (u ≡ padTo (length u) []) → r ≡ Went c
+        → ((z : List ℕ) (ds : List Diag) (hs : List Held) → Parses z toks tree count rows → firstCall (parsedNodes (program (contents (tokens z)))) ≡ none
+        → checked z ≡ judgements.judged ds hs → Grows z noCounts (padTo (length y) []) (padTo (length v) []) c y v ds hs
+        → CheckSource z (length toks) (length tree) (length y) (length v) q a b e f)
+        → CheckSource s (length toks) (length tree) (length x) (length u) q a b e f
+    concluded {c} {q} {a} {b} {e} {f} zero i h =
+        let w = went i came in
+        let g : Grows s noCounts (padTo (length y) []) (padTo (length v) []) c y v (w .0) (w .1) =
+            subst (λ (m : List ℕ). Grows s noCounts (padTo (length y) []) m c y v (w .0) (w .1)) (zero .1 ∙ ap (λ (m : ℕ). padTo m []) (sym same-held))
+            (subst (λ (m : List ℕ). Grows s noCounts m u c y v (w .0) (w .1)) (zero .0 ∙ ap (λ (m : ℕ). padTo m []) (sym same-found)) (w .3)) in
+        subst (λ (m : ℕ). CheckSource s (length toks) (length tree) (length x) m q a b e f) same-held
+        (subst (λ (m : ℕ). CheckSource s (length toks) (length tree) m (length v) q a b e f) same-found (h s (w .0) (w .1) p quiet (w .2) g))
+
+    -- 9
+    pub refused-name : {t : ℕ} {w : Verdict} {q : CheckAnswer} {a b e f : List ℕ} → r ≡ Full t
+        → ((z : List ℕ) → Lexed z (take (7 * count) toks) → w ≡ verdictAs (placed 9 (tokenPlace z t)))
+        → GivesUp w (length toks) (length tree) (length y) (length v) q a b e f → CheckSource s (length toks) (length tree) (length x) (length u) q a b e f
+    refused-name {t} {w} {q} {a} {b} {e} {f} i l g =
+        gave-up s (length toks) (length tree) (length x) (length u) (placed 9 (tokenPlace s t)) (judged-as p (length u / 7) quiet ∙ rw (full-at i came)) refl (l s (lexed-part p))
+        (subst (λ (m : ℕ). GivesUp w (length toks) (length tree) (length x) m q a b e f) same-held
+        (subst (λ (m : ℕ). GivesUp w (length toks) (length tree) m (length v) q a b e f) same-found g))
+
+-- ---- a source
+
+module _ {s : List ℕ} {t n : ℕ} {q : ParseAnswer} {a b : List ℕ} (o : ParseSource s t n q a b) where
+  -- parsing refused: its tables are all zero already
+  pub not-parsed : {d k : ℕ} {r : CheckAnswer} {e f : List ℕ} → (q .verdict .number ≡ 0 → ⊥) → r ≡ refusal (q .verdict) → e ≡ padTo d [] → f ≡ padTo k []
+      → CheckSource s t n d k r a b e f
+  unfolding checkAnswer parseTokens parseNodes
+  not-parsed {d} {k} z c x y =
+      let f : eqb (parseAnswer s (t / 7) (n / 5) .verdict .number) 0 ≡ false = ne-eqb _ _ (λ i. z (number-is o ∙ i)) in
+      gave-up s t n d k (parseAnswer s (t / 7) (n / 5) .verdict) (rw f) f (ap (λ (i : ParseAnswer). i .verdict) (o .answer))
+      (record {
+        answer = c;
+        tokens = o .tokens ∙ rw f (tabled-none tokenRow 7 t);
+        nodes = o .nodes ∙ rw f (tabled-none nodeRow 5 n);
+        diags = x;
+        stmts = y;
+      })
+
+  -- the tables' lengths are those before parsing
+  pub as-before : {d k i j : ℕ} {r : CheckAnswer} {w x y z : List ℕ} → i ≡ d → j ≡ k → CheckSource s (length a) (length b) i j r w x y z → CheckSource s t n d k r w x y z
+  as-before g h c = rw (tokens-long o, nodes-left o, g, h) at c

@@ -6,4 +6,5 @@ pub mod Imports
 pub mod Lets
 pub mod Calls
 pub mod Tables
+pub mod Parsed
 pub mod Entry

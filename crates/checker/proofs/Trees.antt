@@ -27,7 +27,7 @@ names-long t zero = refl
 names-long t (suc n) = length-append (nameNodes t n) (node 1 (t + 2 * suc n) 0 0 0 ∷ []) ∙ omega (arith, names-long t n)
 
 mutual
-  pub expr-long : (k : ℕ) (e : Expr) → length (exprNodes k e) ≡ exprSize e
+  expr-long : (k : ℕ) (e : Expr) → length (exprNodes k e) ≡ exprSize e
   expr-long k (literal t) = refl
   expr-long k (sock4 t) = refl
   expr-long k (local t) = refl
