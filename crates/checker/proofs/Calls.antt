@@ -1,6 +1,6 @@
 -- The first call of a tree: its rows are read from the last up.
 use mathlib.Core.Path.{_≡_, refl, sym, ap, _∙_}
-use mathlib.Core.List.{List, [], _∷_}
+use mathlib.Core.List.{List, _∷_}
 use mathlib.Core.Option.{Option, none, some}
 use Prim.Native.Nat.{ℕ, suc, _+_, _-_, _*_, _/_, _≤_, _<_}
 use native.Mathlib.Omega.{arith}
@@ -10,11 +10,11 @@ use lib.Seq.{drop-cons, drop-length}
 use Rattle.table.specs.Table.{flat}
 use Rattle.language.specs.Sentences.{Node, nodeRow}
 use Rattle.language.specs.Numbers.{sooner, firstCall}
+use Rattle.parse.proofs.Answers.{never}
 use Rattle.judging.specs.Judging.{word}
 use Rattle.checker.specs.declared.Call.{Call}
 use Rattle.checker.specs.declared.Call.the-variants.{At, Nowhere}
 use Rattle.checker.specs.Entry.{callAs}
-use Rattle.checker.proofs.Statements.{never}
 use Rattle.checker.proofs.Trees.{nowhere, rows-long, row-word}
 
 -- ---- the earlier of two

@@ -1,15 +1,15 @@
 -- What checking a source answers and leaves, for each way that it goes, and the proof of the claim of specs/Entry.antt.
 use mathlib.Core.Path.{_≡_, refl, sym, ap, subst, _∙_}
-use mathlib.Core.Bool.{Bool, true, false}
+use mathlib.Core.Bool.{true, false}
 use mathlib.Core.List.{List, []}
-use mathlib.Core.Option.{Option, none, some}
+use mathlib.Core.Option.{none, some}
 use Prim.Native.Nat.{ℕ, _*_, _/_, _≤_, _<_}
 use native.Mathlib.Omega.{arith}
 use borrow.Author.Tests.{eq-eqb, ne-eqb, lt-ltb, le-ltb}
 use lib.Dec.{eqb}
 use lib.ListN.{length, take}
 use lib.Seq.{length-take-le}
-use Rattle.table.specs.Table.{padTo, flat, tabled}
+use Rattle.table.specs.Table.{padTo, flat}
 use Rattle.table.proofs.Laws.{tabled-none}
 use Rattle.language.specs.Tokens.{contents, tokens}
 use Rattle.language.specs.Tables.{tokenRow}

@@ -37,7 +37,7 @@ use Rattle.checker.specs.declared.Narrowed.{Narrowed}
 use Rattle.checker.specs.declared.Narrowed.the-variants as narrow
 use Rattle.checker.specs.Checking.{plusError, plusStatement, bareAs, shownAs, heldRow, narrowedAs, HeldRow, Narrow, Room, StmtFits, Grows, SameNames, GoesOf, Tells, Exprs}
 
-pub never : {A : Type 0} → _≡_ {A = ℕ} 0 1 → A
+never : {A : Type 0} → _≡_ {A = ℕ} 0 1 → A
 never e = absurd (omega (arith, e))
 
 -- ---- narrowing

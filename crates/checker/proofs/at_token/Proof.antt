@@ -18,7 +18,7 @@ new-requires : tie.Need-new-requires
 new-requires c κs = search needs
 
 returns : tie.Need-returns
-returns c = λ s l. at-place s _ _ (c .before .token-at .ensures s l) (c .new .ensures)
+returns c s l = at-place s _ _ (c .before .token-at .ensures s l) (c .new .ensures)
 
 pub at-token-spec : {M : Type 1} → statement M
 at-token-spec =

@@ -26,7 +26,9 @@ slice-aggregate-run-2 : tie.Need-slice-aggregate-run-2
 slice-aggregate-run-2 c = sym (length-take-le _ _ (node-words (c .before .before .before .before .before .before .before .pre .0)))
 
 run-requires : tie.Need-run-requires
-run-requires c κs = (lexed-part (c .before .before .before .before .before .before .before .before .before .pre .0), rows-fit (c .before .before .before .before .before .before .before .before .before .pre .0) (omega arith))
+run-requires c κs =
+    let start = c .before .before .before .before .before .before .before .before .before in
+    (lexed-part (start .pre .0), rows-fit (start .pre .0) (omega arith))
 
 enum-known-counts : tie.Need-enum-known-counts
 enum-known-counts c = search needs
@@ -56,7 +58,14 @@ same-length-4 : tie.Need-same-length-4
 same-length-4 c = search needs
 
 returns : tie.Need-returns
-returns c = λ quiet. concluded (c .before .before .before .before .before .before .before .before .before .before .before .before .before .before .before .before .before .before .before .before .before .before .before .before .before .before .before .before .before .before .pre .0) quiet (c .before .before .before .before .before .before .before .before .before .before .before .before .before .before .before .before .before .before .before .diags .given) (c .before .before .before .before .before .before .before .before .before .before .before .before .before .before .before .before .before .stmts .given) (c .before .before .before .before .before .before .before .before .before .before .before .before .before .before .before .before .before .before .before .before .run .ensures) (c .before .before .before .before .before .before .before .before .before .before .before .before .before .before .before .before .before .before .before .before .before .before .before .before .before .before .before .before .before .before .pre .1) (c .before .before .before .before .before .before .before .before .before .before .before .before .before .before .counts .given .1) (c .before .before .before .before .before .before .before .before .conclude .ensures)
+returns c quiet =
+    let end = c .before .before .before .before .before .before .before .before in
+    let arm = end .before .before .before .before .before .before in
+    let held = arm .before .before .before in
+    let found = held .before .before in
+    let ran = found .before in
+    let start = ran .before .before .before .before .before .before .before .before .before .before in
+    concluded (start .pre .0) quiet (found .diags .given) (held .stmts .given) (ran .run .ensures) (start .pre .1) (arm .counts .given .1) (end .conclude .ensures)
 
 same-length-5 : tie.Need-same-length-5
 same-length-5 c = search needs
@@ -71,7 +80,15 @@ same-length-8 : tie.Need-same-length-8
 same-length-8 c = search needs
 
 returns-2 : tie.Need-returns-2
-returns-2 c = λ quiet. refused-name (c .before .before .before .before .before .before .before .before .before .before .before .before .before .before .before .before .before .before .before .before .before .before .before .before .before .before .before .before .before .before .before .before .pre .0) quiet (c .before .before .before .before .before .before .before .before .before .before .before .before .before .before .before .before .before .before .before .before .before .diags .given) (c .before .before .before .before .before .before .before .before .before .before .before .before .before .before .before .before .before .before .before .stmts .given) (c .before .before .before .before .before .before .before .before .before .before .before .before .before .before .before .before .before .before .before .before .before .before .run .ensures) (c .before .before .before .before .before .before .before .before .before .before .before .before .before .before .before .before .t .given .1) (c .before .before .before .before .before .before .before .before .before .before .before .before .before .at-token .ensures) (c .before .before .before .before .before .before .before .before .give-up .ensures)
+returns-2 c quiet =
+    let end = c .before .before .before .before .before .before .before .before in
+    let placed = end .before .before .before .before .before in
+    let arm = placed .before .before .before in
+    let held = arm .before .before .before in
+    let found = held .before .before in
+    let ran = found .before in
+    let start = ran .before .before .before .before .before .before .before .before .before .before in
+    refused-name (start .pre .0) quiet (found .diags .given) (held .stmts .given) (ran .run .ensures) (arm .t .given .1) (placed .at-token .ensures) (end .give-up .ensures)
 
 pub check-statements-spec : {M : Type 1} → statement M
 check-statements-spec =

@@ -13,7 +13,10 @@ same-length : tie.Need-same-length
 same-length c = search needs
 
 returns : tie.Need-returns
-returns c = λ s ds hs p e o g. with-errors p e o g (c .before .before .before .before .before .if1 .taken) (c .before .before .before .clear .ensures) (c .done .ensures)
+returns c s ds hs p e o g =
+    let cleared = c .before .before .before in
+    let tested = cleared .before .before in
+    with-errors p e o g (tested .if1 .taken) (cleared .clear .ensures) (c .done .ensures)
 
 new-requires : tie.Need-new-requires
 new-requires c κs = search needs
@@ -34,13 +37,21 @@ same-length-5 : tie.Need-same-length-5
 same-length-5 c = search needs
 
 returns-2 : tie.Need-returns-2
-returns-2 c = λ s ds hs p e o g. too-many p e o g (c .before .before .before .before .before .before .before .before .before .before .before .before .before .before .before .before .if1 .left) (c .before .before .before .before .before .before .before .before .before .before .before .before .before .before .if2 .taken) (c .before .before .before .before .before .before .before .before .before .before .before .before .before .new .ensures) (c .before .before .before .before .before .before .before .before .give-up .ensures)
+returns-2 c s ds hs p e o g =
+    let end = c .before .before .before .before .before .before .before .before in
+    let made = end .before .before .before .before .before in
+    let room = made .before in
+    let tested = room .before .before in
+    too-many p e o g (tested .if1 .left) (room .if2 .taken) (made .new .ensures) (end .give-up .ensures)
 
 done-requires-2 : tie.Need-done-requires-2
 done-requires-2 c κs = search needs
 
 returns-3 : tie.Need-returns-3
-returns-3 c = λ s ds hs p e o g. accepted p e o g (c .before .before .before .if1 .left) (c .before .if2 .left) (c .done2 .ensures)
+returns-3 c s ds hs p e o g =
+    let room = c .before in
+    let tested = room .before .before in
+    accepted p e o g (tested .if1 .left) (room .if2 .left) (c .done2 .ensures)
 
 pub conclude-spec : {M : Type 1} → statement M
 conclude-spec =

@@ -28,7 +28,11 @@ loop-less : tie.Need-loop-less Inv-loop μ-loop
 loop-less c = search needs
 
 loop-again : tie.Need-loop-again Inv-loop μ-loop
-loop-again c = a-call (c .before .before .before .before .before .loop .inv) (c .before .before .before .before .loop-test .taken) (c .before .before .before .word .ensures) (c .before .before .if1 .taken) (c .before .word2 .ensures) (c .sooner .ensures)
+loop-again c =
+    let tested = c .before .before in
+    let kind = tested .before in
+    let turn = kind .before in
+    a-call (turn .before .loop .inv) (turn .loop-test .taken) (kind .word .ensures) (tested .if1 .taken) (c .before .word2 .ensures) (c .sooner .ensures)
 
 loop-less-2 : tie.Need-loop-less-2 Inv-loop μ-loop
 loop-less-2 c = search needs
