@@ -7,3 +7,7 @@ pub mod Lets
 pub mod LetStmts
 pub mod StmtRows
 pub mod Runs
+pub mod Calls
+pub mod Tables
+pub mod Parsed
+pub mod Entry

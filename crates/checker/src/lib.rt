@@ -2,12 +2,12 @@
 // definitions are `Judgements` and `Numbers` of the crate `language`.
 ghost use mathlib.Core.Path.{_≡_};
 ghost use mathlib.Core.List.{List, []};
-ghost use mathlib.Core.Option.{none};
+ghost use mathlib.Core.Option.{Option, none};
 ghost use Prim.Native.Nat.{ℕ, _+_, _*_, _<_, _≤_};
 ghost use lib.ListN.{length, set, take};
 ghost use Rattle.table.specs.Table.{flat, putRow, padTo};
 ghost use Rattle.language.specs.Tokens.{tokens, contents, between};
-ghost use Rattle.language.specs.Numbers.{tokenOf, verdict, placed, tokenPlace, firstCall, parsedNodes, checked};
+ghost use Rattle.language.specs.Numbers.{tokenOf, verdict, placed, tokenPlace, sooner, firstCall, parsedNodes, checked};
 ghost use Rattle.language.specs.Values.{lookup};
 ghost use Rattle.constants.specs.Constants.{orZero};
 ghost use Rattle.language.specs.Sentences.{Expr, Stmt, import′, let′, Node, nodeRow, program};
@@ -445,24 +445,33 @@ pub enum Call {
     Nowhere,
 }
 
+// The earlier of a token and another, if there is another.
+fn sooner(t: u64, found: Call) -> Call
+    ensures { λ r. ⌜ ((o : Option ℕ) → found ≡ callAs o → r ≡ callAs (sooner t o)) ⌝ }
+{
+    match found {
+        Call::At(u) => {
+            if u < t {
+                return Call::At(u);
+            }
+            Call::At(t)
+        }
+        Call::Nowhere => Call::At(t),
+    }
+}
+
 fn first_call(nodes: &[u64]) -> Call
     ensures { λ r. ⌜ ((ns : List Node) → now (nodes .entry) ≡ flat nodeRow ns → r ≡ callAs (firstCall ns)) ⌝ }
 {
-    let mut found = false;
-    let mut at: u64 = 0;
+    let mut found = Call::Nowhere;
     let mut i = nodes.len() / 5;
     while 0 < i {
         i -= 1;
-        let t = judging::word(nodes, i, 4);
-        if judging::word(nodes, i, 0) == 8 && (!found || t < at) {
-            found = true;
-            at = t;
+        if judging::word(nodes, i, 0) == 8 {
+            found = sooner(judging::word(nodes, i, 4), found);
         }
     }
-    if found {
-        return Call::At(at);
-    }
-    Call::Nowhere
+    found
 }
 
 // The answer of a refusal: no counts.

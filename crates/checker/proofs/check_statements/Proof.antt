@@ -1,33 +1,34 @@
+use mathlib.Core.Path.{sym}
+use native.Mathlib.Omega.{arith}
+use lib.Seq.{length-take-le}
+use Rattle.checker.proofs.Parsed.{token-words, node-words, lexed-part, rows-fit}
+use Rattle.checker.proofs.Entry.{concluded, refused-name}
 use borrow.Author.Needs.{needs}
 use Rattle.checker.proofs.check_statements.Statement.{statement}
 use Rattle.checker.proofs.check_statements.Tie as tie
-use Rattle.checker.proofs.check_statements.Reads as reads
-use Rattle.checker.proofs.check_statements.Lts as lts
-use Rattle.checker.proofs.at_token.Reads as at-token-reads
-use Rattle.checker.proofs.conclude.Reads as conclude-reads
-use Rattle.checker.proofs.give_up.Reads as give-up-reads
-use Rattle.checker.proofs.run.Reads as run-reads
 
 mul-token-words : tie.Need-mul-token-words
-mul-token-words c = ?
+mul-token-words c = omega (arith, token-words (c .before .before .before .before .before .pre .0))
 
 mul-node-words : tie.Need-mul-node-words
-mul-node-words c = ?
+mul-node-words c = omega (arith, node-words (c .before .before .before .before .before .pre .0))
 
 slice-reshare-prefix-run : tie.Need-slice-reshare-prefix-run
-slice-reshare-prefix-run c = ?
+slice-reshare-prefix-run c = token-words (c .before .before .before .before .before .pre .0) .1
 
 slice-aggregate-run : tie.Need-slice-aggregate-run
-slice-aggregate-run c = ?
+slice-aggregate-run c = sym (length-take-le _ _ (token-words (c .before .before .before .before .before .before .pre .0) .1))
 
 slice-reshare-prefix-run-2 : tie.Need-slice-reshare-prefix-run-2
-slice-reshare-prefix-run-2 c = ?
+slice-reshare-prefix-run-2 c = node-words (c .before .before .before .before .before .before .pre .0)
 
 slice-aggregate-run-2 : tie.Need-slice-aggregate-run-2
-slice-aggregate-run-2 c = ?
+slice-aggregate-run-2 c = sym (length-take-le _ _ (node-words (c .before .before .before .before .before .before .before .pre .0)))
 
 run-requires : tie.Need-run-requires
-run-requires c κs = ?
+run-requires c κs =
+    let start = c .before .before .before .before .before .before .before .before .before in
+    (lexed-part (start .pre .0), rows-fit (start .pre .0) (omega arith))
 
 enum-known-counts : tie.Need-enum-known-counts
 enum-known-counts c = search needs
@@ -39,7 +40,7 @@ enum-known-t : tie.Need-enum-known-t
 enum-known-t c = search needs
 
 at-token-requires : tie.Need-at-token-requires
-at-token-requires c κs = ?
+at-token-requires c κs = token-words (c .before .before .before .before .before .before .before .before .before .before .before .before .before .before .before .before .before .before .pre .0)
 
 give-up-requires : tie.Need-give-up-requires
 give-up-requires c κs = search needs
@@ -57,7 +58,14 @@ same-length-4 : tie.Need-same-length-4
 same-length-4 c = search needs
 
 returns : tie.Need-returns
-returns c = ?
+returns c quiet =
+    let end = c .before .before .before .before .before .before .before .before in
+    let arm = end .before .before .before .before .before .before in
+    let held = arm .before .before .before in
+    let found = held .before .before in
+    let ran = found .before in
+    let start = ran .before .before .before .before .before .before .before .before .before .before in
+    concluded (start .pre .0) quiet (found .diags .given) (held .stmts .given) (ran .run .ensures) (start .pre .1) (arm .counts .given .1) (end .conclude .ensures)
 
 same-length-5 : tie.Need-same-length-5
 same-length-5 c = search needs
@@ -72,7 +80,15 @@ same-length-8 : tie.Need-same-length-8
 same-length-8 c = search needs
 
 returns-2 : tie.Need-returns-2
-returns-2 c = ?
+returns-2 c quiet =
+    let end = c .before .before .before .before .before .before .before .before in
+    let placed = end .before .before .before .before .before in
+    let arm = placed .before .before .before in
+    let held = arm .before .before .before in
+    let found = held .before .before in
+    let ran = found .before in
+    let start = ran .before .before .before .before .before .before .before .before .before .before in
+    refused-name (start .pre .0) quiet (found .diags .given) (held .stmts .given) (ran .run .ensures) (arm .t .given .1) (placed .at-token .ensures) (end .give-up .ensures)
 
 pub check-statements-spec : {M : Type 1} → statement M
 check-statements-spec =

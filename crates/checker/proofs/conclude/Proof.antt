@@ -1,12 +1,7 @@
+use Rattle.checker.proofs.Entry.{with-errors, too-many, accepted}
 use borrow.Author.Needs.{needs}
 use Rattle.checker.proofs.conclude.Statement.{statement}
 use Rattle.checker.proofs.conclude.Tie as tie
-use Rattle.checker.proofs.conclude.Reads as reads
-use Rattle.checker.proofs.conclude.Lts as lts
-use Rattle.checker.proofs.done.Reads as done-reads
-use Rattle.checker.proofs.give_up.Reads as give-up-reads
-use Rattle.scan.proofs.Verdict.new.Reads as new-reads
-use Rattle.table.proofs.clear.Reads as clear-reads
 
 clear-requires : tie.Need-clear-requires
 clear-requires c κs = search needs
@@ -18,7 +13,10 @@ same-length : tie.Need-same-length
 same-length c = search needs
 
 returns : tie.Need-returns
-returns c = ?
+returns c s ds hs p e o g =
+    let cleared = c .before .before .before in
+    let tested = cleared .before .before in
+    with-errors p e o g (tested .if1 .taken) (cleared .clear .ensures) (c .done .ensures)
 
 new-requires : tie.Need-new-requires
 new-requires c κs = search needs
@@ -39,13 +37,21 @@ same-length-5 : tie.Need-same-length-5
 same-length-5 c = search needs
 
 returns-2 : tie.Need-returns-2
-returns-2 c = ?
+returns-2 c s ds hs p e o g =
+    let end = c .before .before .before .before .before .before .before .before in
+    let made = end .before .before .before .before .before in
+    let room = made .before in
+    let tested = room .before .before in
+    too-many p e o g (tested .if1 .left) (room .if2 .taken) (made .new .ensures) (end .give-up .ensures)
 
 done-requires-2 : tie.Need-done-requires-2
 done-requires-2 c κs = search needs
 
 returns-3 : tie.Need-returns-3
-returns-3 c = ?
+returns-3 c s ds hs p e o g =
+    let room = c .before in
+    let tested = room .before .before in
+    accepted p e o g (tested .if1 .left) (room .if2 .left) (c .done2 .ensures)
 
 pub conclude-spec : {M : Type 1} → statement M
 conclude-spec =
