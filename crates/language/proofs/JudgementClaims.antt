@@ -13,7 +13,7 @@ use Rattle.language.specs.Tokens.{Content}
 use Rattle.language.specs.Tables.{bit}
 use Rattle.language.specs.Sentences.{Expr, literal, sock4, local, path, member, call, slash′, Stmt, import′, let′, expr′, firstOf}
 use Rattle.language.specs.Values.{Value, isInteger, isBool, isSized, isIp4, isSock4, isString, isText, isFunction, tyInt, lookup}
-use Rattle.language.specs.Judgements.{What, truncated, Diag, diag, isError, errorsIn, warningsIn, Judged, val, err, poisoned, Judgement, judgement, andThen, goesOn, Known, known, Import, Binding, Held, held, Turn, goes, full, Outcome, judged, refused, find, findImport, mostImports, mostNames, nameAt, leftOf, rightOf, ip4Of, integerOf, cut, narrowed, judge, imported, importStmt, bound, letStmt, discarded, told, stmt, onward, run, OneError, StatementsFew, AllCounted}
+use Rattle.language.specs.Judgements.{What, truncated, Diag, diag, isError, errorsIn, warningsIn, Judged, val, err, poisoned, Judgement, judgement, andThen, goesOn, Known, known, Import, Binding, Held, held, Turn, goes, full, Outcome, judged, refused, find, findImport, mostImports, mostNames, nameAt, leftOf, rightOf, ip4Of, integerOf, cut, narrowed, judge, imported, importStmt, bound, letStmt, discarded, told, stmt, onward, run, OneError, StatementsFew, AllCounted, BoundFirst}
 
 pub all-counted : AllCounted
 unfolding errorsIn warningsIn
@@ -186,3 +186,7 @@ unfolding Fewer
 statements-few ts ss ds hs e =
     let l : 0 + length ss ≤ length ss = omega arith in
     subst (Fewer (length ss)) e (at-most (0 + length ss) (length ss) (run ts ss 1 (known [] []) [] []) l (run-fewer ts ss 1 (known [] []) [] []))
+
+pub bound-first : BoundFirst
+unfolding stmt
+bound-first ts n k t e b h = ap (letStmt ts n k t e) h
