@@ -1,6 +1,7 @@
 -- The theorems on the definitions, and what they use.
 pub mod Examples
 pub mod Tests
+pub mod Each
 pub mod Utf8Rows
 pub mod Utf8
 pub mod Integers
