@@ -16,7 +16,7 @@ module _ (ts : List Content) where
   All ns = Each (λ n. rightTokens ts n ≡ true) ns
 
   -- each further name of a path is two tokens after the one before
-  names-next : {mid n next : ℕ} → PathNames ts mid n next → next ≡ mid + 2 * n
+  pub names-next : {mid n next : ℕ} → PathNames ts mid n next → next ≡ mid + 2 * n
   names-next is-start = omega arith
   names-next (is-name p a b) = omega (arith, names-next p, a .after, b .after)
 

@@ -35,8 +35,11 @@ pub mod GrammarPlaces
 pub mod SentenceUnfolds
 pub mod GrammarMet
 pub mod GrammarRows
+pub mod TokenTexts
 pub mod NodeClaims
 pub mod RowClaims
 pub mod ParseClaims
 pub mod JudgementExamples
 pub mod JudgementClaims
+pub mod FindingTokens
+pub mod CheckClaims

@@ -11,7 +11,7 @@ use Rattle.language.specs.Choice.{if′}
 use Rattle.language.specs.Tokens.{tokens, contents, between, bodiesIn}
 use Rattle.language.specs.Canonical.{text, Lexes, Fits}
 use Rattle.language.specs.Values.{isString}
-use Rattle.language.specs.Judgements.{alreadyBound, Diag, errorsIn, Held}
+use Rattle.language.specs.Judgements.{What, alreadyBound, Diag, errorsIn, Held}
 use Rattle.language.specs.Findings.{Detail, detail, stmtRow}
 use Rattle.language.specs.Numbers.{Checked, checkAnswer, checkNodes, checked, foundBy, heldBy, tokenOf, whereDone, SamePlace}
 
@@ -31,31 +31,29 @@ pub record SameCheck (s u : List ℕ) (a b : Checked) : Type 0 where
 
 -- ---- findings
 
--- what the row of a finding says after its place, and the part of the source between the start and the end that it names
-abbrev pub detailIn : List ℕ → Diag → Detail
-detailIn s d = detail (tokenOf s) (d .at) (d .what)
-
-abbrev pub shownIn : List ℕ → Diag → List ℕ
-shownIn s d = between s (detailIn s d .start) (detailIn s d .end)
-
 -- the first two numbers are the place of a token
-abbrev pub TokenShown : List ℕ → Diag → ℕ → Type 0
-TokenShown s d t = (detailIn s d .first ≡ tokenOf s t .line) × (detailIn s d .second ≡ tokenOf s t .column)
+abbrev pub TokenShown : List ℕ → Detail → ℕ → Type 0
+TokenShown s a t = (a .first ≡ tokenOf s t .line) × (a .second ≡ tokenOf s t .column)
 
--- "the same diagnostics, .. places aside, names .. compared by their bytes": where the text is 1 it is a name of the source,
--- else a part of the constant table's text or none; a name bound twice shows where it was bound first, the same token
-pub record SameFinding (s u : List ℕ) (d : Diag) : Type 0 where
-  pub severity : detailIn s d .severity ≡ detailIn u d .severity
-  pub kind : detailIn s d .kind ≡ detailIn u d .kind
-  pub text : detailIn s d .text ≡ detailIn u d .text
-  pub name : detailIn s d .text ≡ 1 → shownIn s d ≡ shownIn u d
-  pub start : (detailIn s d .text ≡ 1 → ⊥) → detailIn s d .start ≡ detailIn u d .start
-  pub end : (detailIn s d .text ≡ 1 → ⊥) → detailIn s d .end ≡ detailIn u d .end
-  pub type : detailIn s d .type ≡ detailIn u d .type
-  pub bound : (t : ℕ) → d .what ≡ alreadyBound t → TokenShown s d t × TokenShown u d t
-  pub first : ((t : ℕ) → d .what ≡ alreadyBound t → ⊥) → detailIn s d .first ≡ detailIn u d .first
-  pub second : ((t : ℕ) → d .what ≡ alreadyBound t → ⊥) → detailIn s d .second ≡ detailIn u d .second
-  pub third : detailIn s d .third ≡ detailIn u d .third
+-- "the same diagnostics .., places aside, names .. compared by their bytes": what two rows of one kind say after their
+-- places. Where the text is 1 it is a name of the source, else a part of the constant table's text or none; a name bound
+-- twice shows where it was bound first, which is the same token in each source.
+pub record SameDetail (s u : List ℕ) (w : What) (a b : Detail) : Type 0 where
+  pub severity : a .severity ≡ b .severity
+  pub kind : a .kind ≡ b .kind
+  pub text : a .text ≡ b .text
+  pub name : a .text ≡ 1 → between s (a .start) (a .end) ≡ between u (b .start) (b .end)
+  pub start : (a .text ≡ 1 → ⊥) → a .start ≡ b .start
+  pub end : (a .text ≡ 1 → ⊥) → a .end ≡ b .end
+  pub type : a .type ≡ b .type
+  pub bound : (t : ℕ) → w ≡ alreadyBound t → TokenShown s a t × TokenShown u b t
+  pub first : ((t : ℕ) → w ≡ alreadyBound t → ⊥) → a .first ≡ b .first
+  pub second : ((t : ℕ) → w ≡ alreadyBound t → ⊥) → a .second ≡ b .second
+  pub third : a .third ≡ b .third
+
+-- a finding, by its rows for both sources
+abbrev pub SameFinding : List ℕ → List ℕ → Diag → Type 0
+SameFinding s u d = SameDetail s u (d .what) (detail (tokenOf s) (d .at) (d .what)) (detail (tokenOf u) (d .at) (d .what))
 
 -- ---- statements
 
