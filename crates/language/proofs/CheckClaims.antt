@@ -1,22 +1,22 @@
 -- Checking goes by contents alone.
 use Prim.Native.Nat.{ℕ, _/_}
 use mathlib.Core.Path.{_≡_, refl, sym, ap, _∙_}
-use mathlib.Core.Bool.{Bool, true, false}
-use mathlib.Core.List.{List, [], List·Memᴰ}
+use mathlib.Core.Bool.{Bool, true}
+use mathlib.Core.List.{List, []}
 use mathlib.Core.Option.{Option, none, some}
 use native.Mathlib.Omega.{arith}
 use lib.Dec.{ltb, eqb}
 use lib.ListN.{length}
 use Rattle.language.specs.Choice.{if′}
-use Rattle.language.specs.Tokens.{Content, name, string, Token, tokens, contents, between}
+use Rattle.language.specs.Tokens.{Content, name, Token, tokens, contents, between}
 use Rattle.language.specs.Tables.{tokenWidth}
 use Rattle.language.specs.Sentences.{is, program, nodeWidth}
-use Rattle.language.specs.Values.{Value, isInteger, isBool, isSized, isIp4, isSock4, isString, isText, isFunction, Ty, tyBool, tyInt, tyIp4, tySock4, tyBytes, tyFunction, tyInteger, entryAt}
-use Rattle.language.specs.Judgements.{What, unknownName, unknownItem, unknownModule, notImported, notAModule, notAValue, alreadyBound, noMembers, operandType, integralTooLarge, multipleImports, discardedValue, truncated, Diag, errorsIn, warningsIn, Held, Outcome, judged, refused, judgeAll, nameAt}
-use Rattle.language.specs.Findings.{tyText, whatKind, Detail, named, typed, bare, detail, stmtRow, stmtWidth}
+use Rattle.language.specs.Values.{isString, Ty, tyBool, tyInt, tyIp4, tySock4, tyBytes, tyFunction, tyInteger, entryAt}
+use Rattle.language.specs.Judgements.{What, unknownName, unknownItem, unknownModule, notImported, notAModule, notAValue, alreadyBound, noMembers, operandType, integralTooLarge, multipleImports, discardedValue, truncated, Diag, errorsIn, Held, Outcome, judged, refused, judgeAll, nameAt}
+use Rattle.language.specs.Findings.{tyText, whatKind, Detail, named, detail, stmtRow, stmtWidth}
 use Rattle.language.specs.Canonical.{text, Lexes}
-use Rattle.language.specs.Numbers.{Verdict, verdict, placed, Parsed, tokenPlace, parseAnswer, nowhere, at-token, SamePlace, SameParse, Checked, refusedCheck, firstCall, parsedNodes, statementsOf, checked, foundBy, heldBy, checkedWithin, judgedWithin, checkAnswer, tokenOf, checkNodes}
-use Rattle.language.specs.Checks.{SameCheck, SameDetail, SameFinding, SameHeld, bodiesAt, CheckedAlike, CheckedByContents, TextChecked}
+use Rattle.language.specs.Numbers.{Verdict, verdict, placed, Parsed, tokenPlace, parseAnswer, nowhere, at-token, SamePlace, SameParse, Checked, refusedCheck, firstCall, parsedNodes, statementsOf, checked, checkedWithin, judgedWithin, checkAnswer, tokenOf, checkNodes, checkDiags, checkStmts}
+use Rattle.language.specs.Checks.{SameCheck, SameDetail, SameHeld, bodiesAt, CheckedByContents, TextChecked}
 use Rattle.language.proofs.Tests.{each-side, both-sides}
 use Rattle.language.proofs.Canonical.{round-trip}
 use Rattle.language.proofs.ParseClaims.{parsed-by-contents}
@@ -74,7 +74,8 @@ module _ (s u : List ℕ) where
   same-at n at =
       same-refused (placed n (tokenPlace s at)) (placed n (tokenPlace u at)) refl refl (at-token at refl refl refl refl) refl
 
-  same-within : (room t n : ℕ) (ds : List Diag) (hs : List Held) → SameCheck s u (checkedWithin room t n ds hs) (checkedWithin room t n ds hs)
+  same-within : (room t n : ℕ) (ds : List Diag) (hs : List Held)
+      → let a = checkedWithin room t n ds hs in SameCheck s u a a
   same-within room t n ds hs =
       each-side (λ a. SameCheck s u a a) (eqb (errorsIn ds) 0)
       (each-side (λ a. SameCheck s u a a) (ltb room (length hs)) (same _ refl refl) (same _ refl refl)) (same _ refl refl)
@@ -108,6 +109,12 @@ same-answer s u h l e t n k =
     let p = parsed-by-contents s u h l e .1 t n in
     rw (checked-by s t n k, checked-by u t n k, e)
     (same-after s u p k (contents (tokens u)) _ _ (ap (λ (m : ℕ). eqb m 0) (p .number)))
+
+-- and so is its number, by the words of tables
+same-number : (s u : List ℕ) → Lexes s → Lexes u → contents (tokens s) ≡ contents (tokens u) → (t n k : ℕ)
+    → checkAnswer s (t / tokenWidth) (n / nodeWidth) (k / stmtWidth) .verdict .number
+    ≡ checkAnswer u (t / tokenWidth) (n / nodeWidth) (k / stmtWidth) .verdict .number
+same-number s u h l e t n k = same-answer s u h l e (t / tokenWidth) (n / nodeWidth) (k / stmtWidth) .number
 
 -- ---- findings
 
@@ -215,16 +222,15 @@ module _ (s u : List ℕ) where
 -- ---- the claims
 
 pub checked-by-contents : CheckedByContents
-unfolding checked checkNodes
+unfolding checked checkNodes checkDiags checkStmts
 checked-by-contents s u h l e =
-    let a = same-answer s u h l e in
     let g = outcome-grounded (contents (tokens s)) in
     record {
-      answer = a;
-      nodes = λ t n k. rw (a (t / tokenWidth) (n / nodeWidth) (k / stmtWidth) .number, e);
+      answer = same-answer s u h l e;
+      nodes = λ t n k. rw (same-number s u h l e t n k, e);
       outcome = rw e;
-      diags = λ t n k. rw (a (t / tokenWidth) (n / nodeWidth) (k / stmtWidth) .number, e);
-      stmts = λ t n k. rw (a (t / tokenWidth) (n / nodeWidth) (k / stmtWidth) .number, e);
+      diags = λ t n k m. (refl, rw (same-number s u h l e t n k, e));
+      stmts = λ t n k. (refl, rw (same-number s u h l e t n k, e));
       finding = λ d m. same-finding s u e (d .at) (d .what) (g .found .holds d m);
       statement = λ d m. same-held s u e d (g .kept .holds d m);
     }

@@ -1,8 +1,8 @@
 -- What is found and held stands for tokens of the right kinds: a finding that shows a name stands at one, and a string that
 -- is held is one.
 use Prim.Native.Nat.{ℕ, zero, suc, _+_, _*_, _<_}
-use mathlib.Core.Path.{_≡_, refl, sym, _∙_}
-use mathlib.Core.Bool.{Bool, true, false, _&&_}
+use mathlib.Core.Path.{_≡_, refl}
+use mathlib.Core.Bool.{true, false}
 use mathlib.Core.List.{List, [], _∷_, _++_, List·Memᴰ·head, List·Memᴰ·tail}
 use mathlib.Core.Option.{Option, none, some}
 use native.Mathlib.Omega.{arith}
@@ -10,14 +10,14 @@ use native.Mathlib.Decide.{decLt}
 use lib.Dec.{ltb}
 use lib.ListN.{length, getD}
 use Rattle.language.specs.Choice.{if′}
-use Rattle.language.specs.Integers.{IntType, u16, smallest, isTruncated}
+use Rattle.language.specs.Integers.{smallest, isTruncated}
 use Rattle.language.specs.Lexemes.{Tok, lParen, rParen, dot, doubleColon, colon, semiColon, equals, comma, slash, importKeyword, letKeyword, identifier, booleanLiteral, ipv4Literal, hexLiteral, decLiteral, same}
 use Rattle.language.specs.Tokens.{Content, eof, plain, name, string}
 use Rattle.language.specs.Tables.{bit}
 use Rattle.language.specs.Sentences.{Expr, Stmt, firstOf, Out, ok, no, is, program}
 use Rattle.language.specs.Grammar.{PathNames, is-start, is-name, Chain, is-literal, is-address, is-sock4, is-local, is-path, is-member, is-call, Slashed, is-chain, is-slash, Expression, is-expression, Statement, is-import, is-let, is-expr, Program, is-end, is-next}
-use Rattle.language.specs.Values.{Value, isInteger, isBool, isSized, isIp4, isSock4, isString, isText, isFunction, tyInt, Entry, entry, entries, entryAt, lookup}
-use Rattle.language.specs.Judgements.{What, unknownName, unknownItem, unknownModule, notImported, notAModule, notAValue, alreadyBound, noMembers, operandType, integralTooLarge, multipleImports, discardedValue, truncated, Diag, diag, Judged, val, err, poisoned, Judgement, judgement, andThen, goesOn, Known, known, Import, Binding, Held, held, Turn, goes, full, Outcome, judged, refused, find, findImport, mostImports, mostNames, content, nameAt, tokValue, literalValue, leftOf, rightOf, cut, narrowed, lastItem, innerItem, walk, below, boundTo, judge, imported, importStmt, bound, letStmt, discarded, told, stmt, onward, run, judgeAll}
+use Rattle.language.specs.Values.{Value, isInteger, isBool, isSized, isIp4, isSock4, isString, isText, isFunction, Entry, entry, entries, entryAt, lookup}
+use Rattle.language.specs.Judgements.{What, unknownName, unknownItem, unknownModule, notImported, notAModule, notAValue, alreadyBound, noMembers, operandType, integralTooLarge, multipleImports, discardedValue, truncated, Diag, Judged, val, err, poisoned, Judgement, judgement, andThen, goesOn, Known, known, Import, Binding, Held, Turn, goes, full, Outcome, find, findImport, mostImports, mostNames, content, nameAt, tokValue, literalValue, leftOf, rightOf, cut, narrowed, lastItem, innerItem, walk, below, boundTo, judge, imported, importStmt, bound, letStmt, discarded, told, stmt, onward, run, judgeAll}
 use Rattle.language.specs.Numbers.{statementsOf, foundBy, heldBy}
 use Rattle.language.proofs.Tests.{each-side}
 use Rattle.language.proofs.Each.{Each, of-none, of-one, of-both}
@@ -87,7 +87,8 @@ module _ (ts : List Content) where
   literal-right t eof e = tt
 
   narrowed-right : (v : Value) → Right v → RightIf (narrowed v)
-  narrowed-right (isInteger n) h = elim (smallest n) as (λ o. RightIf (elim o [ some t ↦ some (isSized t n) | none ↦ none ])) [ some t ↦ tt | none ↦ tt ]
+  narrowed-right (isInteger n) h =
+      elim (smallest n) as (λ o. RightIf (elim o [ some t ↦ some (isSized t n) | none ↦ none ])) [ some t ↦ tt | none ↦ tt ]
   narrowed-right (isBool b) h = tt
   narrowed-right (isSized t n) h = tt
   narrowed-right (isIp4 n) h = tt
@@ -216,7 +217,7 @@ module _ (ts : List Content) where
   module _ (n : ℕ) where
     cut-fine : (at i : ℕ) → Each Stands (cut ts n at i)
     cut-fine at i =
-        elim (isTruncated i) as (λ b. Each Stands (if′ b (diag n at (truncated i (tyInt u16)) ∷ []) [])) [ true ↦ of-one tt | false ↦ of-none ]
+        each-side (Each Stands) (isTruncated i) (of-one tt) of-none
 
     right-fine : (ip at : ℕ) (v : Value) → Fine (rightOf ts n ip at v)
     right-fine ip at (isInteger i) = record { out = tt; warns = cut-fine at i }
@@ -321,8 +322,8 @@ module _ (ts : List Content) where
   onward-grounded (full t) ds hs f h a b g = record { found = of-none; kept = of-none }
   onward-grounded (goes k es gs) ds hs f h a b g = g k (ds ++ es) (hs ++ gs) (h .0) (of-both a (h .1)) (of-both b (h .2))
 
-  run-grounded : {at next : ℕ} {ss : List Stmt} → Program ts at ss next → (n : ℕ) (k : Known) (ds : List Diag) (hs : List Held) → Sure k
-      → Each Stands ds → Each Kept hs → Grounded (run ts ss n k ds hs)
+  run-grounded : {at next : ℕ} {ss : List Stmt} → Program ts at ss next → (n : ℕ) (k : Known) (ds : List Diag) (hs : List Held)
+      → Sure k → Each Stands ds → Each Kept hs → Grounded (run ts ss n k ds hs)
   unfolding run
   run-grounded (is-end e) n k ds hs sure a b = record { found = a; kept = b }
   run-grounded (is-next {s = s} {ss} x p) n k ds hs sure a b =

@@ -5,8 +5,8 @@ use mathlib.Core.Bool.{true, or-true}
 use mathlib.Core.List.{List}
 use native.Mathlib.Omega.{arith}
 use lib.ListN.{length}
-use Rattle.language.specs.Tokens.{Content, name}
-use Rattle.language.specs.Sentences.{Expr, Args, Stmt, is, isLiteral, Node, nameNodes, exprSize, argsSize, exprNodes, argNodes, stmtNodes, nodesFrom}
+use Rattle.language.specs.Tokens.{Content}
+use Rattle.language.specs.Sentences.{Expr, Args, Stmt, isLiteral, Node, nameNodes, exprSize, argsSize, exprNodes, argNodes, stmtNodes, nodesFrom}
 use Rattle.language.specs.Grammar.{PathNames, is-start, is-name, Chain, is-literal, is-address, is-sock4, is-local, is-path, is-member, is-call, Slashed, is-chain, is-slash, Expression, is-expression, Argument, is-given, is-named, Arguments, is-none, is-more, Bracketed, is-closed, is-last, Statement, is-import, is-let, is-expr, Program, is-end, is-next, rightTokens, RowsRight}
 use Rattle.language.proofs.Each.{Each, of-none, of-one, of-both}
 use Rattle.language.proofs.GrammarMet.{opens, grammar-met}

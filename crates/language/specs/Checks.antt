@@ -7,13 +7,14 @@ use mathlib.Core.Path.{_≡_}
 use mathlib.Core.List.{List, [], List·Memᴰ}
 use lib.Dec.{eqb}
 use lib.ListN.{drop}
+use Rattle.table.specs.Table.{tabled}
 use Rattle.language.specs.Choice.{if′}
 use Rattle.language.specs.Tokens.{tokens, contents, between, bodiesIn}
 use Rattle.language.specs.Canonical.{text, Lexes, Fits}
 use Rattle.language.specs.Values.{isString}
 use Rattle.language.specs.Judgements.{What, alreadyBound, Diag, errorsIn, Held}
-use Rattle.language.specs.Findings.{Detail, detail, stmtRow}
-use Rattle.language.specs.Numbers.{Checked, checkAnswer, checkNodes, checked, foundBy, heldBy, tokenOf, whereDone, SamePlace}
+use Rattle.language.specs.Findings.{Detail, detail, diagRow, diagWidth, stmtRow, stmtWidth}
+use Rattle.language.specs.Numbers.{Checked, checkAnswer, checkNodes, checkDiags, checkStmts, checked, foundBy, heldBy, tokenOf, whereDone, SamePlace}
 
 -- ---- answers
 
@@ -69,20 +70,28 @@ pub record SameHeld (s u : List ℕ) (h : Held) : Type 0 where
 
 -- ---- the claims
 
--- the findings and the statements whose rows checking with tables of t, n and k words leaves (`checkDiags`, `checkStmts`)
+-- the findings and the statements that checking with tables of t, n and k words leaves
 abbrev pub diagsLeft : List ℕ → ℕ → ℕ → ℕ → List Diag
 diagsLeft s t n k = whereDone s t n k (foundBy (checked s))
 
 abbrev pub stmtsLeft : List ℕ → ℕ → ℕ → ℕ → List Held
 stmtsLeft s t n k = whereDone s t n k (if′ (eqb (errorsIn (foundBy (checked s))) 0) (heldBy (checked s)) [])
 
--- the whole sentence. A finding and a statement name tokens by their index, so "in the same order" is one equation
+-- the table of diagnostics, of m words, has the rows of these findings, and the table of statements of these statements
+abbrev pub DiagsAre : List ℕ → ℕ → ℕ → ℕ → ℕ → List Diag → Type 0
+DiagsAre s t n k m ds = checkDiags s t n k m ≡ tabled (diagRow (tokenOf s)) diagWidth m ds
+
+abbrev pub StmtsAre : List ℕ → ℕ → ℕ → ℕ → List Held → Type 0
+StmtsAre s t n k hs = checkStmts s t n k ≡ tabled (stmtRow (tokenOf s)) stmtWidth k hs
+
+-- the whole sentence. Findings and statements name tokens by their index, so "the same .. in the same order" is that the
+-- lists are equal: both tables have the rows of one list, and each of its members is the same, places aside.
 pub record CheckedAlike (s u : List ℕ) : Type 0 where
   pub answer : (t n k : ℕ) → SameCheck s u (checkAnswer s t n k) (checkAnswer u t n k)
   pub nodes : (t n k : ℕ) → checkNodes s t n k ≡ checkNodes u t n k
   pub outcome : checked s ≡ checked u
-  pub diags : (t n k : ℕ) → diagsLeft s t n k ≡ diagsLeft u t n k
-  pub stmts : (t n k : ℕ) → stmtsLeft s t n k ≡ stmtsLeft u t n k
+  pub diags : (t n k m : ℕ) → DiagsAre s t n k m (diagsLeft s t n k) × DiagsAre u t n k m (diagsLeft s t n k)
+  pub stmts : (t n k : ℕ) → StmtsAre s t n k (stmtsLeft s t n k) × StmtsAre u t n k (stmtsLeft s t n k)
   pub finding : (d : Diag) → List·Memᴰ d (foundBy (checked s)) → SameFinding s u d
   pub statement : (h : Held) → List·Memᴰ h (heldBy (checked s)) → SameHeld s u h
 
