@@ -77,7 +77,7 @@ diagsLeft s t n k = whereDone s t n k (foundBy (checked s))
 abbrev pub stmtsLeft : List ℕ → ℕ → ℕ → ℕ → List Held
 stmtsLeft s t n k = whereDone s t n k (if′ (eqb (errorsIn (foundBy (checked s))) 0) (heldBy (checked s)) [])
 
--- the table of diagnostics, of m words, has the rows of these findings, and the table of statements of these statements
+-- the table of diagnostics, of m words, has the rows of ds; the table of statements has those of hs
 abbrev pub DiagsAre : List ℕ → ℕ → ℕ → ℕ → ℕ → List Diag → Type 0
 DiagsAre s t n k m ds = checkDiags s t n k m ≡ tabled (diagRow (tokenOf s)) diagWidth m ds
 
