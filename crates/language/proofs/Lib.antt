@@ -37,5 +37,9 @@ pub mod GrammarRows
 pub mod NodeClaims
 pub mod RowClaims
 pub mod ParseClaims
+pub mod SentenceRefusals
+pub mod ExactlyRows
+pub mod Exactly
+pub mod ExactlyFound
 pub mod JudgementExamples
 pub mod JudgementClaims

@@ -13,3 +13,4 @@ pub mod Values
 pub mod Judgements
 pub mod Findings
 pub mod Numbers
+pub mod Exactly
