@@ -2,6 +2,7 @@
 use Prim.Native.Nat.{ℕ, suc}
 use mathlib.Core.Path.{_≡_, refl}
 use mathlib.Core.List.{List, _++_}
+use mathlib.Core.Logic.{_↔_}
 use native.Mathlib.Omega.{arith}
 use lib.Dec.{ltb, eqb}
 use lib.ListN.{length, drop}
@@ -12,7 +13,7 @@ use Rattle.language.specs.Canonical.{text}
 use Rattle.language.specs.Sentences.{Out, ok, no, Stmt, nodes}
 use Rattle.language.specs.Judgements.{Outcome, judged, refused, errorsIn}
 use Rattle.language.specs.Numbers.{mostBytes, Verdict, verdict, placed, lexical, tokenPlace, Scanned, scanned, scanAnswer, Lexed, lexed, lexAnswer, Parsed, parsedAs, parseAnswer, parsedNodes, Canonised, canonAnswer, Checked, refusedCheck, firstCall, checked, judgedWithin, checkAnswer}
-use Rattle.language.specs.Exactly.{bare, stopping, done, lexing, sentences, judging, parse, Reason, unexpectedToken, intOutOfRange, oneTooMany, scanRows, lexRows, parseRows, canonRows, checkRows, ScanExactly, LexExactly, ParseExactly, CanonExactly, CheckExactly}
+use Rattle.language.specs.Exactly.{TooLong, NotUtf8, WrongLexeme, TokensExceed, Stops, NodesExceed, bare, stopping, done, lexing, sentences, judging, parse, Reason, unexpectedToken, intOutOfRange, oneTooMany, scanRows, lexRows, parseRows, canonRows, checkRows, ScanExactly, LexExactly, ParseExactly, CanonExactly, CheckExactly}
 use Rattle.language.proofs.SentenceRefusals.{stops-for}
 use Rattle.language.proofs.ExactlyRows.{absent, Met, here, later, rowOf, exactly, less, equal, tested, one-tested, both-tested, finds, after}
 
@@ -115,3 +116,10 @@ check-exactly s t n k =
     (finds v (firstCall (parsedNodes (parse s))) (λ at. refusedCheck (placed 8 (tokenPlace s at)))
     (λ at e. here (rowOf 8 (judging s k)) (record { token = at; found = e }) refl refl)
     (λ e. later (λ h. absent e (h .found)) (judged-met s k (p .tokens) (p .nodes) (checked s) refl))))
+
+-- ---- one instance, written out
+
+six : (s : List ℕ) (t n : ℕ)
+    → parseAnswer s t n .verdict .number ≡ 6
+    ↔ (¬ TooLong s) × ((¬ NotUtf8 s) × ((¬ WrongLexeme s) × ((¬ TokensExceed s t) × ((¬ Stops 5 s) × ((¬ Stops 7 s) × NodesExceed s n)))))
+six s t n = parse-exactly s t n .given 6

@@ -2,7 +2,7 @@
 use Prim.Native.Nat.{ℕ, _<_}
 use mathlib.Core.Path.{_≡_, refl, sym, _∙_}
 use mathlib.Core.Bool.{Bool, true, false, _&&_, not}
-use mathlib.Core.List.{List, [], _∷_, _++_}
+use mathlib.Core.List.{List, [], _∷_, _++_, map, List·Memᴰ, List·Memᴰ·head, List·Memᴰ·tail}
 use mathlib.Core.Option.{Option, none, some}
 use mathlib.Core.Logic.{_↔_, _⊎_, inl, inr}
 use native.Mathlib.Omega.{arith}
@@ -90,8 +90,12 @@ module _ (v : Verdict) where
   told d (met-here {r} {rs} h t m) = (λ _. (h, t), untold (r .number) rs (first-fresh r rs d) m)
   told d (met-later {r} {rs} h m) = (λ q. absurd (other (r .number) (first-fresh r rs d) m q), told (rest-distinct r rs d) m)
 
+  listed : {rs : List Row} → Met v rs → List·Memᴰ (v .number) (map (λ r. r .number) rs)
+  listed (met-here h t m) = List·Memᴰ·head m
+  listed (met-later h m) = List·Memᴰ·tail (listed m)
+
   pub exactly : (rs : List Row) → distinct rs ≡ true → Met v rs → Exactly v rs
-  exactly rs d m = record { given = λ n. given n d m; told = told d m }
+  exactly rs d m = record { listed = listed m; given = λ n. given n d m; told = told d m }
 
 -- ---- one test after the other
 

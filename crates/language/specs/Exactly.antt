@@ -3,7 +3,7 @@
 use Prim.Native.Nat.{ℕ, suc, _≤_, _<_}
 use mathlib.Core.Path.{_≡_}
 use mathlib.Core.Bool.{true, false}
-use mathlib.Core.List.{List, [], _∷_, _++_, List·Memᴰ}
+use mathlib.Core.List.{List, [], _∷_, _++_, map, List·Memᴰ}
 use mathlib.Core.Option.{none, some}
 use mathlib.Core.Logic.{_↔_, _⊎_}
 use lib.Dec.{eqb}
@@ -147,7 +147,7 @@ canonRows s t n = lexing s t ++ bare 10 (TextExceeds s n) ∷ done
 -- ---- the claims
 
 -- "Smaller numbers go first": what the row of n says holds, and of no row before it. So `Given 3 (lexRows s room)` is
--- (¬ TooLong s) × ((¬ NotUtf8 s) × WrongLexeme s), and no number is given that has no row.
+-- (¬ TooLong s) × ((¬ NotUtf8 s) × WrongLexeme s).
 abbrev pub Given : ℕ → List Row → Type 0
 Given n [] = ⊥
 Given n (r ∷ rs) = elim (eqb n (r .number)) [ true ↦ r .when | false ↦ (¬ r .when) × Given n rs ]
@@ -157,8 +157,9 @@ abbrev pub Told : Verdict → List Row → Type 0
 Told v [] = Unit
 Told v (r ∷ rs) = (v .number ≡ r .number → (h : r .when) × (v ≡ r .told h)) × Told v rs
 
--- an answer goes by rows
+-- an answer goes by rows: it has the number of one, exactly when that one says, and tells what that one tells
 pub record Exactly (v : Verdict) (rs : List Row) : Type 0 where
+  pub listed : List·Memᴰ (v .number) (map (λ r. r .number) rs)
   pub given : (n : ℕ) → v .number ≡ n ↔ Given n rs
   pub told : Told v rs
 
