@@ -41,5 +41,6 @@ pub mod SentenceRefusals
 pub mod ExactlyRows
 pub mod Exactly
 pub mod ExactlyFound
+pub mod Samples
 pub mod JudgementExamples
 pub mod JudgementClaims

@@ -14,3 +14,4 @@ pub mod Judgements
 pub mod Findings
 pub mod Numbers
 pub mod Exactly
+pub mod Samples
