@@ -39,6 +39,11 @@ pub mod TokenTexts
 pub mod NodeClaims
 pub mod RowClaims
 pub mod ParseClaims
+pub mod SentenceRefusals
+pub mod ExactlyRows
+pub mod Exactly
+pub mod ExactlyFound
+pub mod Samples
 pub mod JudgementExamples
 pub mod JudgementClaims
 pub mod FindingTokens

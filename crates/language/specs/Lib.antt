@@ -14,3 +14,5 @@ pub mod Judgements
 pub mod Findings
 pub mod Numbers
 pub mod Checks
+pub mod Exactly
+pub mod Samples
