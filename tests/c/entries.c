@@ -54,9 +54,9 @@ static struct outcome check_words(struct lent lent)
     terkinoha_node *nodes = (terkinoha_node *)area_lend(to[SECOND]);
     terkinoha_diagnostic *found = (terkinoha_diagnostic *)area_lend(to[FINDINGS]);
     terkinoha_statement *statements = (terkinoha_statement *)area_lend(to[STATEMENTS]);
-    terkinoha_checked a =
-        terkinoha_check_words(area_lend(lent.source), lent.source.size, tokens, words(to[ROWS]), nodes, words(to[SECOND]),
-                              found, words(to[FINDINGS]), statements, words(to[STATEMENTS]));
+    terkinoha_checked a = terkinoha_check_words(area_lend(lent.source), lent.source.size, tokens, words(to[ROWS]), nodes,
+                                                words(to[SECOND]), found, words(to[FINDINGS]), statements,
+                                                words(to[STATEMENTS]));
     struct outcome outcome = {a.verdict, {a.tokens, a.nodes, a.errors + a.warnings, a.statements}, a.errors};
     return outcome;
 }
@@ -252,6 +252,11 @@ static int shows_nothing(const terkinoha_diagnostic *d)
     return d->text == TERKINOHA_TEXT_NONE && d->start == 0 && d->end == 0 && d->type == 0;
 }
 
+static int is_integral(uint64_t type)
+{
+    return type <= TERKINOHA_TYPE_U64 || type == TERKINOHA_TYPE_INTEGER;
+}
+
 static int fields(const terkinoha_diagnostic *d, uint64_t first, uint64_t second, uint64_t third)
 {
     return d->first == first && d->second == second && d->third == third;
@@ -273,8 +278,8 @@ static int is_finding(const terkinoha_diagnostic *d, const terkinoha_token *toke
                (d->first < d->line || (d->first == d->line && d->second < d->column));
     case TERKINOHA_FINDING_NO_MEMBERS: return shows_type(d) && fields(d, 0, 0, 0);
     case TERKINOHA_FINDING_OPERAND_TYPE:
-        return shows_type(d) &&
-               (fields(d, 1, TERKINOHA_TYPE_IP4, 1) ? d->type != TERKINOHA_TYPE_IP4 : fields(d, 2, TERKINOHA_TYPE_U16, 1));
+        return shows_type(d) && (d->first == 1 ? fields(d, 1, TERKINOHA_TYPE_IP4, 1) && d->type != TERKINOHA_TYPE_IP4
+                                               : fields(d, 2, TERKINOHA_TYPE_U16, 1) && !is_integral(d->type));
     case TERKINOHA_FINDING_INTEGRAL_TOO_LARGE: return shows_nothing(d) && fields(d, 0, 0, 0);
     case TERKINOHA_FINDING_DISCARDED_VALUE:
         return shows_type(d) && d->type != TERKINOHA_TYPE_INTEGER && fields(d, 0, 0, 0);

@@ -265,6 +265,7 @@ struct checking {
 
 #define NONE {0, 0, 0, 0}
 #define DISCARDED TERKINOHA_FINDING_DISCARDED_VALUE
+#define QUAD 0x01020304 /* 1.2.3.4 */
 
 static const struct checking checkings[] = {
     {"", 0, 0, {NONE, NONE}, {0, 0, 0}},
@@ -280,15 +281,15 @@ static const struct checking checkings[] = {
      0,
      2,
      {{1, 9, TERKINOHA_FINDING_TRUNCATED, TERKINOHA_TYPE_U16}, {1, 1, DISCARDED, TERKINOHA_TYPE_SOCK4}},
-     {TERKINOHA_TYPE_SOCK4, 0x01020304, 80}},
+     {TERKINOHA_TYPE_SOCK4, QUAD, 80}},
     {"import bench;\n1.2.3.4/bench::BIG;",
      0,
      2,
      {{2, 9, TERKINOHA_FINDING_TRUNCATED, TERKINOHA_TYPE_U16}, {2, 1, DISCARDED, TERKINOHA_TYPE_SOCK4}},
-     {TERKINOHA_TYPE_SOCK4, 0x01020304, 4464}},
-    {"1.2.3.4/65535;", 0, 1, {{1, 1, DISCARDED, TERKINOHA_TYPE_SOCK4}, NONE}, {TERKINOHA_TYPE_SOCK4, 0x01020304, 65535}},
-    {"1.2.3.4/true;", 0, 1, {{1, 1, DISCARDED, TERKINOHA_TYPE_SOCK4}, NONE}, {TERKINOHA_TYPE_SOCK4, 0x01020304, 1}},
-    {"1.2.3.4//80\n;", 0, 1, {{1, 1, DISCARDED, TERKINOHA_TYPE_IP4}, NONE}, {TERKINOHA_TYPE_IP4, 0x01020304, 0}},
+     {TERKINOHA_TYPE_SOCK4, QUAD, 4464}},
+    {"1.2.3.4/65535;", 0, 1, {{1, 1, DISCARDED, TERKINOHA_TYPE_SOCK4}, NONE}, {TERKINOHA_TYPE_SOCK4, QUAD, 65535}},
+    {"1.2.3.4/true;", 0, 1, {{1, 1, DISCARDED, TERKINOHA_TYPE_SOCK4}, NONE}, {TERKINOHA_TYPE_SOCK4, QUAD, 1}},
+    {"1.2.3.4//80\n;", 0, 1, {{1, 1, DISCARDED, TERKINOHA_TYPE_IP4}, NONE}, {TERKINOHA_TYPE_IP4, QUAD, 0}},
     {"let x = x;", 1, 0, {{1, 9, TERKINOHA_FINDING_UNKNOWN_NAME, 0}, NONE}, {0, 0, 0}},
     {"let x = x;\nx;\nlet y = x/1;\ny;", 1, 0, {{1, 9, TERKINOHA_FINDING_UNKNOWN_NAME, 0}, NONE}, {0, 0, 0}},
     {"let a = 1;\nlet a = b;", 1, 0, {{2, 5, TERKINOHA_FINDING_ALREADY_BOUND, 0}, NONE}, {0, 0, 0}},

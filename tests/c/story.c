@@ -36,8 +36,8 @@ static void kept(struct left *left, terkinoha_verdict verdict, uint64_t count, u
 
 static void check(const char *source, size_t room, struct left *left)
 {
-    terkinoha_checked a = terkinoha_check(source, strlen(source), left->tokens, room, left->nodes, room, left->found, room,
-                                          left->statements, room);
+    terkinoha_checked a = terkinoha_check(source, strlen(source), left->tokens, room, left->nodes, room, left->found,
+                                          room, left->statements, room);
     kept(left, a.verdict, a.tokens, a.nodes);
     left->counts[2] = a.errors;
     left->counts[3] = a.warnings;
