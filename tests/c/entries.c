@@ -54,8 +54,8 @@ static struct outcome check_words(struct lent lent)
     terkinoha_node *nodes = (terkinoha_node *)area_lend(to[SECOND]);
     terkinoha_diagnostic *found = (terkinoha_diagnostic *)area_lend(to[FINDINGS]);
     terkinoha_statement *statements = (terkinoha_statement *)area_lend(to[STATEMENTS]);
-    terkinoha_checked a = terkinoha_check_words(area_lend(lent.source), lent.source.size, tokens, words(to[ROWS]), nodes,
-                                                words(to[SECOND]), found, words(to[FINDINGS]), statements,
+    terkinoha_checked a = terkinoha_check_words(area_lend(lent.source), lent.source.size, tokens, words(to[ROWS]),
+                                                nodes, words(to[SECOND]), found, words(to[FINDINGS]), statements,
                                                 words(to[STATEMENTS]));
     struct outcome outcome = {a.verdict, {a.tokens, a.nodes, a.errors + a.warnings, a.statements}, a.errors};
     return outcome;
