@@ -12,9 +12,11 @@ use Rattle.language.specs.Tokens.{items, firstWrong, tokens, contents, p
 use Rattle.language.specs.Canonical.{text}
 use Rattle.language.specs.Sentences.{Out, ok, no, Stmt, nodes}
 use Rattle.language.specs.Judgements.{Outcome, judged, refused, errorsIn}
-use Rattle.language.specs.Numbers.{mostBytes, Verdict, verdict, placed, lexical, tokenPlace, Scanned, scanned, scanAnswer, Lexed, lexed, lexAnswer, Parsed, parsedAs, parseAnswer, parsedNodes, Canonised, canonAnswer, Checked, refusedCheck, firstCall, checked, judgedWithin, checkAnswer}
+use Rattle.language.specs.Numbers.{mostBytes, Verdict, verdict, placed, lexical, tokenPlace, Scanned, scanned, scanAnswer, Lexed, lexed, lexAnswer, Parsed, parsedAs, parseAnswer, parsedNodes, Canonised, canonAnswer, Checked, refusedCheck, firstCall, statementsOf, checked, judgedWithin, checkAnswer}
+use Rattle.language.specs.Names.{FirstTooMany}
 use Rattle.language.specs.Exactly.{TooLong, NotUtf8, WrongLexeme, TokensExceed, Stops, NodesExceed, bare, stopping, done, lexing, sentences, judging, parse, Reason, unexpectedToken, intOutOfRange, oneTooMany, scanRows, lexRows, parseRows, canonRows, checkRows, ScanExactly, LexExactly, ParseExactly, CanonExactly, CheckExactly}
 use Rattle.language.proofs.SentenceRefusals.{stops-for}
+use Rattle.language.proofs.Names.{names-refused}
 use Rattle.language.proofs.ExactlyRows.{absent, Met, here, later, rowOf, exactly, less, equal, tested, one-tested, both-tested, finds, after}
 
 all-done : Met (verdict 0 0 0) done
@@ -97,11 +99,15 @@ canon-exactly s t n =
 
 -- ---- check
 
+refused-at : (s : List ℕ) (at : ℕ) → checked s ≡ refused at ↔ FirstTooMany (contents (tokens s)) (statementsOf (parse s)) at
+unfolding checked
+refused-at s at = names-refused (contents (tokens s)) (statementsOf (parse s)) at
+
 judged-met : (s : List ℕ) (room t n : ℕ) (o : Outcome) → checked s ≡ o
     → Met (judgedWithin s room t n o .verdict) (drop 1 (judging s room) ++ done)
-judged-met s room t n (refused at) e = here (rowOf 9 (judging s room)) (record { token = at; found = e }) refl refl
+judged-met s room t n (refused at) e = here (rowOf 9 (judging s room)) (record { token = at; found = refused-at s at .0 e }) refl refl
 judged-met s room t n (judged ds hs) e =
-    later (λ h. let f = h .found in let z : _≡_ {A = ℕ} 0 1 = cc in omega arith)
+    later (λ h. let f = refused-at s (h .token) .1 (h .found) in let z : _≡_ {A = ℕ} 0 1 = cc in omega arith)
     (rw e
     (both-tested (λ (a : Checked). a .verdict) 11 (eqb (errorsIn ds) 0) (ltb room (length hs)) (equal (errorsIn ds) 0)
     (less room (length hs)) refl all-done all-done))

@@ -40,6 +40,8 @@ pub mod NodeClaims
 pub mod RowClaims
 pub mod ParseClaims
 pub mod SentenceRefusals
+pub mod DistinctNames
+pub mod Names
 pub mod ExactlyRows
 pub mod Exactly
 pub mod ExactlyFound

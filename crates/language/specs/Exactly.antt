@@ -13,8 +13,9 @@ use Rattle.language.specs.Lexemes.{LexErrorKind, scan}
 use Rattle.language.specs.Tokens.{Content, Item, wrong, Wrong, items, firstWrong, tokens, contents, placeOf}
 use Rattle.language.specs.Canonical.{text}
 use Rattle.language.specs.Sentences.{Out, no, Stmt, Node, callKind, program}
-use Rattle.language.specs.Judgements.{refused, errorsIn}
-use Rattle.language.specs.Numbers.{mostBytes, Verdict, verdict, placed, lexical, tokenPlace, scanAnswer, lexAnswer, parseAnswer, parsedNodes, canonAnswer, firstCall, checked, foundBy, heldBy, checkAnswer}
+use Rattle.language.specs.Judgements.{errorsIn}
+use Rattle.language.specs.Numbers.{mostBytes, Verdict, verdict, placed, lexical, tokenPlace, scanAnswer, lexAnswer, parseAnswer, parsedNodes, canonAnswer, firstCall, statementsOf, checked, foundBy, heldBy, checkAnswer}
+use Rattle.language.specs.Names.{FirstTooMany}
 
 -- ---- "Given exactly when"
 
@@ -68,7 +69,7 @@ pub record HoldsCall (s : List ℕ) : Type 0 where
 -- "a 513th distinct let name or 65th distinct import name, failed ones counted", with "the earlier such name"
 pub record NamesExceed (s : List ℕ) : Type 0 where
   pub token : ℕ
-  pub found : checked s ≡ refused token
+  pub found : FirstTooMany (contents (tokens s)) (statementsOf (parse s)) token
 
 -- "canonical text exceeds its room or 65,536 bytes"
 abbrev pub TextExceeds : List ℕ → ℕ → Type 0

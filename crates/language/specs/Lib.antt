@@ -14,5 +14,6 @@ pub mod Judgements
 pub mod Findings
 pub mod Numbers
 pub mod Checks
+pub mod Names
 pub mod Exactly
 pub mod Samples
