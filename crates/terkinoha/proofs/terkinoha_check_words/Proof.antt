@@ -22,7 +22,7 @@ same-length-4 : tie.Need-same-length-4
 same-length-4 c = search needs
 
 returns : tie.Need-returns
-returns c = checks (c .before .before .before .before .before .check-source .ensures) (c .as-c .ensures)
+returns c = checks (c .before .before .before .before .before .before .before .before .before .check-source .ensures) (c .as-c .ensures)
 
 pub terkinoha-check-words-spec : {M : Type 1} → statement M
 terkinoha-check-words-spec =
