@@ -6,6 +6,8 @@ use libc::STDIN_FILENO;
 use parse::Parser;
 use printing::output;
 use scan::Scanner;
+use showing_check::Diagnostic;
+use showing_check::Statement;
 
 struct Program {}
 
@@ -55,8 +57,8 @@ fn answer<'a>(
 fn run(source: &mut [u8], out: &mut [u8]) {
     let mut tokens = [0u64; Program::TOKENS * Lexer::ROW_WORDS];
     let mut nodes = [0u64; Program::NODES * Parser::ROW_WORDS];
-    let mut diags = [0u64; Program::DIAGNOSTICS * 11];
-    let mut stmts = [0u64; Program::STATEMENTS * 7];
+    let mut diags = [0u64; Program::DIAGNOSTICS * Diagnostic::ROW_WORDS];
+    let mut stmts = [0u64; Program::STATEMENTS * Statement::ROW_WORDS];
     let table = Constants::new();
     let text = table.text;
     let end = io::read_full(STDIN_FILENO, source);
