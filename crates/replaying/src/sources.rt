@@ -81,7 +81,16 @@ pub fn answers(
             return;
         };
         at = closed(
-            mode, source, size, tokens, nodes, diags, stmts, text, out, at,
+            mode,
+            source,
+            size,
+            tokens,
+            nodes,
+            diags,
+            stmts,
+            text,
+            out,
+            at,
         );
         unread = rest;
         sources -= 1;

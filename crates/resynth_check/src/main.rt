@@ -14,8 +14,11 @@ struct Program {}
 impl Program {
     // How many rows each table has.
     const TOKENS: usize = 2048;
+
     const NODES: usize = 2048;
+
     const DIAGNOSTICS: usize = 128;
+
     const STATEMENTS: usize = 512;
 }
 
