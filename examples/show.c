@@ -1,10 +1,11 @@
 /* show: prints what Terkinoha finds in a script.
  *
- *     show tokens|tree|text FILE          FILE may be `-` for standard input
+ *     show check|tokens|tree|text FILE    FILE may be `-` for standard input
  *
- * tokens: a token to a line, with its place. tree: a statement to a line, operator first. text: the canonical text.
- * A refusal is printed as FILE:LINE:COLUMN: error: TEXT, with the script's line and a caret below it.
- * Exit status: 0 shown, 1 refused, 2 no script to read.
+ * check: what is wrong with the script, and how many errors and warnings that are. tokens: a token to a line, with its
+ * place. tree: a statement to a line, operator first. text: the canonical text.
+ * A finding or a refusal is printed as FILE:LINE:COLUMN: error: TEXT, with the script's line and a caret below it.
+ * Exit status: 0 shown, with no errors; 1 refused, or errors found; 2 no script to read.
  */
 #define _POSIX_C_SOURCE 200112L /* fileno, isatty */
 #include "terkinoha.h"
@@ -91,7 +92,7 @@ static void put_token(const struct script *script, const terkinoha_token *token)
         put_bytes(stdout, script->bytes + token->start, token->end - token->start);
 }
 
-/* ---- a refusal ---- */
+/* ---- a place in the script ---- */
 
 /* Finds a line of the script, which is cut at each byte 10. Answers 0 where it has no such line. */
 static int find_line(const struct script *script, uint64_t number, size_t *start, size_t *end)
@@ -126,41 +127,215 @@ static void put_ascii(FILE *out, const unsigned char *bytes, size_t size)
         put_bytes(out, bytes[i] < 0x80 ? bytes + i : (const unsigned char *)"?", 1);
 }
 
-/* The script's line, and a caret below the place. */
-static void point_at(const struct script *script, terkinoha_verdict verdict, const char *strong, const char *plain)
+/* How a severity is written: its word, and its colour on a terminal. */
+struct style {
+    const char *word, *strong, *plain;
+};
+
+static struct style style_of(uint64_t severity)
+{
+    int warning = severity == TERKINOHA_SEVERITY_WARNING;
+    struct style style = {warning ? "warning" : "error", "", ""};
+    if (isatty(fileno(stderr))) {
+        style.strong = warning ? "\033[1;35m" : "\033[1;31m";
+        style.plain = "\033[0m";
+    }
+    return style;
+}
+
+/* FILE:LINE:COLUMN: error: */
+static void put_head(const struct script *script, uint64_t line, uint64_t column, struct style style)
+{
+    fprintf(stderr, "%s:", script->name);
+    if (line != 0)
+        fprintf(stderr, "%" PRIu64 ":%" PRIu64 ":", line, column);
+    fprintf(stderr, " %s%s:%s ", style.strong, style.word, style.plain);
+}
+
+/* The script's line, and a caret below the place. What comes from there on may be no characters. */
+static void point_at(const struct script *script, uint64_t number, uint64_t column, int characters, struct style style)
 {
     size_t start, end;
-    if (!find_line(script, verdict.line, &start, &end)) {
+    if (!find_line(script, number, &start, &end)) {
         fprintf(stderr, "(at the end of the script)\n");
         return;
     }
     const unsigned char *line = script->bytes + start;
-    size_t before = (size_t)verdict.column - 1, rest = end - start - before;
+    size_t before = (size_t)column - 1, rest = end - start - before;
     put_bytes(stderr, line, before);
-    if (verdict.number == TERKINOHA_NOT_UTF8)
-        put_ascii(stderr, line + before, rest);
-    else
+    if (characters)
         put_bytes(stderr, line + before, rest);
+    else
+        put_ascii(stderr, line + before, rest);
     fputc('\n', stderr);
     put_blanks(stderr, line, before);
-    fprintf(stderr, "%s^%s\n", strong, plain);
+    fprintf(stderr, "%s^%s\n", style.strong, style.plain);
 }
+
+/* ---- a refusal ---- */
 
 static int report(const struct script *script, terkinoha_verdict verdict)
 {
-    int coloured = isatty(fileno(stderr));
-    const char *strong = coloured ? "\033[1;31m" : "", *plain = coloured ? "\033[0m" : "";
-
-    fprintf(stderr, "%s:", script->name);
-    if (verdict.line != 0)
-        fprintf(stderr, "%" PRIu64 ":%" PRIu64 ":", verdict.line, verdict.column);
-    fprintf(stderr, " %serror:%s %s", strong, plain, terkinoha_verdict_text(verdict));
+    struct style style = style_of(TERKINOHA_SEVERITY_ERROR);
+    put_head(script, verdict.line, verdict.column, style);
+    fputs(terkinoha_verdict_text(verdict), stderr);
     if (verdict.number == TERKINOHA_LEXICAL && verdict.kind == TERKINOHA_ERROR_UNEXPECTED_CHAR)
         fprintf(stderr, " U+%04" PRIX64, verdict.character);
     fputc('\n', stderr);
     if (verdict.line != 0)
-        point_at(script, verdict, strong, plain);
+        point_at(script, verdict.line, verdict.column, verdict.number != TERKINOHA_NOT_UTF8, style);
     return 1;
+}
+
+/* ---- findings ---- */
+
+/* A part of the constant table's text, in quotes. */
+static void put_item(uint64_t start, uint64_t end)
+{
+    fprintf(stderr, "`%.*s`", (int)(end - start), TERKINOHA_TABLE_TEXT + start);
+}
+
+/* The name that a finding shows. */
+static void put_shown(const struct script *script, const terkinoha_diagnostic *found)
+{
+    if (found->text == TERKINOHA_TEXT_TABLE) {
+        put_item(found->start, found->end);
+        return;
+    }
+    fputc('`', stderr);
+    put_bytes(stderr, script->bytes + found->start, found->end - found->start);
+    fputc('`', stderr);
+}
+
+/* The type that a finding shows; of a function with its name. */
+static void put_type(const terkinoha_diagnostic *found)
+{
+    fputs(terkinoha_type_text(found->type), stderr);
+    if (found->type == TERKINOHA_TYPE_FUNCTION) {
+        fputc(' ', stderr);
+        put_item(found->start, found->end);
+    }
+}
+
+/* An integer of two words: its decimal digits come from the last to the first. */
+static void put_integer(uint64_t high, uint64_t low)
+{
+    char digits[40];
+    size_t at = sizeof digits;
+    uint32_t parts[4] = {(uint32_t)(high >> 32), (uint32_t)high, (uint32_t)(low >> 32), (uint32_t)low};
+    digits[--at] = 0;
+    do {
+        uint64_t rest = 0;
+        for (int i = 0; i < 4; i++) {
+            uint64_t part = rest << 32 | parts[i];
+            parts[i] = (uint32_t)(part / 10);
+            rest = part % 10;
+        }
+        digits[--at] = (char)('0' + rest);
+    } while ((parts[0] | parts[1] | parts[2] | parts[3]) != 0);
+    fputs(digits + at, stderr);
+}
+
+/* What is said of a finding that shows a name. */
+static void tell_name(const struct script *script, const terkinoha_diagnostic *found)
+{
+    switch (found->kind) {
+    case TERKINOHA_FINDING_UNKNOWN_NAME:
+        fputs("unknown name ", stderr);
+        put_shown(script, found);
+        break;
+    case TERKINOHA_FINDING_UNKNOWN_ITEM:
+        put_item(found->first, found->second);
+        fputs(" has no item ", stderr);
+        put_shown(script, found);
+        break;
+    case TERKINOHA_FINDING_UNKNOWN_MODULE:
+        fputs("unknown module ", stderr);
+        put_shown(script, found);
+        break;
+    case TERKINOHA_FINDING_NOT_IMPORTED:
+        put_shown(script, found);
+        fputs(" is not imported", stderr);
+        break;
+    case TERKINOHA_FINDING_NOT_A_MODULE:
+        put_shown(script, found);
+        fputs(" is not a module", stderr);
+        break;
+    case TERKINOHA_FINDING_NOT_A_VALUE:
+        put_shown(script, found);
+        fputs(" is a module, not a value", stderr);
+        break;
+    case TERKINOHA_FINDING_ALREADY_BOUND:
+        put_shown(script, found);
+        fprintf(stderr, " is already bound, at %" PRIu64 ":%" PRIu64, found->first, found->second);
+        break;
+    case TERKINOHA_FINDING_MULTIPLE_IMPORTS:
+        put_shown(script, found);
+        fputs(" is imported again", stderr);
+        break;
+    }
+}
+
+/* What is said of any finding. */
+static void tell(const struct script *script, const terkinoha_diagnostic *found)
+{
+    switch (found->kind) {
+    case TERKINOHA_FINDING_NO_MEMBERS:
+        put_type(found);
+        fputs(" has no members", stderr);
+        break;
+    case TERKINOHA_FINDING_OPERAND_TYPE:
+        fprintf(stderr, "%s of `/` must be %s, and is ", found->first == 1 ? "left" : "right",
+                terkinoha_type_text(found->second));
+        put_type(found);
+        break;
+    case TERKINOHA_FINDING_INTEGRAL_TOO_LARGE:
+        fputs(terkinoha_finding_text(found->kind), stderr);
+        break;
+    case TERKINOHA_FINDING_DISCARDED_VALUE:
+        fputs("a value is discarded: ", stderr);
+        put_type(found);
+        break;
+    case TERKINOHA_FINDING_TRUNCATED:
+        put_integer(found->second, found->first);
+        fprintf(stderr, " does not fit %s: it is cut to %" PRIu64, terkinoha_type_text(found->type), found->first & 65535);
+        break;
+    default:
+        tell_name(script, found);
+    }
+}
+
+static void put_finding(const struct script *script, const terkinoha_diagnostic *found)
+{
+    struct style style = style_of(found->severity);
+    put_head(script, found->line, found->column, style);
+    tell(script, found);
+    fputc('\n', stderr);
+    point_at(script, found->line, found->column, 1, style);
+}
+
+/* Checks with tables of `room` rows: a script never has more findings, nodes or statements than tokens. */
+static int show_check(const struct script *script, size_t room)
+{
+    terkinoha_token *tokens = (terkinoha_token *)lend(room, sizeof *tokens);
+    terkinoha_node *nodes = (terkinoha_node *)lend(room, sizeof *nodes);
+    terkinoha_diagnostic *found = (terkinoha_diagnostic *)lend(room, sizeof *found);
+    terkinoha_statement *statements = (terkinoha_statement *)lend(room, sizeof *statements);
+    terkinoha_checked checked =
+        terkinoha_check(script->bytes, script->size, tokens, room, nodes, room, found, room, statements, room);
+    int status = checked.errors != 0;
+    if (checked.verdict.number != TERKINOHA_DONE) {
+        status = report(script, checked.verdict);
+    } else {
+        for (uint64_t i = 0; i < checked.errors + checked.warnings; i++)
+            put_finding(script, &found[i]);
+        printf("errors %" PRIu64 " warnings %" PRIu64 "\n", checked.errors, checked.warnings);
+    }
+    free(statements);
+    free(found);
+    free(nodes);
+    free(tokens);
+    return status;
 }
 
 /* ---- tokens ---- */
@@ -356,6 +531,8 @@ static int show(const char *mode, const struct script *script)
         show_tokens(script, tokens, lexed.tokens);
     free(tokens);
 
+    if (status == 0 && strcmp(mode, "check") == 0)
+        status = show_check(script, lexed.tokens);
     if (status == 0 && strcmp(mode, "tree") == 0)
         status = show_tree(script, lexed.tokens);
     if (status == 0 && strcmp(mode, "text") == 0)
@@ -365,9 +542,13 @@ static int show(const char *mode, const struct script *script)
 
 int main(int argc, char **argv)
 {
+    static const char *const modes[] = {"check", "tokens", "tree", "text"};
     const char *mode = argc == 3 ? argv[1] : "";
-    if (strcmp(mode, "tokens") != 0 && strcmp(mode, "tree") != 0 && strcmp(mode, "text") != 0) {
-        fprintf(stderr, "usage: show tokens|tree|text FILE\n");
+    size_t known = 0;
+    while (known < 4 && strcmp(mode, modes[known]) != 0)
+        known++;
+    if (known == 4) {
+        fprintf(stderr, "usage: show check|tokens|tree|text FILE\n");
         return 2;
     }
     struct script script = read_script(argv[2]);

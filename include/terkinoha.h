@@ -1,7 +1,7 @@
 /* terkinoha.h: a front end for resynth scripts.
  *
- * Terkinoha takes the raw bytes of a script and scans, lexes, parses or canonicalises them. What it
- * finds goes into tables that the host lends. C99 or later, or C++, on x86-64 Linux. Link with
+ * Terkinoha takes the raw bytes of a script and scans, lexes, parses, checks or canonicalises them.
+ * What it finds goes into tables that the host lends. C99 or later, or C++, on x86-64 Linux. Link with
  * libterkinoha.a; it needs no other library.
  *
  *     terkinoha_token tokens[100];
@@ -16,6 +16,7 @@
  *   the call was refused, and where.
  *   - Done: the first rows of a table, as many as counted, are what was found. Every word after
  *     them is zero.
+ *     Findings of a check are no refusal: the call is done, and counts them.
  *   - Refused: every word of every lent table and every byte of a lent text is zero, and all counts
  *     are 0. A host that forgets to look at the number finds nothing there, and never what a call
  *     before it left.
@@ -35,10 +36,11 @@
  * How large tables must be
  *
  *   A source has at most TERKINOHA_MOST_BYTES bytes, or number 1 refuses it. For a source of `size`
- *   bytes these rooms are always enough, and no call is refused for room (numbers 4 and 6):
+ *   bytes these rooms are always enough, and no call is refused for room (numbers 4, 6 and 11):
  *   - lexemes: `size` rows;
  *   - tokens: `size` + 1 rows;
- *   - nodes: as many rows as the source has tokens;
+ *   - nodes and statements: as many rows as the source has tokens;
+ *   - diagnostics: any number of rows; as many as the source has tokens keep them all;
  *   - canonical text: TERKINOHA_MOST_BYTES bytes; number 10 then means a longer text.
  *   Most scripts need far less. A host that minds memory takes two steps: it lexes with room for
  *   `size` + 1 tokens, then lends tables of just as many rows as were counted (examples/show.c).
@@ -58,12 +60,14 @@ extern "C" {
 #define TERKINOHA_MOST_BYTES 65536 /* of a source, and of canonical text */
 #define TERKINOHA_MOST_LISTS 32    /* argument lists open at once */
 #define TERKINOHA_MOST_STEPS 64    /* steps (`.`, `(`, `/`) in one expression, without its lists' */
+#define TERKINOHA_MOST_NAMES 512   /* names that are bound by `let` */
+#define TERKINOHA_MOST_IMPORTS 64  /* names that are imported */
 
 /* ---- numbers --------------------------------------------------------------------------------- */
 
 /* What a call came to. Smaller numbers go first, but between 5 and 7 the earlier token decides.
- * Scan gives 0, 1, 2 and 4; lex 0 to 4; parse 0 to 7; canonicalise 0 to 4 and 10. Numbers 8, 9 and
- * 11 belong to a call that checks a script, which this header does not have yet.
+ * Scan gives 0, 1, 2 and 4; lex 0 to 4; parse 0 to 7; check 0 to 9 and 11; canonicalise 0 to 4 and
+ * 10.
  */
 enum terkinoha_number {
     /* exactly when: done; no place */
@@ -146,6 +150,18 @@ typedef struct terkinoha_canonised {
     uint64_t tokens;
     uint64_t bytes; /* how many bytes the canonical text has */
 } terkinoha_canonised;
+
+/* A check that is done counts all errors and warnings, however many rows the diagnostic table has.
+ * Where errors are counted, no statements are left.
+ */
+typedef struct terkinoha_checked {
+    terkinoha_verdict verdict;
+    uint64_t tokens;
+    uint64_t nodes;
+    uint64_t errors;
+    uint64_t warnings;
+    uint64_t statements; /* how many rows of the table are statements */
+} terkinoha_checked;
 
 /* ---- lexemes --------------------------------------------------------------------------------- */
 
@@ -255,12 +271,117 @@ typedef struct terkinoha_node {
     uint64_t third;
 } terkinoha_node;
 
+/* ---- what checking finds --------------------------------------------------------------------- */
+
+enum terkinoha_severity {
+    TERKINOHA_SEVERITY_ERROR = 1,
+    TERKINOHA_SEVERITY_WARNING = 2
+};
+
+/* The types of values. 16 is an integer that has no size yet. */
+enum terkinoha_type {
+    TERKINOHA_TYPE_BOOL = 2,
+    TERKINOHA_TYPE_U8 = 3,
+    TERKINOHA_TYPE_U16 = 4,
+    TERKINOHA_TYPE_U32 = 5,
+    TERKINOHA_TYPE_U64 = 6,
+    TERKINOHA_TYPE_IP4 = 7,
+    TERKINOHA_TYPE_SOCK4 = 8,
+    TERKINOHA_TYPE_BYTES = 9,
+    TERKINOHA_TYPE_FUNCTION = 14,
+    TERKINOHA_TYPE_INTEGER = 16
+};
+
+/* Where a text lies. */
+enum terkinoha_text_place {
+    TERKINOHA_TEXT_NONE = 0,
+    TERKINOHA_TEXT_SOURCE = 1, /* in the source */
+    TERKINOHA_TEXT_TABLE = 2   /* in TERKINOHA_TABLE_TEXT */
+};
+
+/* The names and bytes of the constant table. */
+#define TERKINOHA_TABLE_TEXT "benchHTTPLOOPBIGONBANNERokpingdeepZERO"
+
+/* The kinds of findings. Beside each is what `type`, `first`, `second` and `third` are; what is not
+ * named is 0. "Shows" says what the text is: that of a name in the source, at the finding's place.
+ * Where `type` is a function, the text is the function's name in the table's text.
+ */
+enum terkinoha_finding {
+    /* no `let` has bound the name. Shows the name */
+    TERKINOHA_FINDING_UNKNOWN_NAME = 1,
+    /* a module has no such item. Shows the item. first, second: start and end of the module's name
+     * in the table's text */
+    TERKINOHA_FINDING_UNKNOWN_ITEM = 2,
+    /* there is no such module. Shows the name */
+    TERKINOHA_FINDING_UNKNOWN_MODULE = 4,
+    /* a path's module is not imported. Shows its name */
+    TERKINOHA_FINDING_NOT_IMPORTED = 5,
+    /* an inner name of a path is no module. Shows the name */
+    TERKINOHA_FINDING_NOT_A_MODULE = 6,
+    /* a path ends at a module. Shows the name */
+    TERKINOHA_FINDING_NOT_A_VALUE = 7,
+    /* the name is bound already. Shows the name. first, second: line and column where it was bound */
+    TERKINOHA_FINDING_ALREADY_BOUND = 8,
+    /* a value has no members. type: the value's */
+    TERKINOHA_FINDING_NO_MEMBERS = 9,
+    /* an operand has the wrong type. type: the one found. first: 1 for the left side, 2 for the
+     * right. second: the type wanted. third: the operator, 1 for `/` */
+    TERKINOHA_FINDING_OPERAND_TYPE = 10,
+    /* an integer that no type holds */
+    TERKINOHA_FINDING_INTEGRAL_TOO_LARGE = 22,
+    /* a warning: imported again. Shows the name */
+    TERKINOHA_FINDING_MULTIPLE_IMPORTS = 23,
+    /* a warning: a statement's value is discarded. type: the value's */
+    TERKINOHA_FINDING_DISCARDED_VALUE = 24,
+    /* a warning: an integer was cut. type: the one it was cut to. first, second: the integer, low
+     * word and high word */
+    TERKINOHA_FINDING_TRUNCATED = 25
+};
+
+/* A row of a diagnostic table, in the order in which the script is judged. The table's first rows,
+ * as many as fit, are kept.
+ */
+typedef struct terkinoha_diagnostic {
+    uint64_t line;
+    uint64_t column;
+    uint64_t severity; /* enum terkinoha_severity */
+    uint64_t kind;     /* enum terkinoha_finding */
+    uint64_t text;     /* where its text lies: enum terkinoha_text_place */
+    uint64_t start;    /* offset of the text's first byte there */
+    uint64_t end;      /* offset past its last byte */
+    uint64_t type;     /* enum terkinoha_type; 0 where the kind has none */
+    uint64_t first;
+    uint64_t second;
+    uint64_t third;
+} terkinoha_diagnostic;
+
+enum terkinoha_statement_kind {
+    TERKINOHA_STATEMENT_DISCARD = 1 /* a value that is discarded */
+};
+
+/* A row of a statement table: what a run would do, in order. `low` and `high` are: of an integer it
+ * and 0; of a bool 1 or 0; of an address it, its first byte highest; of an address with a port both;
+ * of bytes of the source the row of the string's token; of bytes of the table, and of a function,
+ * start and end of the text.
+ */
+typedef struct terkinoha_statement {
+    uint64_t line;
+    uint64_t column;
+    uint64_t kind; /* enum terkinoha_statement_kind */
+    uint64_t type; /* enum terkinoha_type */
+    uint64_t text; /* where its text lies: enum terkinoha_text_place */
+    uint64_t low;
+    uint64_t high;
+} terkinoha_statement;
+
 /* ---- sizes ----------------------------------------------------------------------------------- */
 
 /* How many 64-bit words a row has. */
 #define TERKINOHA_LEXEME_WORDS 6
 #define TERKINOHA_TOKEN_WORDS 7
 #define TERKINOHA_NODE_WORDS 5
+#define TERKINOHA_DIAGNOSTIC_WORDS 11
+#define TERKINOHA_STATEMENT_WORDS 7
 
 /* Where structs were not words with nothing between them, this would not compile. */
 #define TERKINOHA_ASSERT_WORDS(type, words) \
@@ -268,11 +389,14 @@ typedef struct terkinoha_node {
 TERKINOHA_ASSERT_WORDS(terkinoha_lexeme, TERKINOHA_LEXEME_WORDS);
 TERKINOHA_ASSERT_WORDS(terkinoha_token, TERKINOHA_TOKEN_WORDS);
 TERKINOHA_ASSERT_WORDS(terkinoha_node, TERKINOHA_NODE_WORDS);
+TERKINOHA_ASSERT_WORDS(terkinoha_diagnostic, TERKINOHA_DIAGNOSTIC_WORDS);
+TERKINOHA_ASSERT_WORDS(terkinoha_statement, TERKINOHA_STATEMENT_WORDS);
 TERKINOHA_ASSERT_WORDS(terkinoha_verdict, 5);
 TERKINOHA_ASSERT_WORDS(terkinoha_scanned, 6);
 TERKINOHA_ASSERT_WORDS(terkinoha_lexed, 6);
 TERKINOHA_ASSERT_WORDS(terkinoha_parsed, 7);
 TERKINOHA_ASSERT_WORDS(terkinoha_canonised, 7);
+TERKINOHA_ASSERT_WORDS(terkinoha_checked, 10);
 TERKINOHA_ASSERT_WORDS(size_t, 1);
 
 /* A compiler that can says where an answer is thrown away. */
@@ -298,6 +422,11 @@ TERKINOHA_MUST_USE terkinoha_parsed terkinoha_parse_words(const void *source, si
 TERKINOHA_MUST_USE terkinoha_canonised terkinoha_canonicalise_words(const void *source, size_t source_size,
                                                                     terkinoha_token *tokens, size_t tokens_words,
                                                                     char *text, size_t text_size);
+TERKINOHA_MUST_USE terkinoha_checked terkinoha_check_words(const void *source, size_t source_size,
+                                                           terkinoha_token *tokens, size_t tokens_words,
+                                                           terkinoha_node *nodes, size_t nodes_words,
+                                                           terkinoha_diagnostic *diagnostics, size_t diagnostics_words,
+                                                           terkinoha_statement *statements, size_t statements_words);
 
 /* ---- the calls, by rows ---------------------------------------------------------------------- */
 
@@ -337,6 +466,21 @@ terkinoha_canonicalise(const void *source, size_t source_size, terkinoha_token *
 {
     return terkinoha_canonicalise_words(source, source_size, tokens, token_room * TERKINOHA_TOKEN_WORDS,
                                         text, text_room);
+}
+
+/* Checks a source: its tokens and nodes, what is wrong with it, and the statements that it comes to.
+ * Errors and warnings are counted in full; the diagnostic table never causes a refusal. A script
+ * with a call is refused (8): calls are the host's to check.
+ */
+TERKINOHA_MUST_USE static inline terkinoha_checked
+terkinoha_check(const void *source, size_t source_size, terkinoha_token *tokens, size_t token_room,
+                terkinoha_node *nodes, size_t node_room, terkinoha_diagnostic *diagnostics,
+                size_t diagnostic_room, terkinoha_statement *statements, size_t statement_room)
+{
+    return terkinoha_check_words(source, source_size, tokens, token_room * TERKINOHA_TOKEN_WORDS,
+                                 nodes, node_room * TERKINOHA_NODE_WORDS, diagnostics,
+                                 diagnostic_room * TERKINOHA_DIAGNOSTIC_WORDS, statements,
+                                 statement_room * TERKINOHA_STATEMENT_WORDS);
 }
 
 /* ---- the bodies of a string ------------------------------------------------------------------ */
@@ -453,6 +597,45 @@ static inline const char *terkinoha_node_text(uint64_t kind)
     case TERKINOHA_NODE_LET: return "let";
     case TERKINOHA_NODE_EXPRESSION: return "expression statement";
     default: return "unknown node";
+    }
+}
+
+/* Of a finding's kind. */
+static inline const char *terkinoha_finding_text(uint64_t kind)
+{
+    switch (kind) {
+    case TERKINOHA_FINDING_UNKNOWN_NAME: return "unknown name";
+    case TERKINOHA_FINDING_UNKNOWN_ITEM: return "no such item in the module";
+    case TERKINOHA_FINDING_UNKNOWN_MODULE: return "unknown module";
+    case TERKINOHA_FINDING_NOT_IMPORTED: return "module is not imported";
+    case TERKINOHA_FINDING_NOT_A_MODULE: return "not a module";
+    case TERKINOHA_FINDING_NOT_A_VALUE: return "a module is not a value";
+    case TERKINOHA_FINDING_ALREADY_BOUND: return "name is already bound";
+    case TERKINOHA_FINDING_NO_MEMBERS: return "value has no members";
+    case TERKINOHA_FINDING_OPERAND_TYPE: return "operand has the wrong type";
+    case TERKINOHA_FINDING_INTEGRAL_TOO_LARGE: return "integer too large for any type";
+    case TERKINOHA_FINDING_MULTIPLE_IMPORTS: return "module is imported again";
+    case TERKINOHA_FINDING_DISCARDED_VALUE: return "value is discarded";
+    case TERKINOHA_FINDING_TRUNCATED: return "integer is cut to fit";
+    default: return "unknown finding";
+    }
+}
+
+/* Of a type. */
+static inline const char *terkinoha_type_text(uint64_t type)
+{
+    switch (type) {
+    case TERKINOHA_TYPE_BOOL: return "bool";
+    case TERKINOHA_TYPE_U8: return "u8";
+    case TERKINOHA_TYPE_U16: return "u16";
+    case TERKINOHA_TYPE_U32: return "u32";
+    case TERKINOHA_TYPE_U64: return "u64";
+    case TERKINOHA_TYPE_IP4: return "Ip4";
+    case TERKINOHA_TYPE_SOCK4: return "Sock4";
+    case TERKINOHA_TYPE_BYTES: return "bytes";
+    case TERKINOHA_TYPE_FUNCTION: return "function";
+    case TERKINOHA_TYPE_INTEGER: return "integer";
+    default: return "unknown type";
     }
 }
 

@@ -1,7 +1,5 @@
 //! The C entries of the library, as Rust calls them, and lent tables for them.
 
-use std::mem::MaybeUninit;
-
 #[repr(C)]
 #[derive(Clone, Copy, Debug)]
 pub struct Verdict {
@@ -28,42 +26,26 @@ pub struct Two {
     pub count: u64,
 }
 
-// A large struct is handed back where a first, unnamed argument points: so the x86-64 calling convention has it, and so
-// Rattle's module is written. Here that argument has a name, and the module may be compiled for another machine as well.
 #[link(name = "terkinoha", kind = "static")]
 unsafe extern "C" {
-    fn terkinoha_scan_words(
-        out: *mut One,
-        line: *const u8,
-        bytes: usize,
-        lexemes: *mut u64,
-        words: usize,
-    ) -> *mut One;
-    fn terkinoha_lex_words(
-        out: *mut One,
-        source: *const u8,
-        bytes: usize,
-        tokens: *mut u64,
-        words: usize,
-    ) -> *mut One;
+    fn terkinoha_scan_words(line: *const u8, bytes: usize, lexemes: *mut u64, words: usize) -> One;
+    fn terkinoha_lex_words(source: *const u8, bytes: usize, tokens: *mut u64, words: usize) -> One;
     fn terkinoha_parse_words(
-        out: *mut Two,
         source: *const u8,
         bytes: usize,
         tokens: *mut u64,
         token_words: usize,
         nodes: *mut u64,
         node_words: usize,
-    ) -> *mut Two;
+    ) -> Two;
     fn terkinoha_canonicalise_words(
-        out: *mut Two,
         source: *const u8,
         bytes: usize,
         tokens: *mut u64,
         token_words: usize,
         text: *mut u8,
         room: usize,
-    ) -> *mut Two;
+    ) -> Two;
 }
 
 #[link(name = "bench_utf8", kind = "static")]
@@ -124,55 +106,41 @@ impl Tables {
 
     pub fn scan(&mut self, line: &[u8], room: usize) -> One {
         let rows = &mut self.lexemes[..room * LEXEME_WORDS];
-        let mut out = MaybeUninit::uninit();
-        unsafe {
-            terkinoha_scan_words(out.as_mut_ptr(), line.as_ptr(), line.len(), rows.as_mut_ptr(), rows.len());
-            out.assume_init()
-        }
+        unsafe { terkinoha_scan_words(line.as_ptr(), line.len(), rows.as_mut_ptr(), rows.len()) }
     }
 
     pub fn lex(&mut self, source: &[u8], rooms: Rooms) -> One {
         let rows = &mut self.tokens[..rooms.tokens * TOKEN_WORDS];
-        let mut out = MaybeUninit::uninit();
-        unsafe {
-            terkinoha_lex_words(out.as_mut_ptr(), source.as_ptr(), source.len(), rows.as_mut_ptr(), rows.len());
-            out.assume_init()
-        }
+        unsafe { terkinoha_lex_words(source.as_ptr(), source.len(), rows.as_mut_ptr(), rows.len()) }
     }
 
     pub fn parse(&mut self, source: &[u8], rooms: Rooms) -> Two {
         let rows = &mut self.tokens[..rooms.tokens * TOKEN_WORDS];
         let nodes = &mut self.nodes[..rooms.nodes * NODE_WORDS];
-        let mut out = MaybeUninit::uninit();
         unsafe {
             terkinoha_parse_words(
-                out.as_mut_ptr(),
                 source.as_ptr(),
                 source.len(),
                 rows.as_mut_ptr(),
                 rows.len(),
                 nodes.as_mut_ptr(),
                 nodes.len(),
-            );
-            out.assume_init()
+            )
         }
     }
 
     pub fn canonicalise(&mut self, source: &[u8], rooms: Rooms) -> Two {
         let rows = &mut self.tokens[..rooms.tokens * TOKEN_WORDS];
         let text = &mut self.text[..rooms.text];
-        let mut out = MaybeUninit::uninit();
         unsafe {
             terkinoha_canonicalise_words(
-                out.as_mut_ptr(),
                 source.as_ptr(),
                 source.len(),
                 rows.as_mut_ptr(),
                 rows.len(),
                 text.as_mut_ptr(),
                 text.len(),
-            );
-            out.assume_init()
+            )
         }
     }
 }

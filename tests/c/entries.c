@@ -295,7 +295,7 @@ static void try_rooms(int entry, const void *source, size_t size, int side)
     struct first first = first_call(entry, source, size, side);
     size_t row = row_words[entry] * sizeof(uint64_t), unit = second_unit[entry];
     size_t rows = first.outcome.rows * row, second = first.outcome.second * unit;
-    size_t word = entry == CANONICALISE ? 1 : sizeof(uint64_t);
+    size_t word = entry == PARSE ? sizeof(uint64_t) : 1;
     try_room(entry, first, 0, 0, side);
     try_room(entry, first, row, unit, side);
     try_room(entry, first, rows, second, side);

@@ -51,6 +51,7 @@ void lent_start(void)
 struct area area_new(size_t size, int side)
 {
     struct area area;
+    CHECK(size < SIZE_MAX / 2); /* a test's own slip: a size below 0 */
     area.size = size;
     area.open = (size / PAGE + 1) * PAGE;
     void *map = mmap(NULL, area.open + 2 * PAGE, PROT_NONE, MAP_PRIVATE | MAP_ANONYMOUS, -1, 0);
@@ -91,6 +92,14 @@ int area_kept(struct area area)
         if ((b < area.at || area.at + area.size <= b) && *b != GARBAGE)
             return 0;
     return 1;
+}
+
+size_t area_unused(struct area area)
+{
+    size_t count = 0;
+    while (count < area.size && area.at[count] == GARBAGE)
+        count++;
+    return count;
 }
 
 int area_zero(struct area area, size_t from)

@@ -40,6 +40,8 @@ void area_free(struct area area);
 
 /* The open bytes round an area are as they were made. */
 int area_kept(struct area area);
+/* How many bytes from an area's first on are as they were made. */
+size_t area_unused(struct area area);
 /* From byte `from` on an area is zero. */
 int area_zero(struct area area, size_t from);
 

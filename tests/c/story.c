@@ -7,6 +7,7 @@
 
 #include <pthread.h>
 #include <stdio.h>
+#include <stdlib.h>
 #include <string.h>
 
 #define ROOM 64
@@ -117,8 +118,7 @@ static void try_story(void)
 
 /* ---- at the same time ---- */
 
-#define ROUNDS 30000
-
+static int rounds = 30000;
 static pthread_barrier_t both; /* so that neither has ended before the other begins */
 
 struct job {
@@ -132,7 +132,7 @@ static void *work(void *given)
 {
     struct job *job = (struct job *)given;
     pthread_barrier_wait(&both);
-    for (int round = 0; round < ROUNDS; round++)
+    for (int round = 0; round < rounds; round++)
         for (int entry = SCAN; entry < ENTRIES; entry++) {
             call(entry, job->source, ROOM, &job->now);
             job->wrong += !same(&job->now, &job->alone[entry]);
@@ -159,14 +159,7 @@ static void try_threads(const char *one, const char *other)
     CHECK(jobs[0].wrong == 0 && jobs[1].wrong == 0);
 }
 
-/* ---- on a small stack ---- */
-
-/* The header says that a call needs less than 32 KiB; a thread itself takes some more. Sanitisers take
- * far more, and say so when this is compiled.
- */
-#ifndef STACK
-#define STACK (40 * 1024)
-#endif
+/* ---- on a stack of its own ---- */
 
 static void *parse_deep(void *given)
 {
@@ -177,11 +170,15 @@ static void *parse_deep(void *given)
     return parsed.verdict.number == TERKINOHA_DONE ? NULL : given;
 }
 
-/* As many lists as may be open at once, each in an expression with other steps. */
+/* As many lists as may be open at once, each in an expression with other steps. The header says that a call needs
+ * less than 32 KiB. How much was taken of a stack that was garbage is counted, with what the thread itself takes: how
+ * small a stack may be made differs between machines.
+ */
 static void try_stack(void)
 {
     static char source[2048];
-    pthread_attr_t small;
+    struct area stack = area_new((size_t)1 << 20, AT_START);
+    pthread_attr_t own;
     pthread_t thread;
     void *wrong = NULL;
     for (int i = 0; i < TERKINOHA_MOST_LISTS; i++)
@@ -190,14 +187,19 @@ static void try_stack(void)
     for (int i = 0; i < TERKINOHA_MOST_LISTS; i++)
         strcat(source, ",)");
     strcat(source, ";");
-    lent_trying("a small stack", source, strlen(source));
-    CHECK(pthread_attr_init(&small) == 0 && pthread_attr_setstacksize(&small, STACK) == 0);
-    CHECK(pthread_create(&thread, &small, parse_deep, source) == 0);
+    lent_trying("a stack of one's own", source, strlen(source));
+    CHECK(pthread_attr_init(&own) == 0 && pthread_attr_setstack(&own, stack.at, stack.size) == 0);
+    CHECK(pthread_create(&thread, &own, parse_deep, source) == 0);
     CHECK(pthread_join(thread, &wrong) == 0 && wrong == NULL);
+    CHECK(stack.size - area_unused(stack) < 32 * 1024 && area_kept(stack));
+    pthread_attr_destroy(&own);
+    area_free(stack);
 }
 
-int main(void)
+int main(int argc, char **argv)
 {
+    if (argc > 1)
+        rounds = atoi(argv[1]);
     lent_start();
     try_after();
     try_story();

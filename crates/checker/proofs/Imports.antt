@@ -7,9 +7,7 @@ use Prim.Native.Nat.{ℕ, zero, suc, _+_, _*_, _≤_, _<_}
 use native.Mathlib.Omega.{arith}
 use borrow.Author.Tests.{lt-ltb, le-ltb}
 use lib.Dec.{ltb}
-use lib.ListN.{length, getD}
-use lib.Seq.{length-sets}
-use Rattle.table.proofs.Laws.{put-fits}
+use lib.ListN.{length, set, length-set}
 use Rattle.table.specs.Table.{putRow}
 use Rattle.constants.specs.Constants.{orZero}
 use Rattle.language.specs.Choice.{if′}
@@ -82,7 +80,7 @@ module _ (ts : List Content) (n : ℕ) (k : Known) (t : ℕ) where
 
 -- ---- turns
 
-module _ (s toks : List ℕ) (n t : ℕ) (k : Known) (b is u x : List ℕ) (c : Counts) (kn : Knows s b is c k) (rd : Ready s toks b is c)
+module _ (s toks : List ℕ) (n t : ℕ) (k : Known) (b is : List (List ℕ)) (u x : List ℕ) (c : Counts) (kn : Knows s b is c k) (rd : Ready s toks b is c)
     (w : List ℕ) (i : ℕ) (p : i ≡ place (namesIn s is (c .imported) 0) w) (o : w ≡ nameAt (contents (tokens.tokens s)) t) where
   abbrev ts : List Content
   ts = contents (tokens.tokens s)
@@ -118,9 +116,9 @@ module _ (s toks : List ℕ) (n t : ℕ) (k : Known) (b is u x : List ℕ) (c : 
         let e : stmt ts n k (import′ t) ≡ full t = not-yet ts n k t absent ∙ ap (λ (z : Bool). if′ z (imported ts n k t (lookup 0 (nameAt ts t))) (full t)) f in
         record { turn = subst (λ (z : judgements.Turn). TurnOf s toks c x u (Full t) b is x u z) (sym e) refl }
 
-    module _ (l : c .imported < 64) (long : 384 ≤ length is) (start end kind : ℕ) (is′ : List ℕ) (name : between s start end ≡ nameAt ts t)
+    module _ (l : c .imported < 64) (long : 64 ≤ length is) (start end kind : ℕ) (is′ : List (List ℕ)) (name : between s start end ≡ nameAt ts t)
         (m : kind ≡ orZero (lookup 0 (nameAt ts t)))
-        (put : is′ ≡ putRow is (c .imported) (entryRow start end t (record { kind = kind; lo = 0; hi = 0 }))) where
+        (put : is′ ≡ set is (c .imported) (entryRow start end t (record { kind = kind; lo = 0; hi = 0 }))) where
       stepped : stmt ts n k (import′ t) ≡ imported ts n k t (lookup 0 (nameAt ts t))
       stepped =
           let f : ltb (length (k .imports)) mostImports ≡ true = lt-ltb (length (k .imports)) mostImports (omega (arith, many, l)) in
@@ -129,7 +127,7 @@ module _ (s toks : List ℕ) (n t : ℕ) (k : Known) (b is u x : List ℕ) (c : 
       now-imports : importsIn s is′ (c .imported + 1) 0 ≡ k .imports ++ record { name = nameAt ts t; found = lookup 0 (nameAt ts t) } ∷ []
       now-imports =
           let f : orNone kind ≡ lookup 0 (nameAt ts t) = ap orNone m ∙ found-module 0 (nameAt ts t) in
-          ap (λ (z : List ℕ). importsIn s z (c .imported + 1) 0) put
+          ap (λ (z : List (List ℕ)). importsIn s z (c .imported + 1) 0) put
           ∙ store-import s is (c .imported) start end t (record { kind = kind; lo = 0; hi = 0 }) (omega (arith, l, long))
           ∙ rw (name, f, imports-are)
 
@@ -144,8 +142,7 @@ module _ (s toks : List ℕ) (n t : ℕ) (k : Known) (b is u x : List ℕ) (c : 
 
       long-now : length is′ ≡ length is
       long-now =
-          ap length put ∙ ap length (put-fits is (c .imported) 6 (entryRow start end t (record { kind = kind; lo = 0; hi = 0 })) refl (omega (arith, l, long)))
-          ∙ length-sets is (c .imported * 6) (entryRow start end t (record { kind = kind; lo = 0; hi = 0 }))
+          ap length put ∙ length-set is (c .imported) (entryRow start end t (record { kind = kind; lo = 0; hi = 0 }))
 
       ready-now : Ready s toks b is′ (plusImport c)
       ready-now = record { lexed = rd .lexed; bound = rd .bound; modules = omega (arith, l, long, long-now); sound = rd .sound }

@@ -7,10 +7,8 @@ use mathlib.Core.Logic.{_⊎_, inl, inr}
 use Prim.Native.Nat.{ℕ, zero, suc, _+_, _*_, _≤_, _<_}
 use native.Mathlib.Omega.{arith}
 use native.Mathlib.Decide.{decLe}
-use lib.ListN.{length, getD}
-use lib.Seq.{length-sets}
+use lib.ListN.{length, set, length-set}
 use Rattle.table.specs.Table.{putRow}
-use Rattle.table.proofs.Laws.{put-fits}
 use Rattle.language.specs.Tokens as tokens
 use Rattle.language.specs.Tokens.{Content, contents, between}
 use Rattle.language.specs.Sentences.{Expr}
@@ -29,42 +27,38 @@ use Rattle.language.specs.Numbers.{tokenOf}
 use Rattle.checker.specs.declared.Turn.the-variants.{Went, Full}
 use Rattle.checker.specs.Checking.{plusName, plusError, entryRow, Grows, Steps, TurnOf, Binds}
 use Rattle.checker.proofs.Statements.{told-err, told-none, Failing, Clean, clean}
-use Rattle.checker.proofs.Stores.{store-name, old-word, new-word}
+use Rattle.checker.proofs.Stores.{store-name, old-entry, new-entry}
 
 never : {A : Type 0} → _≡_ {A = ℕ} 0 1 → A
 never e = absurd (omega (arith, e))
 
-module _ (s toks b i : List ℕ) (n t : ℕ) (k : Known) (c : Counts) (kn : Knows s b i c k) (rd : Ready s toks b i c) (start end : ℕ)
-    (name : between s start end ≡ nameAt (contents (tokens.tokens s)) t) (l : c .used < 512) (long : 3072 ≤ length b) (v : Value) (b′ : List ℕ)
-    (put : b′ ≡ putRow b (c .used) (entryRow start end t v)) where
-  fits : 6 * c .used + 6 ≤ length b
+module _ (s toks : List ℕ) (b i : List (List ℕ)) (n t : ℕ) (k : Known) (c : Counts) (kn : Knows s b i c k) (rd : Ready s toks b i c) (start end : ℕ)
+    (name : between s start end ≡ nameAt (contents (tokens.tokens s)) t) (l : c .used < 512) (long : 512 ≤ length b) (v : Value) (b′ : List (List ℕ))
+    (put : b′ ≡ set b (c .used) (entryRow start end t v)) where
+  fits : c .used < length b
   fits = omega (arith, l, long)
 
   known-now : (o : Option values.Value) → opened (v .kind) (v .lo) (v .hi) ≡ o → bind (contents (tokens.tokens s)) n k t o ≡ knownIn s b′ i (plusName c)
   known-now o e =
       let bs : k .bindings ≡ boundIn s b (c .used) 0 = ap (λ (z : Known). z .bindings) (kn .is) in
       let is : k .imports ≡ importsIn s i (c .imported) 0 = ap (λ (z : Known). z .imports) (kn .is) in
-      let st = ap (λ (z : List ℕ). boundIn s z (c .used + 1) 0) put ∙ store-name s b (c .used) start end t v fits in
+      let st = ap (λ (z : List (List ℕ)). boundIn s z (c .used + 1) 0) put ∙ store-name s b (c .used) start end t v fits in
       rw (is, bs, st, name, e)
 
   sound-now : Canon (v .kind) (v .lo) (v .hi) → (m : ℕ) → m < c .used + 1 → Canon (nameWord b′ m 3) (nameWord b′ m 4) (nameWord b′ m 5)
   sound-now a m h =
       elim (decLe (suc m) (c .used)) [
         | yes g ↦
-            let w3 = old-word b (c .used) (entryRow start end t v) refl fits (6 * m + 3) (omega arith) in
-            let w4 = old-word b (c .used) (entryRow start end t v) refl fits (6 * m + 4) (omega arith) in
-            let w5 = old-word b (c .used) (entryRow start end t v) refl fits (6 * m + 5) (omega arith) in
-            rw (put, w3, w4, w5) (rd .sound m g)
+            let o = old-entry b (c .used) (entryRow start end t v) m g in
+            rw (put, o) (rd .sound m g)
         | no g ↦
             let z : m ≡ c .used = omega arith in
-            let w3 = new-word b (c .used) (entryRow start end t v) refl fits 3 (omega arith) in
-            let w4 = new-word b (c .used) (entryRow start end t v) refl fits 4 (omega arith) in
-            let w5 = new-word b (c .used) (entryRow start end t v) refl fits 5 (omega arith) in
-            rw (z, put, w3, w4, w5) a
+            let o = new-entry b (c .used) (entryRow start end t v) fits in
+            rw (z, put, o) a
       ]
 
   long-now : length b′ ≡ length b
-  long-now = ap length put ∙ ap length (put-fits b (c .used) 6 (entryRow start end t v) refl (omega (arith, l, long))) ∙ length-sets b (c .used * 6) (entryRow start end t v)
+  long-now = ap length put ∙ length-set b (c .used) (entryRow start end t v)
 
   ready-now : Canon (v .kind) (v .lo) (v .hi) → Ready s toks b′ i (plusName c)
   ready-now a = record { lexed = rd .lexed; bound = omega (arith, l, long, long-now); modules = rd .modules; sound = sound-now a }
@@ -118,18 +112,18 @@ module _ (s toks b i : List ℕ) (n t : ℕ) (k : Known) (c : Counts) (kn : Know
         }
     bound-err w poisoned e h p = never (cc)
 
-module _ {b x′ b′ : List ℕ} {start end t : ℕ} {j : Judgement} {c′ : Counts} (l : j .counts .used < 512) (long : 3072 ≤ length b) where
-  pub binds-val : {v : Value} → j .out ≡ Val v → b′ ≡ putRow b (j .counts .used) (entryRow start end t v) → c′ ≡ plusName (j .counts)
+module _ {b b′ : List (List ℕ)} {x′ : List ℕ} {start end t : ℕ} {j : Judgement} {c′ : Counts} (l : j .counts .used < 512) (long : 512 ≤ length b) where
+  pub binds-val : {v : Value} → j .out ≡ Val v → b′ ≡ set b (j .counts .used) (entryRow start end t v) → c′ ≡ plusName (j .counts)
       → Binds b x′ start end t j c′ b′ x′
   binds-val {v} q p g =
       record { is = λ s toks i x u n k c e kn rd nm h.
         let us : j .counts .used ≡ c .used = ap (λ (z : Counts). z .used) (h .counted) in
         let jd = judge (contents (tokens.tokens s)) n k e in
         subst (λ (z : Counts). TurnOf s toks c x u (Went z) b′ i x′ u (bound (contents (tokens.tokens s)) n k t (jd .out) (jd .warns))) (sym g)
-        (bound-val s toks b i n t k c kn rd start end nm (omega (arith, l, us)) long v b′ (p ∙ ap (λ (z : ℕ). putRow b z (entryRow start end t v)) us)
+        (bound-val s toks b i n t k c kn rd start end nm (omega (arith, l, us)) long v b′ (p ∙ ap (λ (z : ℕ). set b z (entryRow start end t v)) us)
           x x′ u (j .counts) (jd .warns) (h .counted) (h .table) (clean (contents (tokens.tokens s)) n k e .quiet) (jd .out) (sym q ∙ h .out)) }
 
-  pub binds-none : j .out ≡ Poisoned → b′ ≡ putRow b (j .counts .used) (entryRow start end t (record { kind = 0; lo = 0; hi = 0 })) → c′ ≡ plusName (j .counts)
+  pub binds-none : j .out ≡ Poisoned → b′ ≡ set b (j .counts .used) (entryRow start end t (record { kind = 0; lo = 0; hi = 0 })) → c′ ≡ plusName (j .counts)
       → Binds b x′ start end t j c′ b′ x′
   binds-none q p g =
       record { is = λ s toks i x u n k c e kn rd nm h.
@@ -137,10 +131,10 @@ module _ {b x′ b′ : List ℕ} {start end t : ℕ} {j : Judgement} {c′ : Co
         let jd = judge (contents (tokens.tokens s)) n k e in
         let v : Value = record { kind = 0; lo = 0; hi = 0 } in
         subst (λ (z : Counts). TurnOf s toks c x u (Went z) b′ i x′ u (bound (contents (tokens.tokens s)) n k t (jd .out) (jd .warns))) (sym g)
-        (bound-none s toks b i n t k c kn rd start end nm (omega (arith, l, us)) long v b′ (p ∙ ap (λ (z : ℕ). putRow b z (entryRow start end t v)) us)
+        (bound-none s toks b i n t k c kn rd start end nm (omega (arith, l, us)) long v b′ (p ∙ ap (λ (z : ℕ). set b z (entryRow start end t v)) us)
           x x′ u (j .counts) (jd .warns) (h .counted) (h .table) (clean (contents (tokens.tokens s)) n k e .quiet) refl (jd .out) (sym q ∙ h .out)) }
 
-  pub binds-err : {f : Fault} {y : List ℕ} {c2 : Counts} → j .out ≡ Err f → b′ ≡ putRow b (j .counts .used) (entryRow start end t (record { kind = 0; lo = 0; hi = 0 }))
+  pub binds-err : {f : Fault} {y : List ℕ} {c2 : Counts} → j .out ≡ Err f → b′ ≡ set b (j .counts .used) (entryRow start end t (record { kind = 0; lo = 0; hi = 0 }))
       → c2 ≡ plusError (j .counts) → y ≡ putRow x′ (j .counts .errors + j .counts .warnings) (faultRow f) → c′ ≡ plusName c2 → Binds b x′ start end t j c′ b′ y
   binds-err {f} {y} {c2} q p d r g =
       record { is = λ s toks i x u n k c e kn rd nm h.
@@ -148,6 +142,6 @@ module _ {b x′ b′ : List ℕ} {start end t : ℕ} {j : Judgement} {c′ : Co
         let jd = judge (contents (tokens.tokens s)) n k e in
         let v : Value = record { kind = 0; lo = 0; hi = 0 } in
         subst (λ (z : Counts). TurnOf s toks c x u (Went z) b′ i y u (bound (contents (tokens.tokens s)) n k t (jd .out) (jd .warns))) (sym (g ∙ ap plusName d))
-        (bound-err s toks b i n t k c kn rd start end nm (omega (arith, l, us)) long v b′ (p ∙ ap (λ (z : ℕ). putRow b z (entryRow start end t v)) us)
+        (bound-err s toks b i n t k c kn rd start end nm (omega (arith, l, us)) long v b′ (p ∙ ap (λ (z : ℕ). set b z (entryRow start end t v)) us)
           x x′ u (j .counts) (jd .warns) (h .counted) (h .table) (clean (contents (tokens.tokens s)) n k e .quiet) refl (jd .out) (sym q ∙ h .out)
           (clean (contents (tokens.tokens s)) n k e .fails) r) }

@@ -4,3 +4,10 @@ pub mod Trees
 pub mod Stores
 pub mod Imports
 pub mod Lets
+pub mod LetStmts
+pub mod StmtRows
+pub mod Runs
+pub mod Calls
+pub mod Tables
+pub mod Parsed
+pub mod Entry

@@ -13,10 +13,10 @@ use Rattle.judging.proofs.Rows.{flat-word}
 use Rattle.checker.specs.Checking.{StmtsAt, at-end, no-stmt, an-import, a-let, an-expr}
 
 -- past the end
-abbrev nowhere : Node
+abbrev pub nowhere : Node
 nowhere = node 0 0 0 0 0
 
-row-long : (n : Node) → length (nodeRow n) ≡ 5
+pub row-long : (n : Node) → length (nodeRow n) ≡ 5
 unfolding nodeRow
 row-long n = refl
 
@@ -77,13 +77,13 @@ module _ (ns : List Node) where
   abbrev ws : List ℕ
   ws = flat nodeRow ns
 
-  rows-long : length ws ≡ 5 * length ns
+  pub rows-long : length ws ≡ 5 * length ns
   rows-long = length-flat nodeRow 5 row-long ns ∙ omega arith
 
   row-in : (i : ℕ) → i < length ns → 5 * i + 5 ≤ length ws
   row-in i h = omega (arith, rows-long)
 
-  row-word : (i j : ℕ) → i < length ns → j < 5 → word ws i j ≡ getD (nodeRow (getD ns i nowhere)) j 0
+  pub row-word : (i j : ℕ) → i < length ns → j < 5 → word ws i j ≡ getD (nodeRow (getD ns i nowhere)) j 0
   row-word i j h l = flat-word nodeRow 5 row-long (omega arith) ns i j h l nowhere
 
   -- the words of a node

@@ -119,23 +119,23 @@ pub record StmtFits (ws : List ℕ) (i : ℕ) (c : Counts) : Type 0 where
 -- ---- turns that may bind a name
 
 -- then the tables of names are b and i, the others y and v
-pub record Steps (s toks : List ℕ) (c : Counts) (x u : List ℕ) (c′ : Counts) (b i y v : List ℕ) (k : Known) (ds : List Diag) (hs : List Held) : Type 0 where
+pub record Steps (s toks : List ℕ) (c : Counts) (x u : List ℕ) (c′ : Counts) (b i : List (List ℕ)) (y v : List ℕ) (k : Known) (ds : List Diag) (hs : List Held) : Type 0 where
   pub knows : Knows s b i c′ k
   pub ready : Ready s toks b i c′
   pub grows : Grows s c x u c′ y v ds hs
 
-abbrev pub TurnOf : List ℕ → List ℕ → Counts → List ℕ → List ℕ → Turn → List ℕ → List ℕ → List ℕ → List ℕ → judgements.Turn → Type 0
+abbrev pub TurnOf : List ℕ → List ℕ → Counts → List ℕ → List ℕ → Turn → List (List ℕ) → List (List ℕ) → List ℕ → List ℕ → judgements.Turn → Type 0
 TurnOf s toks c x u (Went c′) b i y v (goes k ds hs) = Steps s toks c x u c′ b i y v k ds hs
 TurnOf s toks c x u (Went c′) b i y v (full t) = ⊥
 TurnOf s toks c x u (Full t) b i y v (goes k ds hs) = ⊥
 TurnOf s toks c x u (Full t) b i y v (full t′) = t ≡ t′
 
-pub record Turns (s toks : List ℕ) (c : Counts) (x u : List ℕ) (r : Turn) (b i y v : List ℕ) (t : judgements.Turn) : Type 0 where
+pub record Turns (s toks : List ℕ) (c : Counts) (x u : List ℕ) (r : Turn) (b i : List (List ℕ)) (y v : List ℕ) (t : judgements.Turn) : Type 0 where
   pub turn : TurnOf s toks c x u r b i y v t
 
 -- a `let` after its value was judged
-pub record Binds (b x′ : List ℕ) (start end t : ℕ) (j : Judgement) (c′ : Counts) (b′ y : List ℕ) : Type 0 where
-  pub is : (s toks i x u : List ℕ) (n : ℕ) (k : Known) (c : Counts) (e : Expr) → Knows s b i c k → Ready s toks b i c
+pub record Binds (b : List (List ℕ)) (x′ : List ℕ) (start end t : ℕ) (j : Judgement) (c′ : Counts) (b′ : List (List ℕ)) (y : List ℕ) : Type 0 where
+  pub is : (s toks : List ℕ) (i : List (List ℕ)) (x u : List ℕ) (n : ℕ) (k : Known) (c : Counts) (e : Expr) → Knows s b i c k → Ready s toks b i c
       → between s start end ≡ nameAt (contents (tokens.tokens s)) t → Agrees s j x x′ c (judge (contents (tokens.tokens s)) n k e)
       → TurnOf s toks c x u (Went c′) b′ i y u
           (bound (contents (tokens.tokens s)) n k t (judge (contents (tokens.tokens s)) n k e .out) (judge (contents (tokens.tokens s)) n k e .warns))
@@ -152,3 +152,43 @@ pub data StmtsAt (ws : List ℕ) : ℕ → List Stmt → Type 0 where
       → StmtsAt ws i (let′ (word ws i 1) e ∷ ss)
   an-expr : {i : ℕ} {e : Expr} {ss : List Stmt} → 5 * i + 5 ≤ length ws → word ws i 0 ≡ 13 → RepAt ws (word ws i 2) e → StmtsAt ws (i + 1) ss
       → StmtsAt ws i (expr′ e ∷ ss)
+
+-- how many rows a statement has, which is as many findings as it can have, or more
+abbrev pub stmtSize : Stmt → ℕ
+stmtSize (import′ t) = 1
+stmtSize (let′ t e) = exprSize e + 1
+stmtSize (expr′ e) = exprSize e + 1
+
+unfoldable pub stmtsSize : List Stmt → ℕ
+stmtsSize [] = 0
+stmtsSize (s ∷ ss) = stmtSize s + stmtsSize ss
+
+-- the statements from row i on can be judged, and what they find and hold be counted
+pub record RowFits (ws : List ℕ) (i : ℕ) (c : Counts) : Type 0 where
+  pub list : List Stmt
+  pub stands : StmtsAt ws i list
+  pub room : c .errors + c .warnings + stmtsSize list ≤ 4611686018427387904
+  pub held : c .statements + stmtsSize list ≤ 4611686018427387904
+
+-- row i of the statements ss that are left: it passes a row of an expression, or takes a turn with the first. Before, the
+-- tables of names were b and m, the others x and u.
+pub data RowTurns (s toks ws : List ℕ) (i n : ℕ) (k : Known) (c : Counts) (b m : List (List ℕ)) (x u : List ℕ)
+    (r : Turn) (b′ m′ : List (List ℕ)) (y v : List ℕ) : List Stmt → Type 0 where
+  passes : {ss : List Stmt} → StmtsAt ws (i + 1) ss → r ≡ Went c → b′ ≡ b → m′ ≡ m → y ≡ x → v ≡ u → RowTurns s toks ws i n k c b m x u r b′ m′ y v ss
+  takes : {st : Stmt} {ss : List Stmt} → StmtsAt ws (i + 1) ss → Turns s toks c x u r b′ m′ y v (judgements.stmt (contents (tokens.tokens s)) n k st)
+      → RowTurns s toks ws i n k c b m x u r b′ m′ y v (st ∷ ss)
+
+-- ---- the run
+
+abbrev pub noCounts : Counts
+noCounts = record { used = 0; imported = 0; errors = 0; warnings = 0; statements = 0 }
+
+abbrev pub ComesTo : List ℕ → List ℕ → List ℕ → Turn → List ℕ → List ℕ → judgements.Outcome → Type 0
+ComesTo s x u (Went c) y v (judgements.judged ds hs) = Grows s noCounts x u c y v ds hs
+ComesTo s x u (Went c) y v (judgements.refused t) = ⊥
+ComesTo s x u (Full t) y v (judgements.judged ds hs) = ⊥
+ComesTo s x u (Full t) y v (judgements.refused t′) = t ≡ t′
+
+-- the tables of findings and of held statements were x and u, and are y and v after the run
+pub record Comes (s x u : List ℕ) (r : Turn) (y v : List ℕ) (o : judgements.Outcome) : Type 0 where
+  pub come : ComesTo s x u r y v o

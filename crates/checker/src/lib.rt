@@ -2,39 +2,62 @@
 // definitions are `Judgements` and `Numbers` of the crate `language`.
 ghost use mathlib.Core.Path.{_≡_};
 ghost use mathlib.Core.List.{List, []};
+ghost use mathlib.Core.Option.{Option, none};
 ghost use Prim.Native.Nat.{ℕ, _+_, _*_, _<_, _≤_};
-ghost use lib.ListN.{length, getD};
-ghost use Rattle.table.specs.Table.{putRow};
+ghost use lib.ListN.{length, set, take};
+ghost use Rattle.table.specs.Table.{flat, putRow, padTo};
 ghost use Rattle.language.specs.Tokens.{tokens, contents, between};
-ghost use Rattle.language.specs.Numbers.{tokenOf};
+ghost use Rattle.language.specs.Numbers.{tokenOf, verdict, placed, tokenPlace, sooner, firstCall, parsedNodes, checked};
 ghost use Rattle.language.specs.Values.{lookup};
 ghost use Rattle.constants.specs.Constants.{orZero};
-ghost use Rattle.language.specs.Sentences.{Expr, import′};
-ghost use Rattle.language.specs.Judgements.{Known, nameAt, stmt};
+ghost use Rattle.language.specs.Sentences.{Expr, Stmt, import′, let′, Node, nodeRow, program};
+ghost use Rattle.language.specs.Judgements.{Known, Diag, Held, nameAt, stmt, judged, judgeAll};
 ghost use Rattle.judging.specs.Judging.{tokenAs, Lexed, Ready, Knows, RepAt, Fits, faultRow, word, plusWarnings};
-ghost use Rattle.checker.specs.Checking.{plusError, plusStatement, plusName, plusImport, entryRow, HeldRow, bareAs, Narrow, Shown, Tells, Exprs, Turns, Binds, Room, StmtFits};
+ghost use Rattle.checker.specs.Checking.{plusError, plusStatement, plusName, plusImport, entryRow, HeldRow, bareAs, Narrow, Shown, Tells, Exprs, Turns, Binds, Room, StmtFits, StmtsAt, RowFits, RowTurns, noCounts, Grows, Comes};
+ghost use Rattle.scan.specs.Scanning.{verdictAs};
+ghost use Rattle.checker.specs.Entry.{refusal, callAs, GivesUp, Parses, CheckSource};
 use constants::Constants;
+use scan::Verdict;
 use judging::{Counts, Detail, Fault, Judged, Judgement, Text, Token, Value};
 use wide::{Size, Wide};
 
-// The names that are bound and imported: tables of 512 and 64 empty entries of six words each (crate `judging`).
-pub struct Checker {
-    pub bindings: [u64; Checker::BINDING_WORDS],
-    pub imports: [u64; Checker::IMPORT_WORDS],
-}
+// The checker's state: two arrays of empty entries for the names that are bound and imported, filled in order of binding,
+// and `Counts`, which says how many of each are filled. An entry holds where the name's span starts and ends, its token, and
+// its value as three words (crate `judging`).
+pub struct Checker {}
 
 impl Checker {
     pub const NAMES: usize = 512;
     pub const IMPORTS: usize = 64;
-    pub const BINDING_WORDS: usize = 3072;
-    pub const IMPORT_WORDS: usize = 384;
 
-    pub fn new() -> Self
-        ensures { λ r. ⌜ (length (r .bindings) ≡ 3072) × (length (r .imports) ≡ 384) ⌝ }
+    // An entry with no name and no value.
+    pub const EMPTY: [u64; 6] = [0; 6];
+
+    // No names yet.
+    pub fn names() -> [[u64; 6]; Checker::NAMES]
+        ensures { λ r. ⌜ length r ≡ 512 ⌝ }
     {
-        let bindings = [0u64; Checker::BINDING_WORDS];
-        let imports = [0u64; Checker::IMPORT_WORDS];
-        Checker { bindings, imports }
+        [Checker::EMPTY; Checker::NAMES]
+    }
+
+    // No imports yet.
+    pub fn modules() -> [[u64; 6]; Checker::IMPORTS]
+        ensures { λ r. ⌜ length r ≡ 64 ⌝ }
+    {
+        [Checker::EMPTY; Checker::IMPORTS]
+    }
+
+    // Nothing is bound, imported, found or held.
+    pub fn start() -> Counts
+        ensures { λ r. ⌜ r ≡ record { used = 0; imported = 0; errors = 0; warnings = 0; statements = 0 } ⌝ }
+    {
+        Counts {
+            used: 0,
+            imported: 0,
+            errors: 0,
+            warnings: 0,
+            statements: 0,
+        }
     }
 }
 
@@ -126,12 +149,11 @@ fn name_span(tok: Token) -> Span
 }
 
 // Writes an entry of a table of names.
-fn put_entry(entries: &mut [u64], row: usize, name: Span, t: u64, v: Value)
-    requires { ⌜ row ≤ 512 ⌝ }
-    ensures { λ _. ⌜ now (entries .exit) ≡ putRow (now (entries .entry)) row (entryRow (name .start) (name .end) t v) ⌝ }
+fn put_entry(entries: &mut [[u64; 6]], row: usize, name: Span, t: u64, v: Value)
+    requires { ⌜ row < length (now entries) ⌝ }
+    ensures { λ _. ⌜ now (entries .exit) ≡ set (now (entries .entry)) row (entryRow (name .start) (name .end) t v) ⌝ }
 {
-    let words: [u64; 6] = [name.start, name.end, t, v.kind, v.lo, v.hi];
-    table::put_row(entries, row, &words);
+    entries[row] = [name.start, name.end, t, v.kind, v.lo, v.hi];
 }
 
 // What is shown of a value that a statement discards: which text (0 none, 1 the source, 2 the constant table's), and two
@@ -257,7 +279,7 @@ fn tell(toks: &[u64], diags: &mut [u64], stmts: &mut [u64], t: u64, v: Value, co
 }
 
 // An expression as a statement: row i.
-fn expr_stmt(source: &[u8], toks: &[u64], nodes: &[u64], bindings: &[u64], imports: &[u64], diags: &mut [u64], stmts: &mut [u64], i: usize, counts: Counts) -> Counts
+fn expr_stmt(source: &[u8], toks: &[u64], nodes: &[u64], bindings: &[[u64; 6]], imports: &[[u64; 6]], diags: &mut [u64], stmts: &mut [u64], i: usize, counts: Counts) -> Counts
     requires { ⌜ Ready (now source) (now toks) (now bindings) (now imports) counts ⌝ }
     requires { ⌜ StmtFits (now nodes) i counts × (5 * i + 5 ≤ length (now nodes)) ⌝ }
     ensures { λ r. ⌜ ((n : ℕ) (k : Known) (e : Expr) → Knows (now (source .entry)) (now (bindings .entry)) (now (imports .entry)) counts k
@@ -286,10 +308,10 @@ fn module_at(source: &[u8], tok: Token) -> u64
 }
 
 // `import` of the name at the token t. A failed import poisons its name, as a failed `let` does.
-fn import(source: &[u8], toks: &[u64], imports: &mut [u64], diags: &mut [u64], t: u64, counts: Counts) -> Turn
-    requires { ⌜ Lexed (now source) (now toks) × (384 ≤ length (now imports)) × (counts .imported ≤ 64) ⌝ }
+fn import(source: &[u8], toks: &[u64], imports: &mut [[u64; 6]], diags: &mut [u64], t: u64, counts: Counts) -> Turn
+    requires { ⌜ Lexed (now source) (now toks) × (64 ≤ length (now imports)) × (counts .imported ≤ 64) ⌝ }
     requires { ⌜ Room counts ⌝ }
-    ensures { λ r. ⌜ ((n : ℕ) (k : Known) (b u : List ℕ) → Knows (now (source .entry)) b (now (imports .entry)) counts k
+    ensures { λ r. ⌜ ((n : ℕ) (k : Known) (b : List (List ℕ)) (u : List ℕ) → Knows (now (source .entry)) b (now (imports .entry)) counts k
         → Ready (now (source .entry)) (now (toks .entry)) b (now (imports .entry)) counts
         → Turns (now (source .entry)) (now (toks .entry)) counts (now (diags .entry)) u r b (now (imports .exit)) (now (diags .exit)) u
             (stmt (contents (tokens (now (source .entry)))) n k (import′ t))) ⌝ }
@@ -314,8 +336,8 @@ fn import(source: &[u8], toks: &[u64], imports: &mut [u64], diags: &mut [u64], t
 }
 
 // Binds a name to what its value came to; where that failed, to nothing.
-fn bind(bindings: &mut [u64], diags: &mut [u64], name: Span, t: u64, j: Judgement) -> Counts
-    requires { ⌜ (j .counts .used < 512) × (3072 ≤ length (now bindings)) ⌝ }
+fn bind(bindings: &mut [[u64; 6]], diags: &mut [u64], name: Span, t: u64, j: Judgement) -> Counts
+    requires { ⌜ (j .counts .used < 512) × (512 ≤ length (now bindings)) ⌝ }
     requires { ⌜ Room (j .counts) ⌝ }
     ensures { λ r. ⌜ Binds (now (bindings .entry)) (now (diags .entry)) (name .start) (name .end) t j r (now (bindings .exit)) (now (diags .exit)) ⌝ }
 {
@@ -340,4 +362,233 @@ fn bind(bindings: &mut [u64], diags: &mut [u64], name: Span, t: u64, j: Judgemen
             named_one(counts)
         }
     }
+}
+
+// `let` in row i. `AlreadyBound` is found before the value is read.
+fn let_stmt(source: &[u8], toks: &[u64], nodes: &[u64], bindings: &mut [[u64; 6]], imports: &[[u64; 6]], diags: &mut [u64], i: usize, counts: Counts) -> Turn
+    requires { ⌜ Ready (now source) (now toks) (now bindings) (now imports) counts × (length (now bindings) ≡ 512) ⌝ }
+    requires { ⌜ StmtFits (now nodes) i counts × (5 * i + 5 ≤ length (now nodes)) ⌝ }
+    ensures { λ r. ⌜ ((n : ℕ) (k : Known) (e : Expr) (u : List ℕ) → Knows (now (source .entry)) (now (bindings .entry)) (now (imports .entry)) counts k
+        → RepAt (now (nodes .entry)) (word (now (nodes .entry)) i 2) e
+        → Turns (now (source .entry)) (now (toks .entry)) counts (now (diags .entry)) u r (now (bindings .exit)) (now (imports .entry)) (now (diags .exit)) u
+            (stmt (contents (tokens (now (source .entry)))) n k (let′ (word (now (nodes .entry)) i 1) e))) ⌝ }
+{
+    let t = judging::word(nodes, i, 1);
+    let tok = judging::token_at(toks, t);
+    let used = counts.used;
+    let at = judging::find(source, bindings, used, judging::name_at(source, tok));
+    if at < used {
+        let first = judging::token_at(toks, bindings[at][2]);
+        return Turn::Went(error(diags, judging::named(1, 8, tok, first.line, first.column), counts));
+    }
+    if Checker::NAMES <= used {
+        return Turn::Full(t);
+    }
+    let e = judging::word(nodes, i, 2) as usize;
+    let j = judging::judge(source, toks, nodes, bindings, imports, diags, e, counts);
+    Turn::Went(bind(bindings, diags, name_span(tok), t, j))
+}
+
+// Row i: a statement takes its turn, a row of an expression is passed.
+fn stmt(source: &[u8], toks: &[u64], nodes: &[u64], bindings: &mut [[u64; 6]], imports: &mut [[u64; 6]], diags: &mut [u64], stmts: &mut [u64], i: usize, counts: Counts) -> Turn
+    requires { ⌜ Ready (now source) (now toks) (now bindings) (now imports) counts × (length (now bindings) ≡ 512) × (length (now imports) ≡ 64) ⌝ }
+    requires { ⌜ RowFits (now nodes) i counts × (5 * i + 5 ≤ length (now nodes)) ⌝ }
+    ensures { λ r. ⌜ ((n : ℕ) (k : Known) (ss : List Stmt) → Knows (now (source .entry)) (now (bindings .entry)) (now (imports .entry)) counts k
+        → StmtsAt (now (nodes .entry)) i ss
+        → RowTurns (now (source .entry)) (now (toks .entry)) (now (nodes .entry)) i n k counts (now (bindings .entry)) (now (imports .entry)) (now (diags .entry)) (now (stmts .entry))
+            r (now (bindings .exit)) (now (imports .exit)) (now (diags .exit)) (now (stmts .exit)) ss) ⌝ }
+{
+    match judging::word(nodes, i, 0) {
+        11 => import(source, toks, imports, diags, judging::word(nodes, i, 1), counts),
+        12 => let_stmt(source, toks, nodes, bindings, imports, diags, i, counts),
+        13 => Turn::Went(expr_stmt(source, toks, nodes, bindings, imports, diags, stmts, i, counts)),
+        _ => Turn::Went(counts),
+    }
+}
+
+// All statements, one row after the other. Ports `run`.
+fn run(source: &[u8], toks: &[u64], nodes: &[u64], diags: &mut [u64], stmts: &mut [u64]) -> Turn
+    requires { ⌜ Lexed (now source) (now toks) ⌝ }
+    requires { ⌜ RowFits (now nodes) 0 noCounts ⌝ }
+    ensures { λ r. ⌜ ((ss : List Stmt) → StmtsAt (now (nodes .entry)) 0 ss
+        → Comes (now (source .entry)) (now (diags .entry)) (now (stmts .entry)) r (now (diags .exit)) (now (stmts .exit)) (judgeAll (contents (tokens (now (source .entry)))) ss)) ⌝ }
+{
+    let mut bindings = Checker::names();
+    let mut imports = Checker::modules();
+    let mut counts = Checker::start();
+    let rows = nodes.len() / 5;
+    let mut i: usize = 0;
+    while i < rows {
+        match stmt(source, toks, nodes, &mut bindings, &mut imports, diags, stmts, i, counts) {
+            Turn::Went(then) => counts = then,
+            Turn::Full(t) => return Turn::Full(t),
+        }
+        i += 1;
+    }
+    Turn::Went(counts)
+}
+
+// ---- the entry
+
+pub struct CheckAnswer {
+    pub verdict: Verdict,
+    pub tokens: u64,
+    pub nodes: u64,
+    pub errors: u64,
+    pub warnings: u64,
+    pub statements: u64,
+}
+
+// The `(` of the first call.
+pub enum Call {
+    At(u64),
+    Nowhere,
+}
+
+// The earlier of a token and another, if there is another.
+fn sooner(t: u64, found: Call) -> Call
+    ensures { λ r. ⌜ ((o : Option ℕ) → found ≡ callAs o → r ≡ callAs (sooner t o)) ⌝ }
+{
+    match found {
+        Call::At(u) => {
+            if u < t {
+                return Call::At(u);
+            }
+            Call::At(t)
+        }
+        Call::Nowhere => Call::At(t),
+    }
+}
+
+fn first_call(nodes: &[u64]) -> Call
+    ensures { λ r. ⌜ ((ns : List Node) → now (nodes .entry) ≡ flat nodeRow ns → r ≡ callAs (firstCall ns)) ⌝ }
+{
+    let mut found = Call::Nowhere;
+    let mut i = nodes.len() / 5;
+    while 0 < i {
+        i -= 1;
+        if judging::word(nodes, i, 0) == 8 {
+            found = sooner(judging::word(nodes, i, 4), found);
+        }
+    }
+    found
+}
+
+// The answer of a refusal: no counts.
+fn refused(verdict: Verdict) -> CheckAnswer
+    ensures { λ r. ⌜ r ≡ refusal verdict ⌝ }
+{
+    CheckAnswer {
+        verdict: verdict,
+        tokens: 0,
+        nodes: 0,
+        errors: 0,
+        warnings: 0,
+        statements: 0,
+    }
+}
+
+// The answer where nothing is refused.
+fn done(counts: Counts, count: usize, rows: usize, statements: usize) -> CheckAnswer
+    ensures { λ r. ⌜ r ≡ record { verdict = verdictAs (verdict 0 0 0); tokens = count; nodes = rows; errors = counts .errors; warnings = counts .warnings; statements = statements } ⌝ }
+{
+    CheckAnswer {
+        verdict: Verdict::new(0, 0, 0),
+        tokens: count as u64,
+        nodes: rows as u64,
+        errors: counts.errors as u64,
+        warnings: counts.warnings as u64,
+        statements: statements as u64,
+    }
+}
+
+// A refusal that leaves nothing in any table.
+fn give_up(verdict: Verdict, toks: &mut [u64], nodes: &mut [u64], diags: &mut [u64], stmts: &mut [u64]) -> CheckAnswer
+    ensures { λ r. ⌜ GivesUp verdict (length (now (toks .entry))) (length (now (nodes .entry))) (length (now (diags .entry))) (length (now (stmts .entry)))
+        r (now (toks .exit)) (now (nodes .exit)) (now (diags .exit)) (now (stmts .exit)) ⌝ }
+{
+    table::clear(toks);
+    table::clear(nodes);
+    table::clear(diags);
+    table::clear(stmts);
+    refused(verdict)
+}
+
+// A refusal at the token with an index, of `count`.
+fn at_token(toks: &[u64], count: usize, number: u64, t: u64) -> Verdict
+    requires { ⌜ (1 ≤ count) × (7 * count ≤ length (now toks)) ⌝ }
+    ensures { λ r. ⌜ ((s : List ℕ) → Lexed s (take (7 * count) (now (toks .entry))) → r ≡ verdictAs (placed number (tokenPlace s t))) ⌝ }
+{
+    let rows = 7 * count;
+    let tok = judging::token_at(&toks[..rows], t);
+    Verdict::new(number, tok.line, tok.column)
+}
+
+// The answer where all statements were judged: the statements are kept where there is no error.
+fn conclude(counts: Counts, count: usize, rows: usize, toks: &mut [u64], nodes: &mut [u64], diags: &mut [u64], stmts: &mut [u64]) -> CheckAnswer
+    ensures { λ r. ⌜ ((s : List ℕ) (ds : List Diag) (hs : List Held) → Parses s (now (toks .entry)) (now (nodes .entry)) count rows
+        → firstCall (parsedNodes (program (contents (tokens s)))) ≡ none → checked s ≡ judged ds hs
+        → Grows s noCounts (padTo (length (now (diags .entry))) []) (padTo (length (now (stmts .entry))) []) counts (now (diags .entry)) (now (stmts .entry)) ds hs
+        → CheckSource s (length (now (toks .entry))) (length (now (nodes .entry))) (length (now (diags .entry))) (length (now (stmts .entry)))
+            r (now (toks .exit)) (now (nodes .exit)) (now (diags .exit)) (now (stmts .exit))) ⌝ }
+{
+    if counts.errors != 0 {
+        table::clear(stmts);
+        return done(counts, count, rows, 0);
+    }
+    if stmts.len() / 7 < counts.statements {
+        return give_up(Verdict::new(11, 0, 0), toks, nodes, diags, stmts);
+    }
+    done(counts, count, rows, counts.statements)
+}
+
+// Judges a tree without calls. The tables of diagnostics and statements start out as zeros.
+fn check_statements(source: &[u8], toks: &mut [u64], nodes: &mut [u64], diags: &mut [u64], stmts: &mut [u64], count: usize, rows: usize) -> CheckAnswer
+    requires { ⌜ Parses (now source) (now toks) (now nodes) count rows ⌝ }
+    requires { ⌜ (now diags ≡ padTo (length (now diags)) []) × (now stmts ≡ padTo (length (now stmts)) []) ⌝ }
+    ensures { λ r. ⌜ (firstCall (parsedNodes (program (contents (tokens (now (source .entry)))))) ≡ none
+        → CheckSource (now (source .entry)) (length (now (toks .entry))) (length (now (nodes .entry))) (length (now (diags .entry))) (length (now (stmts .entry)))
+            r (now (toks .exit)) (now (nodes .exit)) (now (diags .exit)) (now (stmts .exit))) ⌝ }
+{
+    let token_words = 7 * count;
+    let node_words = 5 * rows;
+    match run(source, &toks[..token_words], &nodes[..node_words], diags, stmts) {
+        Turn::Went(counts) => conclude(counts, count, rows, toks, nodes, diags, stmts),
+        Turn::Full(t) => {
+            let found = at_token(toks, count, 9, t);
+            give_up(found, toks, nodes, diags, stmts)
+        }
+    }
+}
+
+// Checks a tree. The tables of diagnostics and statements start out as zeros.
+fn check_tree(source: &[u8], toks: &mut [u64], nodes: &mut [u64], diags: &mut [u64], stmts: &mut [u64], count: usize, rows: usize) -> CheckAnswer
+    requires { ⌜ Parses (now source) (now toks) (now nodes) count rows ⌝ }
+    requires { ⌜ (now diags ≡ padTo (length (now diags)) []) × (now stmts ≡ padTo (length (now stmts)) []) ⌝ }
+    ensures { λ r. ⌜ CheckSource (now (source .entry)) (length (now (toks .entry))) (length (now (nodes .entry))) (length (now (diags .entry))) (length (now (stmts .entry)))
+        r (now (toks .exit)) (now (nodes .exit)) (now (diags .exit)) (now (stmts .exit)) ⌝ }
+{
+    let node_words = 5 * rows;
+    match first_call(&nodes[..node_words]) {
+        Call::At(t) => {
+            let found = at_token(toks, count, 8, t);
+            give_up(found, toks, nodes, diags, stmts)
+        }
+        Call::Nowhere => check_statements(source, toks, nodes, diags, stmts, count, rows),
+    }
+}
+
+// Checks a source into four lent tables: of tokens, nodes, diagnostics and statements.
+pub fn check_source(source: &[u8], toks: &mut [u64], nodes: &mut [u64], diags: &mut [u64], stmts: &mut [u64]) -> CheckAnswer
+    ensures { λ r. ⌜ CheckSource (now (source .entry)) (length (now (toks .entry))) (length (now (nodes .entry))) (length (now (diags .entry))) (length (now (stmts .entry)))
+        r (now (toks .exit)) (now (nodes .exit)) (now (diags .exit)) (now (stmts .exit)) ⌝ }
+{
+    table::clear(diags);
+    table::clear(stmts);
+    let parsed = parse::parse_source(source, toks, nodes);
+    let verdict = parsed.verdict;
+    if verdict.number != 0 {
+        return refused(verdict);
+    }
+    check_tree(source, toks, nodes, diags, stmts, parsed.tokens as usize, parsed.nodes as usize)
 }

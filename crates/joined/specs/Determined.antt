@@ -10,6 +10,8 @@ use Rattle.parse.specs.declared.ParseAnswer.{ParseAnswer}
 use Rattle.parse.specs.Entry.{ParseSource}
 use Rattle.canon.specs.declared.Canonised.{Canonised}
 use Rattle.canon.specs.Entry.{CanonSource}
+use Rattle.checker.specs.declared.CheckAnswer.{CheckAnswer}
+use Rattle.checker.specs.Entry.{CheckSource}
 
 abbrev pub ScanDetermined : Type 0
 ScanDetermined =
@@ -28,3 +30,8 @@ abbrev pub CanonDetermined : Type 0
 CanonDetermined =
     (source : List ℕ) (t n : ℕ) (r q : Canonised) (a b x y : List ℕ) → CanonSource source t n r a x → CanonSource source t n q b y
     → (r ≡ q) × (a ≡ b) × (x ≡ y)
+
+abbrev pub CheckDetermined : Type 0
+CheckDetermined =
+    (source : List ℕ) (t n d k : ℕ) (r q : CheckAnswer) (a b x y v w g h : List ℕ) → CheckSource source t n d k r a x v g
+    → CheckSource source t n d k q b y w h → (r ≡ q) × (a ≡ b) × (x ≡ y) × (v ≡ w) × (g ≡ h)

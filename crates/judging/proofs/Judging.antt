@@ -349,7 +349,7 @@ module _ (s : List ℕ) {ws : List ℕ} {i : ℕ} {e : Expr} (n : ℕ) (k : Know
         quiet = refl;
       })
 
-  module _ {toks bindings imports : List ℕ} {c : Counts} (kn : Knows s bindings imports c k) (ready : Ready s toks bindings imports c) {r : Judged} where
+  module _ {toks : List ℕ} {bindings imports : List (List ℕ)} {c : Counts} (kn : Knows s bindings imports c k) (ready : Ready s toks bindings imports c) {r : Judged} where
     pub leaf-local : {tok : Token} → word ws i 0 ≡ 4 → tok ≡ tokenAs (tokenOf s t) → LocalIs s bindings (c .used) tok r → LeafIs s r (judge (contents (tokens.tokens s)) n k e)
     unfolding judge
     leaf-local q g h = rw (local-at rep q, ← at, kn .is) (record { out = h .is t g (ready .sound); quiet = refl })
@@ -363,11 +363,11 @@ module _ (s : List ℕ) {ws : List ℕ} {i : ℕ} {e : Expr} (n : ℕ) (k : Know
 
 module _ {s : List ℕ} where
   -- a warning changes no name
-  pub knows-on : {L : Judgement} {x y bindings imports : List ℕ} {c : Counts} {j : judgements.Judgement} {k : Known} → Agrees s L x y c j
+  pub knows-on : {L : Judgement} {x y : List ℕ} {bindings imports : List (List ℕ)} {c : Counts} {j : judgements.Judgement} {k : Known} → Agrees s L x y c j
       → Knows s bindings imports c k → Knows s bindings imports (L .counts) k
   knows-on {bindings = bindings} {imports = imports} l kn = record { is = kn .is ∙ ap (knownIn s bindings imports) (sym (l .counted)) }
 
-  pub ready-on : {L : Judgement} {x y toks bindings imports : List ℕ} {c : Counts} {j : judgements.Judgement} → Agrees s L x y c j
+  pub ready-on : {L : Judgement} {x y toks : List ℕ} {bindings imports : List (List ℕ)} {c : Counts} {j : judgements.Judgement} → Agrees s L x y c j
       → Ready s toks bindings imports c → Ready s toks bindings imports (L .counts)
   ready-on {toks = toks} {bindings = bindings} {imports = imports} {c = c} {j = j} l r =
       let q : Ready s toks bindings imports (plusWarnings c (length (j .warns))) = record { lexed = r .lexed; bound = r .bound; modules = r .modules; sound = r .sound } in

@@ -30,7 +30,7 @@ use Rattle.judging.proofs.Values.{some-kind}
 
 -- ---- the search
 
-module _ (s ws w : List ℕ) (used i : ℕ) where
+module _ (s : List ℕ) (ws : List (List ℕ)) (w : List ℕ) (used i : ℕ) where
   pub search-start : 0 + place (namesIn s ws (used - 0) 0) w ≡ place (namesIn s ws used 0) w
   search-start = let e : used - 0 ≡ used = omega arith in rw e (omega arith)
 
@@ -56,7 +56,7 @@ module _ (s ws w : List ℕ) (used i : ℕ) where
 
 -- ---- what it finds: a table's entries as a list, and the first of a name in it
 
-module _ (s ws : List ℕ) {A : Type 0} (entry : ℕ → A) (listed : ℕ → ℕ → List A) (first : List A → List ℕ → Option A)
+module _ (s : List ℕ) (ws : List (List ℕ)) {A : Type 0} (entry : ℕ → A) (listed : ℕ → ℕ → List A) (first : List A → List ℕ → Option A)
     (empty : (i : ℕ) → listed zero i ≡ []) (one : (k i : ℕ) → listed (suc k) i ≡ entry i ∷ listed k (i + 1))
     (nothing : (w : List ℕ) → first [] w ≡ none)
     (step : (i : ℕ) (xs : List A) (w : List ℕ) → first (entry i ∷ xs) w ≡ if′ (same (nameOf s ws i) w) (some (entry i)) (first xs w)) where
@@ -77,7 +77,7 @@ module _ (s ws : List ℕ) {A : Type 0} (entry : ℕ → A) (listed : ℕ → �
   found-from (suc k) i w r e =
       found-step k i w r (place (namesIn s ws k (i + 1)) w) (same (nameOf s ws i) w) refl e (found-from k (i + 1) w (place (namesIn s ws k (i + 1)) w) refl)
 
-module _ (s ws w : List ℕ) (used r : ℕ) (e : r ≡ place (namesIn s ws used 0) w) where
+module _ (s : List ℕ) (ws : List (List ℕ)) (w : List ℕ) (used r : ℕ) (e : r ≡ place (namesIn s ws used 0) w) where
   zeroth : 0 + r ≡ r
   zeroth = omega arith
 
@@ -110,7 +110,7 @@ module _ (s : List ℕ) (ts : List Content) (t : ℕ) where
   held-as name tok k l h none p q r = rw (← p)
   held-as name tok k l h (some v) p q r = rw (← p, ← q, ← r, ne-eqb (valueKind v) 0 (some-kind v))
 
-  module _ (ws w v : List ℕ) (used i : ℕ) (p : i ≡ place (namesIn s ws used 0) w) (o : w ≡ v) where
+  module _ (ws : List (List ℕ)) (w v : List ℕ) (used i : ℕ) (p : i ≡ place (namesIn s ws used 0) w) (o : w ≡ v) where
     e : i ≡ place (namesIn s ws used 0) v
     e = p ∙ ap (place (namesIn s ws used 0)) o
 
@@ -251,7 +251,7 @@ item-module s ts t (some v) h = absurd (some-kind v h)
 
 -- ---- a path's module
 
-module _ (s ws : List ℕ) (used i t n : ℕ) (ts : List Content) (w v : List ℕ) (p : i ≡ place (namesIn s ws used 0) w) (o : w ≡ v) where
+module _ (s : List ℕ) (ws : List (List ℕ)) (used i t n : ℕ) (ts : List Content) (w v : List ℕ) (p : i ≡ place (namesIn s ws used 0) w) (o : w ≡ v) where
   e′ : i ≡ place (namesIn s ws used 0) v
   e′ = p ∙ ap (place (namesIn s ws used 0)) o
 

@@ -188,12 +188,12 @@ orNone zero = none
 orNone (suc k) = some (suc k)
 
 -- word j of the entry i of a table of names
-abbrev pub nameWord : List ℕ → ℕ → ℕ → ℕ
-nameWord ws i j = getD ws (6 * i + j) 0
+abbrev pub nameWord : List (List ℕ) → ℕ → ℕ → ℕ
+nameWord ws i j = getD (getD ws i []) j 0
 
-module _ (s ws : List ℕ) where
+module _ (s : List ℕ) (ws : List (List ℕ)) where
   abbrev pub nameOf : ℕ → List ℕ
-  nameOf i = between s (getD ws (6 * i) 0) (nameWord ws i 1)
+  nameOf i = between s (nameWord ws i 0) (nameWord ws i 1)
 
   -- k names from the entry i on
   unfoldable pub namesIn : ℕ → ℕ → List (List ℕ)
@@ -224,17 +224,17 @@ place [] w = 0
 place (x ∷ xs) w = if′ (same x w) 0 (suc (place xs w))
 
 -- what is known, in the two tables of names
-abbrev pub knownIn : List ℕ → List ℕ → List ℕ → Counts → Known
+abbrev pub knownIn : List ℕ → List (List ℕ) → List (List ℕ) → Counts → Known
 knownIn s bindings imports c = known (importsIn s imports (c .imported) 0) (boundIn s bindings (c .used) 0)
 
-pub record Knows (s bindings imports : List ℕ) (c : Counts) (k : Known) : Type 0 where
+pub record Knows (s : List ℕ) (bindings imports : List (List ℕ)) (c : Counts) (k : Known) : Type 0 where
   pub is : k ≡ knownIn s bindings imports c
 
 -- the tables have the entries that are counted, and each value is as it was written
-pub record Ready (s toks bindings imports : List ℕ) (c : Counts) : Type 0 where
+pub record Ready (s toks : List ℕ) (bindings imports : List (List ℕ)) (c : Counts) : Type 0 where
   pub lexed : Lexed s toks
-  pub bound : 6 * c .used ≤ length bindings
-  pub modules : 6 * c .imported ≤ length imports
+  pub bound : c .used ≤ length bindings
+  pub modules : c .imported ≤ length imports
   pub sound : (i : ℕ) → i < c .used → Canon (nameWord bindings i 3) (nameWord bindings i 4) (nameWord bindings i 5)
 
 -- ---- judgements
@@ -261,12 +261,12 @@ pub record LeafIs (s : List ℕ) (r : Judged) (j : judgements.Judgement) : Type 
   pub quiet : j .warns ≡ []
 
 -- a name, at any token with that row
-pub record LocalIs (s bindings : List ℕ) (used : ℕ) (tok : Token) (r : Judged) : Type 0 where
+pub record LocalIs (s : List ℕ) (bindings : List (List ℕ)) (used : ℕ) (tok : Token) (r : Judged) : Type 0 where
   pub is : (t : ℕ) → tok ≡ tokenAs (tokenOf s t)
       → ((i : ℕ) → i < used → Canon (nameWord bindings i 3) (nameWord bindings i 4) (nameWord bindings i 5))
       → r ≡ judgedAs s (boundTo (contents (tokens.tokens s)) t (find (boundIn s bindings used 0) (nameAt (contents (tokens.tokens s)) t)))
 
-pub record PathIs (s imports : List ℕ) (imported t names : ℕ) (r : Judged) : Type 0 where
+pub record PathIs (s : List ℕ) (imports : List (List ℕ)) (imported t names : ℕ) (r : Judged) : Type 0 where
   pub is : r ≡ judgedAs s (below (contents (tokens.tokens s)) t names (findImport (importsIn s imports imported 0) (nameAt (contents (tokens.tokens s)) t)))
 
 -- ---- what follows a judgement

@@ -274,14 +274,14 @@ pub fn put_diag(diags: &mut [u64], row: usize, f: Fault)
 // what it stands for, which are a value or the number of a module; 0 where its statement failed.
 
 // The first of the used entries with a name: its number, or `used` where there is none.
-pub fn find(source: &[u8], entries: &[u64], used: usize, name: &[u8]) -> usize
-    requires { ⌜ 6 * used ≤ length (now entries) ⌝ }
+pub fn find(source: &[u8], entries: &[[u64; 6]], used: usize, name: &[u8]) -> usize
+    requires { ⌜ used ≤ length (now entries) ⌝ }
     ensures { λ r. ⌜ r ≡ place (namesIn (now (source .entry)) (now (entries .entry)) used 0) (now (name .entry)) ⌝ }
 {
     let mut i = 0;
     while i < used {
-        let a = entries[6 * i] as usize;
-        let e = entries[6 * i + 1] as usize;
+        let a = entries[i][0] as usize;
+        let e = entries[i][1] as usize;
         if constants::same(constants::part(source, a, e), name) {
             return i;
         }
@@ -301,14 +301,13 @@ fn held(kind: u64, lo: u64, hi: u64) -> Judged
 }
 
 // A name that stands for its value.
-fn local(source: &[u8], bindings: &[u64], used: usize, tok: Token) -> Judged
-    requires { ⌜ 6 * used ≤ length (now bindings) ⌝ }
+fn local(source: &[u8], bindings: &[[u64; 6]], used: usize, tok: Token) -> Judged
+    requires { ⌜ used ≤ length (now bindings) ⌝ }
     ensures { λ r. ⌜ LocalIs (now (source .entry)) (now (bindings .entry)) used tok r ⌝ }
 {
     let i = find(source, bindings, used, name_at(source, tok));
     if i < used {
-        let at = 6 * i;
-        return held(bindings[at + 3], bindings[at + 4], bindings[at + 5]);
+        return held(bindings[i][3], bindings[i][4], bindings[i][5]);
     }
     Judged::Err(named(1, 1, tok, 0, 0))
 }
@@ -368,14 +367,14 @@ fn last_item(rows: &[u64; 54], tok: Token, k: u64) -> Judged
 }
 
 // `module::inner*::item`, through the imports.
-fn path(source: &[u8], toks: &[u64], imports: &[u64], imported: usize, t: u64, names: u64) -> Judged
-    requires { ⌜ Lexed (now source) (now toks) × (6 * imported ≤ length (now imports)) ⌝ }
+fn path(source: &[u8], toks: &[u64], imports: &[[u64; 6]], imported: usize, t: u64, names: u64) -> Judged
+    requires { ⌜ Lexed (now source) (now toks) × (imported ≤ length (now imports)) ⌝ }
     ensures { λ r. ⌜ PathIs (now (source .entry)) (now (imports .entry)) imported t names r ⌝ }
 {
     let tok = token_at(toks, t);
     let i = find(source, imports, imported, name_at(source, tok));
     if i < imported {
-        let top = imports[6 * i + 3];
+        let top = imports[i][3];
         if top == 0 {
             return Judged::Poisoned;
         }
@@ -441,7 +440,7 @@ pub fn word(nodes: &[u64], i: usize, j: usize) -> u64
 }
 
 // An expression that holds no other: row i, of a kind below 6.
-fn leaf(source: &[u8], toks: &[u64], nodes: &[u64], bindings: &[u64], imports: &[u64], i: usize, counts: Counts) -> Judged
+fn leaf(source: &[u8], toks: &[u64], nodes: &[u64], bindings: &[[u64; 6]], imports: &[[u64; 6]], i: usize, counts: Counts) -> Judged
     requires { ⌜ Ready (now source) (now toks) (now bindings) (now imports) counts ⌝ }
     requires { ⌜ 5 * i + 5 ≤ length (now nodes) ⌝ }
     ensures { λ r. ⌜ ((n : ℕ) (k : Known) (e : Expr) → Knows (now (source .entry)) (now (bindings .entry)) (now (imports .entry)) counts k
@@ -551,7 +550,7 @@ fn integral(toks: &[u64], diags: &mut [u64], ip: u64, t: u64, right: Judgement) 
 }
 
 // `left / right`, after its left operand was judged: row i.
-fn slash(source: &[u8], toks: &[u64], nodes: &[u64], bindings: &[u64], imports: &[u64], diags: &mut [u64], i: usize, left: Judgement) -> Judgement
+fn slash(source: &[u8], toks: &[u64], nodes: &[u64], bindings: &[[u64; 6]], imports: &[[u64; 6]], diags: &mut [u64], i: usize, left: Judgement) -> Judgement
     requires { ⌜ Ready (now source) (now toks) (now bindings) (now imports) (left .counts) ⌝ }
     requires { ⌜ SlashFits (now nodes) i (left .counts .errors + left .counts .warnings) ⌝ }
     ensures { λ r. ⌜ ((n : ℕ) (k : Known) (a b : Expr) (x : List ℕ) (c : Counts) → Knows (now (source .entry)) (now (bindings .entry)) (now (imports .entry)) (left .counts) k
@@ -579,7 +578,7 @@ fn slash(source: &[u8], toks: &[u64], nodes: &[u64], bindings: &[u64], imports: 
 }
 
 // Judges the expression at row i.
-pub fn judge(source: &[u8], toks: &[u64], nodes: &[u64], bindings: &[u64], imports: &[u64], diags: &mut [u64], i: usize, counts: Counts) -> Judgement
+pub fn judge(source: &[u8], toks: &[u64], nodes: &[u64], bindings: &[[u64; 6]], imports: &[[u64; 6]], diags: &mut [u64], i: usize, counts: Counts) -> Judgement
     requires { ⌜ Ready (now source) (now toks) (now bindings) (now imports) counts ⌝ }
     requires { ⌜ Fits (now nodes) i (counts .errors + counts .warnings) ⌝ }
     ensures { λ r. ⌜ ((n : ℕ) (k : Known) (e : Expr) → Knows (now (source .entry)) (now (bindings .entry)) (now (imports .entry)) counts k

@@ -1,7 +1,7 @@
 -- What statements give: at most one error, at most one statement that is held.
 use Prim.Native.Nat.{ℕ, zero, suc, _+_, _≤_}
 use mathlib.Core.Path.{_≡_, refl, _∙_, sym, ap, subst}
-use mathlib.Core.Bool.{Bool, true, false}
+use mathlib.Core.Bool.{true, false}
 use mathlib.Core.List.{List, [], _∷_, _++_}
 use mathlib.Core.Option.{Option, none, some}
 use native.Mathlib.Omega.{arith}
@@ -13,7 +13,8 @@ use Rattle.language.specs.Tokens.{Content}
 use Rattle.language.specs.Tables.{bit}
 use Rattle.language.specs.Sentences.{Expr, literal, sock4, local, path, member, call, slash′, Stmt, import′, let′, expr′, firstOf}
 use Rattle.language.specs.Values.{Value, isInteger, isBool, isSized, isIp4, isSock4, isString, isText, isFunction, tyInt, lookup}
-use Rattle.language.specs.Judgements.{What, truncated, Diag, diag, isError, errorsIn, warningsIn, Judged, val, err, poisoned, Judgement, judgement, andThen, goesOn, Known, known, Import, Binding, Held, held, Turn, goes, full, Outcome, judged, refused, find, findImport, mostImports, mostNames, nameAt, leftOf, rightOf, ip4Of, integerOf, cut, narrowed, judge, imported, importStmt, bound, letStmt, discarded, told, stmt, onward, run, OneError, StatementsFew, AllCounted}
+use Rattle.language.specs.Judgements.{What, truncated, Diag, diag, isError, errorsIn, warningsIn, Judged, val, err, poisoned, Judgement, judgement, andThen, goesOn, Known, known, Import, Binding, Held, held, Turn, goes, full, Outcome, judged, refused, find, findImport, mostImports, mostNames, nameAt, leftOf, rightOf, ip4Of, integerOf, cut, narrowed, judge, imported, importStmt, bound, letStmt, discarded, told, stmt, onward, run, OneError, StatementsFew, AllCounted, BoundFirst}
+use Rattle.language.proofs.Tests.{each-side}
 
 pub all-counted : AllCounted
 unfolding errorsIn warningsIn
@@ -104,10 +105,6 @@ silent-is-few : (ws : List Diag) → errorsIn ws ≡ 0 → errorsIn ws ≤ 1
 silent-is-few ws h = omega (arith, h)
 
 module _ (ts : List Content) (n : ℕ) (k : Known) where
-  few-if : (b : Bool) (a c : Turn) → Few a → Few c → Few (if′ b a c)
-  few-if true a c x y = x
-  few-if false a c x y = y
-
   imported-few : (t : ℕ) (o : Option ℕ) → Few (imported ts n k t o)
   unfolding Few
   imported-few t (some m) = (none-is-few, omega arith)
@@ -116,7 +113,7 @@ module _ (ts : List Content) (n : ℕ) (k : Known) where
   import-few : (t : ℕ) (o : Option Import) → Few (importStmt ts n k t o)
   unfolding Few
   import-few t (some i) = (one-at-most _, omega arith)
-  import-few t none = few-if (ltb (length (k .imports)) mostImports) (imported ts n k t (lookup 0 (nameAt ts t))) (full t) (imported-few t (lookup 0 (nameAt ts t))) tt
+  import-few t none = each-side Few (ltb (length (k .imports)) mostImports) (imported-few t (lookup 0 (nameAt ts t))) tt
 
   bound-few : (t : ℕ) (o : Judged) (ws : List Diag) → errorsIn ws ≡ 0 → Few (bound ts n k t o ws)
   unfolding Few
@@ -128,7 +125,7 @@ module _ (ts : List Content) (n : ℕ) (k : Known) where
   unfolding Few Silent
   let-few t e (some b) = (one-at-most _, omega arith)
   let-few t e none =
-      few-if (ltb (length (k .bindings)) mostNames) (bound ts n k t (judge ts n k e .out) (judge ts n k e .warns)) (full t)
+      each-side Few (ltb (length (k .bindings)) mostNames)
       (bound-few t (judge ts n k e .out) (judge ts n k e .warns) (judge-silent ts n k e)) tt
 
   discarded-few : (at : ℕ) (o : Option Value) (ws : List Diag) → errorsIn ws ≡ 0 → Few (discarded ts n k at o ws)
@@ -186,3 +183,7 @@ unfolding Fewer
 statements-few ts ss ds hs e =
     let l : 0 + length ss ≤ length ss = omega arith in
     subst (Fewer (length ss)) e (at-most (0 + length ss) (length ss) (run ts ss 1 (known [] []) [] []) l (run-fewer ts ss 1 (known [] []) [] []))
+
+pub bound-first : BoundFirst
+unfolding stmt
+bound-first ts n k t e b h = ap (letStmt ts n k t e) h

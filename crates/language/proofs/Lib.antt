@@ -1,6 +1,7 @@
 -- The theorems on the definitions, and what they use.
 pub mod Examples
 pub mod Tests
+pub mod Each
 pub mod Utf8Rows
 pub mod Utf8
 pub mod Integers
@@ -34,8 +35,18 @@ pub mod GrammarPlaces
 pub mod SentenceUnfolds
 pub mod GrammarMet
 pub mod GrammarRows
+pub mod TokenTexts
 pub mod NodeClaims
 pub mod RowClaims
 pub mod ParseClaims
+pub mod SentenceRefusals
+pub mod DistinctNames
+pub mod Names
+pub mod ExactlyRows
+pub mod Exactly
+pub mod ExactlyFound
+pub mod Samples
 pub mod JudgementExamples
 pub mod JudgementClaims
+pub mod FindingTokens
+pub mod CheckClaims

@@ -19,6 +19,11 @@ pub either : (a b : Bool) → a || b ≡ true → (a ≡ true) ⊎ (b ≡ true)
 either true b e = inl refl
 either false b e = inr e
 
+-- what holds of both branches holds of the choice
+pub each-side : {A : Type 0} (P : A → Type 0) (t : Bool) {a b : A} → P a → P b → P (if′ t a b)
+each-side P true x y = x
+each-side P false x y = y
+
 -- where two tests are the same, what holds of both branches holds of both choices
 pub both-sides : {A : Type 0} (P : A → A → Type 0) (t : Bool) {a b c d : A} → (t ≡ true → P a c) → (t ≡ false → P b d)
     → P (if′ t a b) (if′ t c d)

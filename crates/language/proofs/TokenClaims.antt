@@ -8,6 +8,7 @@ use native.Mathlib.Omega.{arith}
 use lib.ListN.{length, drop, length-append, length-drop}
 use lib.Seq.{take-at, drop-at, drop-drop}
 use Rattle.language.specs.Lexemes.{Tok, lParen, rParen, dot, doubleColon, colon, semiColon, equals, comma, slash, importKeyword, letKeyword, identifier, booleanLiteral, ipv4Literal, hexLiteral, decLiteral, unexpectedChar, Kind, trivia, str, tok, error, lexemeOf, lexeme}
+use Rattle.language.specs.Tables.{contentKind}
 use Rattle.language.specs.Tokens.{eof, plain, name, string, Token, contentOf, unquoted, Item, items, Pending, joined, pendingToken, flushed, itemToken, tokensFrom, tokens, eofToken, Place, placeOf, between, PlacesRight, Ordered, ordered-none, ordered-one, TokensInOrder, NamesHeld, bodyOf, bodiesIn, BodiesHeld}
 use Rattle.language.proofs.CutLexemes.{newline}
 use Rattle.language.proofs.TokenBodies.{Held, held-none, held-more, bodies-of}
@@ -35,6 +36,28 @@ content-cases t x =
       | decLiteral n ↦ inr refl
     ]
 
+-- and it is plain only where its kind is not a name's
+name-cases : (t : Tok) (x : List ℕ) → contentKind (contentOf t x) ≡ 13 → contentOf t x ≡ name x
+name-cases t x =
+    elim t [
+      | identifier ↦ λ k. refl
+      | lParen ↦ λ k. absurd (omega arith)
+      | rParen ↦ λ k. absurd (omega arith)
+      | dot ↦ λ k. absurd (omega arith)
+      | doubleColon ↦ λ k. absurd (omega arith)
+      | colon ↦ λ k. absurd (omega arith)
+      | semiColon ↦ λ k. absurd (omega arith)
+      | equals ↦ λ k. absurd (omega arith)
+      | comma ↦ λ k. absurd (omega arith)
+      | slash ↦ λ k. absurd (omega arith)
+      | importKeyword ↦ λ k. absurd (omega arith)
+      | letKeyword ↦ λ k. absurd (omega arith)
+      | booleanLiteral b ↦ λ k. absurd (omega arith)
+      | ipv4Literal n ↦ λ k. absurd (omega arith)
+      | hexLiteral n ↦ λ k. absurd (omega arith)
+      | decLiteral n ↦ λ k. absurd (omega arith)
+    ]
+
 module _ (source : List ℕ) where
   -- from `at` on the source has s
   record Reads (at : ℕ) (s : List ℕ) : Type 0 where
@@ -46,6 +69,7 @@ module _ (source : List ℕ) where
     right : placeOf source (t .start) ≡ place (t .line) (t .column)
     some-byte : t .start < t .end
     in-room : t .end ≤ length source
+    kinded : contentKind (t .content) ≡ 13 → (bs : List ℕ) × (t .content ≡ name bs)
     named : (bs : List ℕ) → t .content ≡ name bs → between source (t .start) (t .end) ≡ bs
     bodied : (b : List ℕ) (bs : List (List ℕ)) → t .content ≡ string b bs → bodiesIn (between source (t .start) (t .end)) ≡ b ∷ bs
 
@@ -98,6 +122,7 @@ module _ (source : List ℕ) where
                 right = r;
                 some-byte = omega arith;
                 in-room = reads-on .in-room;
+                kinded = λ k. absurd (omega arith);
                 named = λ bs e. cc;
                 bodied = λ b bs e. rw span (cc (bodies-of w));
               };
@@ -146,6 +171,7 @@ module _ (source : List ℕ) where
           right = r;
           some-byte = omega arith;
           in-room = reads-on at x s h q .in-room;
+          kinded = λ k. (x, name-cases t x k);
           named = λ bs e. elim (content-cases t x) [ inl f ↦ rw (span at x s h q) (cc) | inr f ↦ cc ];
           bodied = λ b bs e. elim (content-cases t x) [ inl f ↦ cc | inr f ↦ cc ];
         }
@@ -202,3 +228,8 @@ names-held s t bs m e = elim (good-or-end s t m) [ inl g ↦ g .named bs e | inr
 
 pub bodies-held : BodiesHeld
 bodies-held s t b bs m e = elim (good-or-end s t m) [ inl g ↦ g .bodied b bs e | inr f ↦ cc ]
+
+-- a token of a name's kind is a name: `plain identifier`, which the definitions could write, is the content of no token
+pub name-kind : (s : List ℕ) (t : Token) → List·Memᴰ t (tokens s) → contentKind (t .content) ≡ 13
+    → (bs : List ℕ) × (t .content ≡ name bs)
+name-kind s t m k = elim (good-or-end s t m) [ inl g ↦ g .kinded k | inr f ↦ absurd (omega (arith, rw f at k)) ]

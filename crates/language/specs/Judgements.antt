@@ -354,3 +354,9 @@ StatementsFew = (ts : List Content) (ss : List Stmt) (ds : List Diag) (hs : List
 -- every finding is an error or a warning
 abbrev pub AllCounted : Type 0
 AllCounted = (ds : List Diag) → errorsIn ds + warningsIn ds ≡ length ds
+
+-- a name that is bound already: what its `let` comes to does not depend on the value
+abbrev pub BoundFirst : Type 0
+BoundFirst =
+    (ts : List Content) (n : ℕ) (k : Known) (t : ℕ) (e : Expr) (b : Binding) → find (k .bindings) (nameAt ts t) ≡ some b
+    → stmt ts n k (let′ t e) ≡ goes k (diag n t (alreadyBound (b .tok)) ∷ []) []

@@ -13,3 +13,7 @@ pub mod Values
 pub mod Judgements
 pub mod Findings
 pub mod Numbers
+pub mod Checks
+pub mod Names
+pub mod Exactly
+pub mod Samples

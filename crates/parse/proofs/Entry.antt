@@ -55,7 +55,7 @@ module _ (s : List ℕ) (room : ℕ) (z : lexAnswer s room .verdict .number ≡ 
       let x : _≡_ {A = ℕ} 3 0 = number-0 (wrong-one s room short (all-good (firstBad s) refl) w e) in absurd (omega arith)
   no-wrong none e = e
 
-  in-room : length (tokens s) ≤ room
+  pub in-room : length (tokens s) ≤ room
   in-room =
       elim (decLe (length (tokens s)) room) [
         | yes h ↦ h

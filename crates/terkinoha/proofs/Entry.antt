@@ -10,8 +10,10 @@ use Rattle.parse.specs.declared.ParseAnswer as parse
 use Rattle.parse.specs.Entry as parse-entry
 use Rattle.canon.specs.declared.Canonised as canon
 use Rattle.canon.specs.Entry as canon-entry
+use Rattle.checker.specs.declared.CheckAnswer as checker
+use Rattle.checker.specs.Entry as check-entry
 use Rattle.terkinoha.specs.declared.Verdict.{Verdict}
-use Rattle.terkinoha.specs.Entry.{verdictOf, ScanLine, LexSource, ParseSource, CanonSource, ScanDetermined, LexDetermined, ParseDetermined, CanonDetermined}
+use Rattle.terkinoha.specs.Entry.{verdictOf, ScanLine, LexSource, ParseSource, CanonSource, CheckSource, ScanDetermined, LexDetermined, ParseDetermined, CanonDetermined, CheckDetermined}
 
 -- ---- the answer as C sees it; the tables are the same
 
@@ -32,6 +34,11 @@ module _ {v : Verdict} {s t : List ℕ} where
       → CanonSource s m n (record { verdict = v; tokens = a .tokens; bytes = a .bytes }) t u
   canonises h e = record { answer = rw (e, h .answer); table = h .table; text = h .text }
 
+  pub checks : {u f g : List ℕ} {m n d k : ℕ} {a : checker.CheckAnswer} → check-entry.CheckSource s m n d k a t u f g → v ≡ verdictOf (a .verdict)
+      → CheckSource s m n d k
+          (record { verdict = v; tokens = a .tokens; nodes = a .nodes; errors = a .errors; warnings = a .warnings; statements = a .statements }) t u f g
+  checks h e = record { answer = rw (e, h .answer); tokens = h .tokens; nodes = h .nodes; diags = h .diags; stmts = h .stmts }
+
 -- ---- the claims
 
 pub scan-determined : ScanDetermined
@@ -45,3 +52,11 @@ parse-determined source t n r q a b x y h k = (h .answer ∙ sym (k .answer), h 
 
 pub canon-determined : CanonDetermined
 canon-determined source t n r q a b x y h k = (h .answer ∙ sym (k .answer), h .table ∙ sym (k .table), h .text ∙ sym (k .text))
+
+pub check-determined : CheckDetermined
+check-determined source t n d k r q a b x y v w g h l m =
+    ( l .answer ∙ sym (m .answer),
+      l .tokens ∙ sym (m .tokens),
+      l .nodes ∙ sym (m .nodes),
+      l .diags ∙ sym (m .diags),
+      l .stmts ∙ sym (m .stmts) )

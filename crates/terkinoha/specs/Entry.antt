@@ -4,8 +4,9 @@ use mathlib.Core.List.{List}
 use Prim.Native.Nat.{ℕ, _/_}
 use Rattle.language.specs.Tables.{lexemeWidth, tokenWidth}
 use Rattle.language.specs.Sentences.{nodeWidth}
+use Rattle.language.specs.Findings.{stmtWidth}
 use Rattle.language.specs.Numbers as numbers
-use Rattle.language.specs.Numbers.{scanAnswer, scanTable, lexAnswer, lexTable, parseAnswer, parseTokens, parseNodes, canonAnswer, canonTokens, canonText}
+use Rattle.language.specs.Numbers.{scanAnswer, scanTable, lexAnswer, lexTable, parseAnswer, parseTokens, parseNodes, canonAnswer, canonTokens, canonText, checkAnswer, checkTokens, checkNodes, checkDiags, checkStmts}
 use Rattle.scan.specs.declared.Verdict as scan
 use Rattle.scan.specs.Scanning.{verdictAs}
 use Rattle.terkinoha.specs.declared.Verdict.{Verdict}
@@ -13,6 +14,7 @@ use Rattle.terkinoha.specs.declared.Scanned.{Scanned}
 use Rattle.terkinoha.specs.declared.Lexed.{Lexed}
 use Rattle.terkinoha.specs.declared.Parsed.{Parsed}
 use Rattle.terkinoha.specs.declared.Canonised.{Canonised}
+use Rattle.terkinoha.specs.declared.Checked.{Checked}
 
 -- ---- answers
 
@@ -34,6 +36,17 @@ parsedAs a = record { verdict = verdict (a .verdict); tokens = a .tokens; nodes 
 
 abbrev pub canonisedAs : numbers.Canonised → Canonised
 canonisedAs a = record { verdict = verdict (a .verdict); tokens = a .tokens; bytes = a .bytes }
+
+abbrev pub checkedAs : numbers.Checked → Checked
+checkedAs a =
+    record {
+      verdict = verdict (a .verdict);
+      tokens = a .tokens;
+      nodes = a .nodes;
+      errors = a .errors;
+      warnings = a .warnings;
+      statements = a .statements;
+    }
 
 -- ---- entries
 
@@ -59,6 +72,14 @@ pub record CanonSource (source : List ℕ) (t n : ℕ) (r : Canonised) (toks lef
   pub table : toks ≡ canonTokens source t n
   pub text : left ≡ canonText source t n
 
+-- of a source and tables of t, n, d and k words (of tokens, nodes, diagnostics and statements)
+pub record CheckSource (source : List ℕ) (t n d k : ℕ) (r : Checked) (toks tree found held : List ℕ) : Type 0 where
+  pub answer : r ≡ checkedAs (checkAnswer source (t / tokenWidth) (n / nodeWidth) (k / stmtWidth))
+  pub tokens : toks ≡ checkTokens source t n k
+  pub nodes : tree ≡ checkNodes source t n k
+  pub diags : found ≡ checkDiags source t n k d
+  pub stmts : held ≡ checkStmts source t n k
+
 -- ---- two results that satisfy a call's promise are equal
 
 abbrev pub ScanDetermined : Type 0
@@ -78,3 +99,8 @@ abbrev pub CanonDetermined : Type 0
 CanonDetermined =
     (source : List ℕ) (t n : ℕ) (r q : Canonised) (a b x y : List ℕ) → CanonSource source t n r a x → CanonSource source t n q b y
     → (r ≡ q) × (a ≡ b) × (x ≡ y)
+
+abbrev pub CheckDetermined : Type 0
+CheckDetermined =
+    (source : List ℕ) (t n d k : ℕ) (r q : Checked) (a b x y v w g h : List ℕ) → CheckSource source t n d k r a x v g
+    → CheckSource source t n d k q b y w h → (r ≡ q) × (a ≡ b) × (x ≡ y) × (v ≡ w) × (g ≡ h)

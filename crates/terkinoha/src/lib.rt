@@ -2,7 +2,7 @@
 // equations. Tables are lent as words; the header turns rows into words. Nothing here keeps anything between calls.
 ghost use mathlib.Core.Path.{_≡_};
 ghost use lib.ListN.{length, drop};
-ghost use Rattle.terkinoha.specs.Entry.{verdictOf, ScanLine, LexSource, ParseSource, CanonSource};
+ghost use Rattle.terkinoha.specs.Entry.{verdictOf, ScanLine, LexSource, ParseSource, CanonSource, CheckSource};
 ghost use Rattle.terkinoha.specs.Bodies.{none, first, bodySpans, FirstOf};
 use scan::LexemeKind;
 use scan::Scanner;
@@ -42,6 +42,16 @@ pub struct Canonised {
     pub verdict: Verdict,
     pub tokens: u64,
     pub bytes: u64,
+}
+
+#[repr(C)]
+pub struct Checked {
+    pub verdict: Verdict,
+    pub tokens: u64,
+    pub nodes: u64,
+    pub errors: u64,
+    pub warnings: u64,
+    pub statements: u64,
 }
 
 // The verdict of a crate below, as C sees it.
@@ -112,6 +122,29 @@ pub extern "C" fn terkinoha_canonicalise_words(
         verdict: as_c(canonised.verdict),
         tokens: canonised.tokens,
         bytes: canonised.bytes,
+    }
+}
+
+// Checks a source: its tokens and nodes, what was found, and the statements that it holds, each into a lent table.
+#[no_mangle]
+pub extern "C" fn terkinoha_check_words(
+    source: &[u8],
+    tokens: &mut [u64],
+    nodes: &mut [u64],
+    diagnostics: &mut [u64],
+    statements: &mut [u64],
+) -> Checked
+    ensures { λ r. ⌜ CheckSource (now (source .entry)) (length (now (tokens .entry))) (length (now (nodes .entry))) (length (now (diagnostics .entry))) (length (now (statements .entry)))
+        r (now (tokens .exit)) (now (nodes .exit)) (now (diagnostics .exit)) (now (statements .exit)) ⌝ }
+{
+    let checked = checker::check_source(source, tokens, nodes, diagnostics, statements);
+    Checked {
+        verdict: as_c(checked.verdict),
+        tokens: checked.tokens,
+        nodes: checked.nodes,
+        errors: checked.errors,
+        warnings: checked.warnings,
+        statements: checked.statements,
     }
 }
 

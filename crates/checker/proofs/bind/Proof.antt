@@ -30,7 +30,7 @@ error-requires : tie.Need-error-requires
 error-requires c κs = search needs
 
 named-one-requires-2 : tie.Need-named-one-requires-2
-named-one-requires-2 c κs = omega (arith, c .before .before .before .before .before .before .before .before .before .before .before .before .before .before .pre .0 .0, ap (λ (l : Counts). l .used) (c .before .before .error .ensures .0))
+named-one-requires-2 c κs = omega (arith, c .before .before .before .before .before .before .before .before .before .before .before .before .pre .0 .0, ap (λ (l : Counts). l .used) (c .before .before .error .ensures .0))
 
 enum-told : tie.Need-enum-told
 enum-told c = search needs
@@ -45,7 +45,7 @@ same-length : tie.Need-same-length
 same-length c = search needs
 
 returns : tie.Need-returns
-returns c = binds-val (c .before .before .before .before .before .before .before .before .before .before .before .pre .0 .0) (c .before .before .before .before .before .before .before .before .before .before .before .pre .0 .1) (c .before .before .before .before .before .before .out .given .1) (c .before .before .before .put-entry .ensures) (c .named-one .ensures)
+returns c = binds-val (c .before .before .before .before .before .before .before .before .before .pre .0 .0) (c .before .before .before .before .before .before .before .before .before .pre .0 .1) (c .before .before .before .before .before .out .given .1) (c .before .before .put-entry .ensures) (c .named-one .ensures)
 
 same-length-2 : tie.Need-same-length-2
 same-length-2 c = search needs
@@ -54,13 +54,13 @@ same-length-3 : tie.Need-same-length-3
 same-length-3 c = search needs
 
 returns-2 : tie.Need-returns-2
-returns-2 c = binds-err (c .before .before .before .before .before .before .before .before .before .before .before .before .before .before .before .pre .0 .0) (c .before .before .before .before .before .before .before .before .before .before .before .before .before .before .before .pre .0 .1) (c .before .before .before .before .before .before .before .before .before .before .out2 .given .1) (c .before .before .before .before .before .before .before .put-entry2 .ensures) (c .before .before .before .error .ensures .0) (c .before .before .before .error .ensures .1) (c .named-one2 .ensures)
+returns-2 c = binds-err (c .before .before .before .before .before .before .before .before .before .before .before .before .before .pre .0 .0) (c .before .before .before .before .before .before .before .before .before .before .before .before .before .pre .0 .1) (c .before .before .before .before .before .before .before .before .before .out2 .given .1) (c .before .before .before .before .before .before .put-entry2 .ensures) (c .before .before .before .error .ensures .0) (c .before .before .before .error .ensures .1) (c .named-one2 .ensures)
 
 same-length-4 : tie.Need-same-length-4
 same-length-4 c = search needs
 
 returns-3 : tie.Need-returns-3
-returns-3 c = binds-none (c .before .before .before .before .before .before .before .before .before .before .pre .0 .0) (c .before .before .before .before .before .before .before .before .before .before .pre .0 .1) (c .before .before .before .before .before .enum-told .given .1) (c .before .before .before .put-entry3 .ensures) (c .named-one3 .ensures)
+returns-3 c = binds-none (c .before .before .before .before .before .before .before .before .pre .0 .0) (c .before .before .before .before .before .before .before .before .pre .0 .1) (c .before .before .before .before .enum-told .given .1) (c .before .before .put-entry3 .ensures) (c .named-one3 .ensures)
 
 pub bind-spec : {M : Type 1} → statement M
 bind-spec =

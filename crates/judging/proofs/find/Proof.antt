@@ -23,23 +23,20 @@ loop-holds c = (omega arith, search-start _ _ _ _ 0)
 mul-a : tie.Need-mul-a Inv-loop μ-loop
 mul-a c = search needs
 
-mul-a-2 : tie.Need-mul-a-2 Inv-loop μ-loop
-mul-a-2 c = search needs
+index-1-a : tie.Need-index-1-a Inv-loop μ-loop
+index-1-a c = search needs
 
-shared-slice-read-a : tie.Need-shared-slice-read-a Inv-loop μ-loop
-shared-slice-read-a c = search needs
+index-2-a : tie.Need-index-2-a Inv-loop μ-loop
+index-2-a c = search needs
 
 mul-e : tie.Need-mul-e Inv-loop μ-loop
 mul-e c = search needs
 
-add-e : tie.Need-add-e Inv-loop μ-loop
-add-e c = search needs
+index-1-e : tie.Need-index-1-e Inv-loop μ-loop
+index-1-e c = search needs
 
-mul-e-2 : tie.Need-mul-e-2 Inv-loop μ-loop
-mul-e-2 c = search needs
-
-shared-slice-read-e : tie.Need-shared-slice-read-e Inv-loop μ-loop
-shared-slice-read-e c = search needs
+index-2-e : tie.Need-index-2-e Inv-loop μ-loop
+index-2-e c = search needs
 
 part-requires : tie.Need-part-requires Inv-loop μ-loop
 part-requires c κs = search needs
@@ -70,12 +67,11 @@ find-spec =
     μ-loop
     loop-holds
     mul-a
-    mul-a-2
-    shared-slice-read-a
+    index-1-a
+    index-2-a
     mul-e
-    add-e
-    mul-e-2
-    shared-slice-read-e
+    index-1-e
+    index-2-e
     part-requires
     same-requires
     returns

@@ -1,0 +1,209 @@
+-- What checking a source answers and leaves, for each way that it goes, and the proof of the claim of specs/Entry.antt.
+use mathlib.Core.Path.{_≡_, refl, sym, ap, subst, _∙_}
+use mathlib.Core.Bool.{true, false}
+use mathlib.Core.List.{List, []}
+use mathlib.Core.Option.{none, some}
+use Prim.Native.Nat.{ℕ, _*_, _/_, _≤_, _<_}
+use native.Mathlib.Omega.{arith}
+use borrow.Author.Tests.{eq-eqb, ne-eqb, lt-ltb, le-ltb}
+use lib.Dec.{eqb}
+use lib.ListN.{length, take}
+use lib.Seq.{length-take-le}
+use Rattle.table.specs.Table.{padTo, flat}
+use Rattle.table.proofs.Laws.{tabled-none}
+use Rattle.language.specs.Tokens.{contents, tokens}
+use Rattle.language.specs.Tables.{tokenRow}
+use Rattle.language.specs.Sentences.{Stmt, Node, program, nodeRow}
+use Rattle.language.specs.Judgements as judgements
+use Rattle.language.specs.Judgements.{Diag, Held, Outcome, errorsIn, warningsIn, judgeAll}
+use Rattle.language.specs.Findings.{diagRow, stmtRow}
+use Rattle.language.specs.Numbers as numbers
+use Rattle.language.specs.Numbers.{verdict, tokenOf, placed, tokenPlace, parseAnswer, parseTokens, parseNodes, parsedNodes, statementsOf, firstCall, checked, refusedCheck, judgedWithin, checkAnswer, checkTokens, checkNodes, checkDiags, checkStmts}
+use Rattle.scan.specs.declared.Verdict.{Verdict}
+use Rattle.scan.specs.Scanning.{verdictAs}
+use Rattle.judging.specs.declared.Token.{Token}
+use Rattle.judging.specs.declared.Counts.{Counts}
+use Rattle.judging.specs.Judging.{tokenAs, Lexed}
+use Rattle.parse.specs.declared.ParseAnswer.{ParseAnswer}
+use Rattle.parse.specs.Entry.{ParseSource}
+use Rattle.checker.specs.declared.Turn.{Turn}
+use Rattle.checker.specs.declared.Turn.the-variants.{Went, Full}
+use Rattle.checker.specs.declared.Call.{Call}
+use Rattle.checker.specs.declared.Call.the-variants.{At, Nowhere}
+use Rattle.checker.specs.declared.CheckAnswer.{CheckAnswer}
+use Rattle.checker.specs.Checking.{StmtsAt, noCounts, Grows, ComesTo, Comes}
+use Rattle.checker.specs.Entry.{refusal, callAs, Parses, GivesUp, CheckSource}
+use Rattle.checker.proofs.Tables.{all-findings, all-held}
+use Rattle.checker.proofs.Calls.{some-call, none-called}
+use Rattle.checker.proofs.Parsed.{lexed-part, node-part, stmts-part, number-is, tokens-long, nodes-left}
+
+-- a refusal where a token is
+pub at-place : (s : List ℕ) (t number : ℕ) {tok : Token} {v : Verdict} → tok ≡ tokenAs (tokenOf s t)
+    → v ≡ record { number = number; kind = 0; line = tok .line; column = tok .column; character = 0 } → v ≡ verdictAs (placed number (tokenPlace s t))
+at-place s t number e q = q ∙ rw e
+
+-- the part of a table that rows take, of one at least
+pub some-words : (toks : List ℕ) (count : ℕ) → 1 ≤ count → 7 * count ≤ length toks → 7 ≤ length (take (7 * count) toks)
+some-words toks count h l = omega (arith, length-take-le (7 * count) toks l)
+
+-- ---- refusals
+
+-- a number with no counts leaves nothing in any table
+gave-up : (s : List ℕ) (t n d k : ℕ) (v : numbers.Verdict) → checkAnswer s (t / 7) (n / 5) (k / 7) ≡ refusedCheck v → eqb (v .number) 0 ≡ false
+    → {w : Verdict} → w ≡ verdictAs v → {r : CheckAnswer} {a b e f : List ℕ} → GivesUp w t n d k r a b e f → CheckSource s t n d k r a b e f
+unfolding checkTokens checkNodes checkDiags checkStmts
+gave-up s t n d k v e f q g =
+    record {
+      answer = g .answer ∙ rw (e, q);
+      tokens = g .tokens ∙ rw (e, f) (sym (tabled-none tokenRow 7 t));
+      nodes = g .nodes ∙ rw (e, f) (sym (tabled-none nodeRow 5 n));
+      diags = g .diags ∙ rw (e, f) (sym (tabled-none (diagRow (tokenOf s)) 11 d));
+      stmts = g .stmts ∙ rw (e, f) (sym (tabled-none (stmtRow (tokenOf s)) 7 k));
+    }
+
+-- ---- a source that was parsed
+
+module _ {s toks tree : List ℕ} {count rows : ℕ} (p : Parses s toks tree count rows) where
+  called-as : (m at : ℕ) → firstCall (parsedNodes (program (contents (tokens s)))) ≡ some at
+      → checkAnswer s (length toks / 7) (length tree / 5) m ≡ refusedCheck (placed 8 (tokenPlace s at))
+  unfolding checkAnswer
+  called-as m at e = rw (p .answer, e)
+
+  judged-as : (m : ℕ) → firstCall (parsedNodes (program (contents (tokens s)))) ≡ none
+      → checkAnswer s (length toks / 7) (length tree / 5) m ≡ judgedWithin s m count rows (checked s)
+  unfolding checkAnswer
+  judged-as m e = rw (e, p .answer)
+
+  -- all statements were judged
+  module _ (quiet : firstCall (parsedNodes (program (contents (tokens s)))) ≡ none) {ds : List Diag} {hs : List Held} (o : checked s ≡ judgements.judged ds hs)
+      {c : Counts} {found held : List ℕ} (g : Grows s noCounts (padTo (length found) []) (padTo (length held) []) c found held ds hs) where
+    errors-are : c .errors ≡ errorsIn ds
+    errors-are = omega (arith, g .errors)
+
+    warnings-are : c .warnings ≡ warningsIn ds
+    warnings-are = omega (arith, g .warnings)
+
+    held-are : c .statements ≡ length hs
+    held-are = omega (arith, g .statements)
+
+    -- errors: the statements are not kept
+    pub with-errors : {r : CheckAnswer} {x : List ℕ} → (c .errors ≡ 0 → ⊥) → x ≡ padTo (length held) []
+        → r ≡ record { verdict = verdictAs (verdict 0 0 0); tokens = count; nodes = rows; errors = c .errors; warnings = c .warnings; statements = 0 }
+        → CheckSource s (length toks) (length tree) (length found) (length held) r toks tree found x
+    unfolding checkTokens checkNodes checkDiags checkStmts
+    with-errors h z q =
+        let f : eqb (errorsIn ds) 0 ≡ false = ne-eqb _ _ (λ e. h (errors-are ∙ e)) in
+        let a : checkAnswer s (length toks / 7) (length tree / 5) (length held / 7)
+            ≡ record { verdict = verdict 0 0 0; tokens = count; nodes = rows; errors = errorsIn ds; warnings = warningsIn ds; statements = 0 } =
+            judged-as (length held / 7) quiet ∙ rw (o, f) in
+        record {
+          answer = q ∙ rw (a, errors-are, warnings-are);
+          tokens = p .table ∙ rw a;
+          nodes = p .nodes ∙ rw a;
+          diags = g .diags ∙ all-findings (tokenOf s) (length found) ds ∙ rw (a, o);
+          stmts = z ∙ rw (a, o, f) (sym (tabled-none (stmtRow (tokenOf s)) 7 (length held)));
+        }
+
+    module _ (h : c .errors ≡ 0) where
+      no-errors : eqb (errorsIn ds) 0 ≡ true
+      no-errors = eq-eqb _ _ (sym errors-are ∙ h)
+
+      -- 11
+      pub too-many : {w : Verdict} {r : CheckAnswer} {x y z u : List ℕ} → length held / 7 < c .statements → w ≡ verdictAs (verdict 11 0 0)
+          → GivesUp w (length toks) (length tree) (length found) (length held) r x y z u
+          → CheckSource s (length toks) (length tree) (length found) (length held) r x y z u
+      too-many l q u =
+          gave-up s (length toks) (length tree) (length found) (length held) (verdict 11 0 0)
+          (judged-as (length held / 7) quiet ∙ rw (o, no-errors, lt-ltb (length held / 7) (length hs) (omega (arith, held-are)))) refl q u
+
+      -- done
+      pub accepted : {r : CheckAnswer} → c .statements ≤ length held / 7
+          → r ≡ record { verdict = verdictAs (verdict 0 0 0); tokens = count; nodes = rows; errors = c .errors; warnings = c .warnings; statements = c .statements }
+          → CheckSource s (length toks) (length tree) (length found) (length held) r toks tree found held
+      unfolding checkTokens checkNodes checkDiags checkStmts
+      accepted l q =
+          let a : checkAnswer s (length toks / 7) (length tree / 5) (length held / 7)
+              ≡ record { verdict = verdict 0 0 0; tokens = count; nodes = rows; errors = 0; warnings = warningsIn ds; statements = length hs } =
+              judged-as (length held / 7) quiet ∙ rw (o, no-errors, le-ltb (length held / 7) (length hs) (omega (arith, held-are))) in
+          record {
+            answer = q ∙ rw (a, h, warnings-are, held-are);
+            tokens = p .table ∙ rw a;
+            nodes = p .nodes ∙ rw a;
+            diags = g .diags ∙ all-findings (tokenOf s) (length found) ds ∙ rw (a, o);
+            stmts = g .stmts ∙ all-held (tokenOf s) (length held) hs ∙ rw (a, o, no-errors);
+          }
+
+-- ---- the run
+
+module _ {s x u y v : List ℕ} {r : Turn} where
+  went : {c : Counts} {o : Outcome} → r ≡ Went c → Comes s x u r y v o
+      → (ds : List Diag) × (hs : List Held) × (o ≡ judgements.judged ds hs) × Grows s noCounts x u c y v ds hs
+  went {c} {o = judgements.judged ds hs} q h = (ds, hs, refl, subst (λ (z : Turn). ComesTo s x u z y v (judgements.judged ds hs)) q (h .come))
+  went {c} {o = judgements.refused t} q h = absurd (subst (λ (z : Turn). ComesTo s x u z y v (judgements.refused t)) q (h .come))
+
+  full-at : {t : ℕ} {o : Outcome} → r ≡ Full t → Comes s x u r y v o → o ≡ judgements.refused t
+  full-at {t} {o = judgements.judged ds hs} q h = absurd (subst (λ (z : Turn). ComesTo s x u z y v (judgements.judged ds hs)) q (h .come))
+  full-at {t} {o = judgements.refused t′} q h = ap judgements.refused (sym (subst (λ (z : Turn). ComesTo s x u z y v (judgements.refused t′)) q (h .come)))
+
+module _ {s toks tree : List ℕ} {count rows : ℕ} (p : Parses s toks tree count rows) where
+  -- 8
+  pub refused-call : {t d k : ℕ} {w : Verdict} {f : Call} {r : CheckAnswer} {a b e g : List ℕ} → f ≡ At t
+      → ((ns : List Node) → take (5 * rows) tree ≡ flat nodeRow ns → f ≡ callAs (firstCall ns))
+      → ((z : List ℕ) → Lexed z (take (7 * count) toks) → w ≡ verdictAs (placed 8 (tokenPlace z t)))
+      → GivesUp w (length toks) (length tree) d k r a b e g → CheckSource s (length toks) (length tree) d k r a b e g
+  refused-call {t} {d} {k} q c l g =
+      gave-up s (length toks) (length tree) d k (placed 8 (tokenPlace s t)) (called-as p (k / 7) t (some-call (sym q ∙ c _ (node-part p)))) refl (l s (lexed-part p)) g
+
+  pub no-calls : {f : Call} → f ≡ Nowhere → ((ns : List Node) → take (5 * rows) tree ≡ flat nodeRow ns → f ≡ callAs (firstCall ns))
+      → firstCall (parsedNodes (program (contents (tokens s)))) ≡ none
+  no-calls q c = none-called (sym q ∙ c _ (node-part p))
+
+  module _ (quiet : firstCall (parsedNodes (program (contents (tokens s)))) ≡ none) {x u y v : List ℕ} {r : Turn} (same-found : length y ≡ length x) (same-held : length v ≡ length u)
+      (on : (ss : List Stmt) → StmtsAt (take (5 * rows) tree) 0 ss → Comes s x u r y v (judgeAll (contents (tokens s)) ss)) where
+    came : Comes s x u r y v (checked s)
+    unfolding checked
+    came = on (statementsOf (program (contents (tokens s)))) (stmts-part p)
+
+    pub concluded : {c : Counts} {q : CheckAnswer} {a b e f : List ℕ} → (x ≡ padTo (length x) []) × (u ≡ padTo (length u) []) → r ≡ Went c
+        → ((z : List ℕ) (ds : List Diag) (hs : List Held) → Parses z toks tree count rows → firstCall (parsedNodes (program (contents (tokens z)))) ≡ none
+        → checked z ≡ judgements.judged ds hs → Grows z noCounts (padTo (length y) []) (padTo (length v) []) c y v ds hs
+        → CheckSource z (length toks) (length tree) (length y) (length v) q a b e f)
+        → CheckSource s (length toks) (length tree) (length x) (length u) q a b e f
+    concluded {c} {q} {a} {b} {e} {f} zero i h =
+        let w = went i came in
+        let g : Grows s noCounts (padTo (length y) []) (padTo (length v) []) c y v (w .0) (w .1) =
+            subst (λ (m : List ℕ). Grows s noCounts (padTo (length y) []) m c y v (w .0) (w .1)) (zero .1 ∙ ap (λ (m : ℕ). padTo m []) (sym same-held))
+            (subst (λ (m : List ℕ). Grows s noCounts m u c y v (w .0) (w .1)) (zero .0 ∙ ap (λ (m : ℕ). padTo m []) (sym same-found)) (w .3)) in
+        subst (λ (m : ℕ). CheckSource s (length toks) (length tree) (length x) m q a b e f) same-held
+        (subst (λ (m : ℕ). CheckSource s (length toks) (length tree) m (length v) q a b e f) same-found (h s (w .0) (w .1) p quiet (w .2) g))
+
+    -- 9
+    pub refused-name : {t : ℕ} {w : Verdict} {q : CheckAnswer} {a b e f : List ℕ} → r ≡ Full t
+        → ((z : List ℕ) → Lexed z (take (7 * count) toks) → w ≡ verdictAs (placed 9 (tokenPlace z t)))
+        → GivesUp w (length toks) (length tree) (length y) (length v) q a b e f → CheckSource s (length toks) (length tree) (length x) (length u) q a b e f
+    refused-name {t} {w} {q} {a} {b} {e} {f} i l g =
+        gave-up s (length toks) (length tree) (length x) (length u) (placed 9 (tokenPlace s t)) (judged-as p (length u / 7) quiet ∙ rw (full-at i came)) refl (l s (lexed-part p))
+        (subst (λ (m : ℕ). GivesUp w (length toks) (length tree) (length x) m q a b e f) same-held
+        (subst (λ (m : ℕ). GivesUp w (length toks) (length tree) m (length v) q a b e f) same-found g))
+
+-- ---- a source
+
+module _ {s : List ℕ} {t n : ℕ} {q : ParseAnswer} {a b : List ℕ} (o : ParseSource s t n q a b) where
+  -- parsing refused: its tables are all zero already
+  pub not-parsed : {d k : ℕ} {r : CheckAnswer} {e f : List ℕ} → (q .verdict .number ≡ 0 → ⊥) → r ≡ refusal (q .verdict) → e ≡ padTo d [] → f ≡ padTo k []
+      → CheckSource s t n d k r a b e f
+  unfolding checkAnswer parseTokens parseNodes
+  not-parsed {d} {k} z c x y =
+      let f : eqb (parseAnswer s (t / 7) (n / 5) .verdict .number) 0 ≡ false = ne-eqb _ _ (λ i. z (number-is o ∙ i)) in
+      gave-up s t n d k (parseAnswer s (t / 7) (n / 5) .verdict) (rw f) f (ap (λ (i : ParseAnswer). i .verdict) (o .answer))
+      (record {
+        answer = c;
+        tokens = o .tokens ∙ rw f (tabled-none tokenRow 7 t);
+        nodes = o .nodes ∙ rw f (tabled-none nodeRow 5 n);
+        diags = x;
+        stmts = y;
+      })
+
+  -- the tables' lengths are those before parsing
+  pub as-before : {d k i j : ℕ} {r : CheckAnswer} {w x y z : List ℕ} → i ≡ d → j ≡ k → CheckSource s (length a) (length b) i j r w x y z → CheckSource s t n d k r w x y z
+  as-before g h c = rw (tokens-long o, nodes-left o, g, h) at c

@@ -1,0 +1,92 @@
+use mathlib.Core.Path.{_∙_}
+use Prim.Native.Nat.{_-_}
+use native.Mathlib.Omega.{arith}
+use borrow.Author.Needs.{needs}
+use Rattle.checker.proofs.Runs.{Looped, start, again, stopped, finished}
+use Rattle.checker.proofs.run.Statement.{statement}
+use Rattle.checker.proofs.run.Tie as tie
+
+abbrev Inv-loop : tie.InvT-loop
+Inv-loop source toks nodes diags₀ stmts₀ bindings₀ imports₀ counts₀ rows i₀ diags stmts bindings imports counts i = Looped source toks nodes diags₀ stmts₀ diags stmts bindings imports counts i
+
+abbrev μ-loop : tie.MeasureT-loop
+μ-loop source toks nodes diags₀ stmts₀ bindings₀ imports₀ counts₀ rows i₀ diags stmts bindings imports counts i = rows - i
+
+names-requires : tie.Need-names-requires Inv-loop μ-loop
+names-requires c κs = search needs
+
+modules-requires : tie.Need-modules-requires Inv-loop μ-loop
+modules-requires c κs = search needs
+
+start-requires : tie.Need-start-requires Inv-loop μ-loop
+start-requires c κs = search needs
+
+loop-holds : tie.Need-loop-holds Inv-loop μ-loop
+loop-holds c = start (c .before .before .before .before .before .before .before .before .pre .0) (c .before .before .before .before .before .before .before .before .pre .1) (c .before .before .names .ensures) (c .before .modules .ensures) (c .start .ensures)
+
+slice-aggregate-stmt : tie.Need-slice-aggregate-stmt Inv-loop μ-loop
+slice-aggregate-stmt c = search needs
+
+slice-aggregate-stmt-2 : tie.Need-slice-aggregate-stmt-2 Inv-loop μ-loop
+slice-aggregate-stmt-2 c = search needs
+
+stmt-requires : tie.Need-stmt-requires Inv-loop μ-loop
+stmt-requires c κs = let l = c .before .before .before .before .before .loop .inv in ((l .ready, l .names, l .modules), (l .fits, omega (arith, c .before .before .before .before .loop-test .taken)))
+
+enum-known-then : tie.Need-enum-known-then Inv-loop μ-loop
+enum-known-then c = search needs
+
+enum-known-t : tie.Need-enum-known-t Inv-loop μ-loop
+enum-known-t c = search needs
+
+same-length : tie.Need-same-length Inv-loop μ-loop
+same-length c = c .before .before .before .before .before .before .before .before .before .stmt .kept .1 .1 .1 .1 .1 .0 ∙ c .before .before .before .before .before .before .before .before .before .before .before .before .before .before .before .loop .inv .diags
+
+same-length-2 : tie.Need-same-length-2 Inv-loop μ-loop
+same-length-2 c = c .before .before .before .before .before .before .before .before .before .stmt .kept .1 .1 .1 .1 .1 .1 .0 ∙ c .before .before .before .before .before .before .before .before .before .before .before .before .before .before .before .loop .inv .stmts
+
+returns : tie.Need-returns Inv-loop μ-loop
+returns c = stopped (c .before .before .before .before .before .before .before .before .before .before .before .before .before .before .before .loop .inv) (c .before .before .before .before .before .before .before .before .before .stmt .ensures) (c .before .t .given .1)
+
+add-i : tie.Need-add-i Inv-loop μ-loop
+add-i c = omega (arith, c .before .before .before .before .before .before .before .before .before .before .before .before .before .before .loop-test .taken, c .before .before .before .before .before .before .before .before .before .before .before .before .before .before .before .before .before .before .before .before .before .before .before .before .good .1 .1 .0)
+
+loop-less : tie.Need-loop-less Inv-loop μ-loop
+loop-less c = omega (arith, c .before .before .before .before .before .before .before .before .before .before .before .before .before .before .loop-test .taken)
+
+loop-again : tie.Need-loop-again Inv-loop μ-loop
+loop-again c = again (c .before .before .before .before .before .before .before .before .before .before .before .before .before .before .before .loop .inv) (c .before .before .before .before .before .before .before .before .before .stmt .ensures) (c .before .then .given .1) (c .before .before .before .before .before .before .before .before .before .stmt .kept .1 .1 .1 .0) (c .before .before .before .before .before .before .before .before .before .stmt .kept .1 .1 .1 .1 .0) (c .before .before .before .before .before .before .before .before .before .stmt .kept .1 .1 .1 .1 .1 .0) (c .before .before .before .before .before .before .before .before .before .stmt .kept .1 .1 .1 .1 .1 .1 .0)
+
+same-length-3 : tie.Need-same-length-3 Inv-loop μ-loop
+same-length-3 c = c .before .loop .inv .diags
+
+same-length-4 : tie.Need-same-length-4 Inv-loop μ-loop
+same-length-4 c = c .before .loop .inv .stmts
+
+returns-2 : tie.Need-returns-2 Inv-loop μ-loop
+returns-2 c = finished (c .before .loop .inv) (c .loop-test .left)
+
+pub run-spec : {M : Type 1} → statement M
+run-spec =
+    tie.close
+    (tie.spec
+    Inv-loop
+    μ-loop
+    names-requires
+    modules-requires
+    start-requires
+    loop-holds
+    slice-aggregate-stmt
+    slice-aggregate-stmt-2
+    stmt-requires
+    enum-known-then
+    enum-known-t
+    same-length
+    same-length-2
+    returns
+    add-i
+    loop-less
+    loop-again
+    same-length-3
+    same-length-4
+    returns-2)

@@ -1,0 +1,62 @@
+-- What the entry promises.
+use mathlib.Core.Path.{_≡_}
+use mathlib.Core.List.{List, []}
+use mathlib.Core.Option.{Option, none, some}
+use Prim.Native.Nat.{ℕ, _/_}
+use lib.ListN.{length}
+use Rattle.table.specs.Table.{padTo, tabled}
+use Rattle.language.specs.Tables.{tokenRow, tokenWidth}
+use Rattle.language.specs.Tokens.{tokens, contents}
+use Rattle.language.specs.Sentences.{program, nodeRow, nodeWidth}
+use Rattle.language.specs.Findings.{stmtWidth}
+use Rattle.language.specs.Numbers as numbers
+use Rattle.language.specs.Numbers.{verdict, parsed, parseAnswer, parsedNodes, checkAnswer, checkTokens, checkNodes, checkDiags, checkStmts}
+use Rattle.scan.specs.declared.Verdict.{Verdict}
+use Rattle.scan.specs.Scanning.{verdictAs}
+use Rattle.checker.specs.declared.Call.{Call}
+use Rattle.checker.specs.declared.Call.the-variants.{At, Nowhere}
+use Rattle.checker.specs.declared.CheckAnswer.{CheckAnswer}
+
+abbrev pub checkedAs : numbers.Checked → CheckAnswer
+checkedAs a =
+    record {
+      verdict = verdictAs (a .verdict);
+      tokens = a .tokens;
+      nodes = a .nodes;
+      errors = a .errors;
+      warnings = a .warnings;
+      statements = a .statements;
+    }
+
+-- the answer of a refusal: no counts
+abbrev pub refusal : Verdict → CheckAnswer
+refusal v = record { verdict = v; tokens = 0; nodes = 0; errors = 0; warnings = 0; statements = 0 }
+
+abbrev pub callAs : Option ℕ → Call
+callAs (some t) = At t
+callAs none = Nowhere
+
+-- a refusal that leaves four tables, of t, n, d and k words, all zero
+pub record GivesUp (v : Verdict) (t n d k : ℕ) (r : CheckAnswer) (toks tree found held : List ℕ) : Type 0 where
+  pub answer : r ≡ refusal v
+  pub tokens : toks ≡ padTo t []
+  pub nodes : tree ≡ padTo n []
+  pub diags : found ≡ padTo d []
+  pub stmts : held ≡ padTo k []
+
+-- what parsing leaves where it refuses nothing: a table of the tokens, `count` of them, and one of the nodes, in `rows` rows
+pub record Parses (source toks tree : List ℕ) (count rows : ℕ) : Type 0 where
+  pub answer : parseAnswer source (length toks / tokenWidth) (length tree / nodeWidth) ≡ parsed (verdict 0 0 0) count rows
+  pub table : toks ≡ tabled tokenRow tokenWidth (length toks) (tokens source)
+  pub nodes : tree ≡ tabled nodeRow nodeWidth (length tree) (parsedNodes (program (contents (tokens source))))
+  pub counted : count ≡ length (tokens source)
+  pub rowed : rows ≡ length (parsedNodes (program (contents (tokens source))))
+
+-- of a source and tables of t, n, d and k words (of tokens, nodes, diagnostics and statements): the answer r, and what is
+-- left in each
+pub record CheckSource (source : List ℕ) (t n d k : ℕ) (r : CheckAnswer) (toks tree found held : List ℕ) : Type 0 where
+  pub answer : r ≡ checkedAs (checkAnswer source (t / tokenWidth) (n / nodeWidth) (k / stmtWidth))
+  pub tokens : toks ≡ checkTokens source t n k
+  pub nodes : tree ≡ checkNodes source t n k
+  pub diags : found ≡ checkDiags source t n k d
+  pub stmts : held ≡ checkStmts source t n k

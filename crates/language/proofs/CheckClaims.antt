@@ -1,0 +1,239 @@
+-- Checking goes by contents alone.
+use Prim.Native.Nat.{ℕ, _/_}
+use mathlib.Core.Path.{_≡_, refl, sym, ap, _∙_}
+use mathlib.Core.Bool.{Bool, true}
+use mathlib.Core.List.{List, []}
+use mathlib.Core.Option.{Option, none, some}
+use native.Mathlib.Omega.{arith}
+use lib.Dec.{ltb, eqb}
+use lib.ListN.{length}
+use Rattle.language.specs.Choice.{if′}
+use Rattle.language.specs.Tokens.{Content, name, Token, tokens, contents, between}
+use Rattle.language.specs.Tables.{tokenWidth}
+use Rattle.language.specs.Sentences.{is, program, nodeWidth}
+use Rattle.language.specs.Values.{isString, Ty, tyBool, tyInt, tyIp4, tySock4, tyBytes, tyFunction, tyInteger, entryAt}
+use Rattle.language.specs.Judgements.{What, unknownName, unknownItem, unknownModule, notImported, notAModule, notAValue, alreadyBound, noMembers, operandType, integralTooLarge, multipleImports, discardedValue, truncated, Diag, errorsIn, Held, Outcome, judged, refused, judgeAll, nameAt}
+use Rattle.language.specs.Findings.{tyText, whatKind, Detail, named, detail, stmtRow, stmtWidth}
+use Rattle.language.specs.Canonical.{text, Lexes}
+use Rattle.language.specs.Numbers.{Verdict, verdict, placed, Parsed, tokenPlace, parseAnswer, nowhere, at-token, SamePlace, SameParse, Checked, refusedCheck, firstCall, parsedNodes, statementsOf, checked, checkedWithin, judgedWithin, checkAnswer, tokenOf, checkNodes, checkDiags, checkStmts}
+use Rattle.language.specs.Checks.{SameCheck, SameDetail, SameHeld, bodiesAt, CheckedByContents, TextChecked}
+use Rattle.language.proofs.Tests.{each-side, both-sides}
+use Rattle.language.proofs.Canonical.{round-trip}
+use Rattle.language.proofs.ParseClaims.{parsed-by-contents}
+use Rattle.language.proofs.TokenTexts.{name-shown, bodies-shown}
+use Rattle.language.proofs.FindingTokens.{Shown, Right, outcome-grounded}
+
+-- ---- answers
+
+-- what follows parsing, by whether it is done: the answer goes by the contents but for the places of tokens
+checked-after : List ℕ → ℕ → List Content → Parsed → Bool → Checked
+checked-after s room cs p done =
+    if′ done
+    (elim (firstCall (parsedNodes (program cs))) [
+      | some at ↦ refusedCheck (placed 8 (tokenPlace s at))
+      | none ↦ judgedWithin s room (p .tokens) (p .nodes) (judgeAll cs (statementsOf (program cs)))
+    ])
+    (refusedCheck (p .verdict))
+
+checked-by : (s : List ℕ) (t n k : ℕ)
+    → let p = parseAnswer s t n in checkAnswer s t n k ≡ checked-after s k (contents (tokens s)) p (eqb (p .verdict .number) 0)
+unfolding checkAnswer checked checked-after
+checked-by s t n k = refl
+
+module _ (s u : List ℕ) where
+  same : (a : Checked) → a .verdict .line ≡ 0 → a .verdict .column ≡ 0 → SameCheck s u a a
+  same a l c =
+      record {
+        number = refl;
+        kind = refl;
+        place = nowhere l c l c;
+        character = refl;
+        tokens = refl;
+        nodes = refl;
+        errors = refl;
+        warnings = refl;
+        statements = refl;
+      }
+
+  same-refused : (v w : Verdict) → v .number ≡ w .number → v .kind ≡ w .kind → SamePlace s u v w → v .character ≡ w .character
+      → SameCheck s u (refusedCheck v) (refusedCheck w)
+  same-refused v w n k p c =
+      record {
+        number = n;
+        kind = k;
+        place = p;
+        character = c;
+        tokens = refl;
+        nodes = refl;
+        errors = refl;
+        warnings = refl;
+        statements = refl;
+      }
+
+  same-at : (n at : ℕ) → SameCheck s u (refusedCheck (placed n (tokenPlace s at))) (refusedCheck (placed n (tokenPlace u at)))
+  same-at n at =
+      same-refused (placed n (tokenPlace s at)) (placed n (tokenPlace u at)) refl refl (at-token at refl refl refl refl) refl
+
+  same-within : (room t n : ℕ) (ds : List Diag) (hs : List Held)
+      → let a = checkedWithin room t n ds hs in SameCheck s u a a
+  same-within room t n ds hs =
+      each-side (λ a. SameCheck s u a a) (eqb (errorsIn ds) 0)
+      (each-side (λ a. SameCheck s u a a) (ltb room (length hs)) (same _ refl refl) (same _ refl refl)) (same _ refl refl)
+
+  module _ {p q : Parsed} (h : SameParse s u p q) where
+    same-judged : (room : ℕ) (o : Outcome)
+        → SameCheck s u (judgedWithin s room (p .tokens) (p .nodes) o) (judgedWithin u room (q .tokens) (q .nodes) o)
+    same-judged room (refused at) = same-at 9 at
+    same-judged room (judged ds hs) = rw (h .tokens, h .nodes) (same-within room (q .tokens) (q .nodes) ds hs)
+
+    -- after parsing, by the first call
+    same-parsed : (room : ℕ) (c : Option ℕ) (o : Outcome)
+        → SameCheck s u
+        (elim c [ some at ↦ refusedCheck (placed 8 (tokenPlace s at)) | none ↦ judgedWithin s room (p .tokens) (p .nodes) o ])
+        (elim c [ some at ↦ refusedCheck (placed 8 (tokenPlace u at)) | none ↦ judgedWithin u room (q .tokens) (q .nodes) o ])
+    same-parsed room (some at) o = same-at 8 at
+    same-parsed room none o = same-judged room o
+
+    same-after : (room : ℕ) (cs : List Content) (a b : Bool) → a ≡ b
+        → SameCheck s u (checked-after s room cs p a) (checked-after u room cs q b)
+    unfolding checked-after
+    same-after room cs a b e =
+        rw e
+        (both-sides (SameCheck s u) b
+        (λ _. same-parsed room (firstCall (parsedNodes (program cs))) (judgeAll cs (statementsOf (program cs))))
+        (λ _. same-refused (p .verdict) (q .verdict) (h .number) (h .kind) (h .place) (h .character)))
+
+same-answer : (s u : List ℕ) → Lexes s → Lexes u → contents (tokens s) ≡ contents (tokens u) → (t n k : ℕ)
+    → SameCheck s u (checkAnswer s t n k) (checkAnswer u t n k)
+same-answer s u h l e t n k =
+    let p = parsed-by-contents s u h l e .1 t n in
+    rw (checked-by s t n k, checked-by u t n k, e)
+    (same-after s u p k (contents (tokens u)) _ _ (ap (λ (m : ℕ). eqb m 0) (p .number)))
+
+-- and so is its number, by the words of tables
+same-number : (s u : List ℕ) → Lexes s → Lexes u → contents (tokens s) ≡ contents (tokens u) → (t n k : ℕ)
+    → checkAnswer s (t / tokenWidth) (n / nodeWidth) (k / stmtWidth) .verdict .number
+    ≡ checkAnswer u (t / tokenWidth) (n / nodeWidth) (k / stmtWidth) .verdict .number
+same-number s u h l e t n k = same-answer s u h l e (t / tokenWidth) (n / nodeWidth) (k / stmtWidth) .number
+
+-- ---- findings
+
+-- a type's text is none of the source
+no-source : (t : Ty) → tyText t ≡ 1 → ⊥
+no-source tyBool e = omega arith
+no-source (tyInt t) e = omega arith
+no-source tyIp4 e = omega arith
+no-source tySock4 e = omega arith
+no-source tyBytes e = omega arith
+no-source (tyFunction k) e = omega arith
+no-source tyInteger e = omega arith
+
+module _ (s u : List ℕ) where
+  -- details that go by no token
+  same-detail : (w : What) (a : Detail) → (a .text ≡ 1 → ⊥) → (whatKind w ≡ 8 → ⊥) → SameDetail s u w a a
+  same-detail w a n b =
+      record {
+        severity = refl;
+        kind = refl;
+        text = refl;
+        name = λ e. absurd (n e);
+        start = λ _. refl;
+        end = λ _. refl;
+        type = refl;
+        bound = λ t e. absurd (b (ap whatKind e));
+        first = λ _. refl;
+        second = λ _. refl;
+        third = refl;
+      }
+
+  -- two tokens that show the same name
+  module _ (t v : Token) (e : between s (t .start) (t .end) ≡ between u (v .start) (v .end)) where
+    same-named : (w : What) (a b : ℕ) → (whatKind w ≡ 8 → ⊥) → SameDetail s u w (named w t a b) (named w v a b)
+    same-named w a b n =
+        record {
+          severity = refl;
+          kind = refl;
+          text = refl;
+          name = λ _. e;
+          start = λ n. absurd (n refl);
+          end = λ n. absurd (n refl);
+          type = refl;
+          bound = λ x q. absurd (n (ap whatKind q));
+          first = λ _. refl;
+          second = λ _. refl;
+          third = refl;
+        }
+
+    same-bound : (x : ℕ)
+        → SameDetail s u (alreadyBound x) (named (alreadyBound x) t (tokenOf s x .line) (tokenOf s x .column))
+        (named (alreadyBound x) v (tokenOf u x .line) (tokenOf u x .column))
+    same-bound x =
+        record {
+          severity = refl;
+          kind = refl;
+          text = refl;
+          name = λ _. e;
+          start = λ n. absurd (n refl);
+          end = λ n. absurd (n refl);
+          type = refl;
+          bound = λ y q. let z : x ≡ y = cc in rw z ((refl, refl), (refl, refl));
+          first = λ n. absurd (n x refl);
+          second = λ n. absurd (n x refl);
+          third = refl;
+        }
+
+  module _ (e : contents (tokens s) ≡ contents (tokens u)) where
+    abbrev cs : List Content
+    cs = contents (tokens s)
+
+    same-name : (at : ℕ) → is cs at (name []) ≡ true
+        → between s (tokenOf s at .start) (tokenOf s at .end) ≡ between u (tokenOf u at .start) (tokenOf u at .end)
+    same-name at h =
+        name-shown s at h ∙ ap (λ (x : List Content). nameAt x at) e ∙ sym (name-shown u at (rw e at h))
+
+    shows : (at : ℕ) (w : What) (a b : ℕ) → is cs at (name []) ≡ true → (whatKind w ≡ 8 → ⊥)
+        → SameDetail s u w (named w (tokenOf s at) a b) (named w (tokenOf u at) a b)
+    shows at w a b h = same-named (tokenOf s at) (tokenOf u at) (same-name at h) w a b
+
+    same-finding : (at : ℕ) (w : What) → Shown cs w at → SameDetail s u w (detail (tokenOf s) at w) (detail (tokenOf u) at w)
+    same-finding at unknownName h = shows at unknownName 0 0 h (omega arith)
+    same-finding at (unknownItem m) h = shows at (unknownItem m) (entryAt m .start) (entryAt m .end) h (omega arith)
+    same-finding at unknownModule h = shows at unknownModule 0 0 h (omega arith)
+    same-finding at notImported h = shows at notImported 0 0 h (omega arith)
+    same-finding at notAModule h = shows at notAModule 0 0 h (omega arith)
+    same-finding at notAValue h = shows at notAValue 0 0 h (omega arith)
+    same-finding at multipleImports h = shows at multipleImports 0 0 h (omega arith)
+    same-finding at (alreadyBound t) h = same-bound (tokenOf s at) (tokenOf u at) (same-name at h) t
+    same-finding at (noMembers t) h = same-detail _ _ (no-source t) (omega arith)
+    same-finding at (operandType x t f) h = same-detail _ _ (no-source f) (omega arith)
+    same-finding at (discardedValue t) h = same-detail _ _ (no-source t) (omega arith)
+    same-finding at (truncated n t) h = same-detail _ _ (no-source t) (omega arith)
+    same-finding at integralTooLarge h = same-detail _ _ (omega arith) (omega arith)
+
+    -- ---- statements
+
+    same-bodies : (t : ℕ) → Right cs (isString t) → bodiesAt s t ≡ bodiesAt u t
+    same-bodies t (b, bs, h) = bodies-shown s t b bs h ∙ sym (bodies-shown u t b bs (rw e at h))
+
+    same-held : (h : Held) → Right cs (h .value) → SameHeld s u h
+    unfolding stmtRow
+    same-held h r = record { row = refl; bodies = λ t q. same-bodies t (rw q at r) }
+
+-- ---- the claims
+
+pub checked-by-contents : CheckedByContents
+unfolding checked checkNodes checkDiags checkStmts
+checked-by-contents s u h l e =
+    let g = outcome-grounded (contents (tokens s)) in
+    record {
+      answer = same-answer s u h l e;
+      nodes = λ t n k. rw (same-number s u h l e t n k, e);
+      outcome = rw e;
+      diags = λ t n k m. (refl, rw (same-number s u h l e t n k, e));
+      stmts = λ t n k. (refl, rw (same-number s u h l e t n k, e));
+      finding = λ d m. same-finding s u e (d .at) (d .what) (g .found .holds d m);
+      statement = λ d m. same-held s u e d (g .kept .holds d m);
+    }
+
+pub text-checked : TextChecked
+text-checked s f = let r = round-trip s f in checked-by-contents (text s) s (r .0) (f .lexes) (r .1)

@@ -1,0 +1,131 @@
+-- Each call's answer goes by the rows of 01's table.
+use Prim.Native.Nat.{ℕ, suc}
+use mathlib.Core.Path.{_≡_, refl}
+use mathlib.Core.List.{List, _++_}
+use mathlib.Core.Logic.{_↔_}
+use native.Mathlib.Omega.{arith}
+use lib.Dec.{ltb, eqb}
+use lib.ListN.{length, drop}
+use Rattle.language.specs.Utf8.{firstBad}
+use Rattle.language.specs.Lexemes.{scan}
+use Rattle.language.specs.Tokens.{items, firstWrong, tokens, contents, placeOf}
+use Rattle.language.specs.Canonical.{text}
+use Rattle.language.specs.Sentences.{Out, ok, no, Stmt, nodes}
+use Rattle.language.specs.Judgements.{Outcome, judged, refused, errorsIn}
+use Rattle.language.specs.Numbers.{mostBytes, Verdict, verdict, placed, lexical, tokenPlace, Scanned, scanned, scanAnswer, Lexed, lexed, lexAnswer, Parsed, parsedAs, parseAnswer, parsedNodes, Canonised, canonAnswer, Checked, refusedCheck, firstCall, statementsOf, checked, judgedWithin, checkAnswer}
+use Rattle.language.specs.Names.{FirstTooMany}
+use Rattle.language.specs.Exactly.{TooLong, NotUtf8, WrongLexeme, TokensExceed, Stops, NodesExceed, bare, stopping, done, lexing, sentences, judging, parse, Reason, unexpectedToken, intOutOfRange, oneTooMany, scanRows, lexRows, parseRows, canonRows, checkRows, ScanExactly, LexExactly, ParseExactly, CanonExactly, CheckExactly}
+use Rattle.language.proofs.SentenceRefusals.{stops-for}
+use Rattle.language.proofs.Names.{names-refused}
+use Rattle.language.proofs.ExactlyRows.{absent, Met, here, later, rowOf, exactly, less, equal, tested, one-tested, both-tested, finds, after}
+
+all-done : Met (verdict 0 0 0) done
+all-done = here (bare 0 Unit) tt refl refl
+
+-- ---- scan
+
+scan-met : (line : List ℕ) (room : ℕ) → Met (scanAnswer line room .verdict) (scanRows line room)
+unfolding scanAnswer
+scan-met line room =
+    let v : Scanned → Verdict = λ a. a .verdict in
+    tested v 1 (ltb mostBytes (length line)) (less mostBytes (length line)) refl
+    (finds v (firstBad line) (λ at. scanned (verdict 2 1 (suc at)) 0)
+    (λ at e. here (rowOf 2 (scanRows line room)) (record { byte = at; found = e }) refl refl)
+    (λ e. later (λ h. absent e (h .found)) (tested v 4 (ltb room (length (scan line))) (less room (length (scan line))) refl all-done)))
+
+pub scan-exactly : ScanExactly
+scan-exactly line room = exactly (scanAnswer line room .verdict) (scanRows line room) refl (scan-met line room)
+
+-- ---- lex
+
+lex-met : (s : List ℕ) (room : ℕ) → Met (lexAnswer s room .verdict) (lexRows s room)
+unfolding lexAnswer
+lex-met s room =
+    let v : Lexed → Verdict = λ a. a .verdict in
+    tested v 1 (ltb mostBytes (length s)) (less mostBytes (length s)) refl
+    (finds v (firstBad s) (λ at. lexed (placed 2 (placeOf s at)) 0)
+    (λ at e. here (rowOf 2 (lexing s room)) (record { byte = at; found = e }) refl refl)
+    (λ e. later (λ h. absent e (h .found))
+    (finds v (firstWrong (items s)) (λ w. lexed (lexical w) 0)
+    (λ w f. here (rowOf 3 (lexing s room)) (record { lexeme = w; found = f }) refl refl)
+    (λ f. later (λ h. absent f (h .found)) (tested v 4 (ltb room (length (tokens s))) (less room (length (tokens s))) refl all-done)))))
+
+pub lex-exactly : LexExactly
+lex-exactly s room = exactly (lexAnswer s room .verdict) (lexRows s room) refl (lex-met s room)
+
+-- ---- parse
+
+-- parsing that stops with one number does not stop with another, nor does it go to the end
+stops-once : {o : Out (List Stmt)} {n k at m l u : ℕ} → o ≡ no n k at → o ≡ no m l u → n ≡ m
+stops-once e f = cc
+
+ends : {o : Out (List Stmt)} {ss : List Stmt} {at x n k u : ℕ} → o ≡ ok ss at x → o ≡ no n k u → ⊥
+ends e f = let z : _≡_ {A = ℕ} 0 1 = cc in absurd (omega arith)
+
+module _ (s : List ℕ) (room count : ℕ) where
+  stopped : (n k at : ℕ) → Reason n k → parse s ≡ no n k at
+      → Met (parsedAs s room count (no n k at) .verdict) (sentences s room ++ done)
+  stopped n k at unexpectedToken e = here (stopping 5 s) (record { kind = 1; token = at; found = e }) refl refl
+  stopped n k at intOutOfRange e = here (stopping 5 s) (record { kind = 2; token = at; found = e }) refl refl
+  stopped n k at oneTooMany e =
+      later (λ h. let z = stops-once e (h .found) in omega arith)
+      (here (stopping 7 s) (record { kind = 0; token = at; found = e }) refl refl)
+
+  parsed-met : (o : Out (List Stmt)) → parse s ≡ o → Met (parsedAs s room count o .verdict) (sentences s room ++ done)
+  parsed-met (no n k at) e = stopped n k at (stops-for (contents (tokens s)) n k at e) e
+  parsed-met (ok ss at x) e =
+      later (λ h. ends e (h .found)) (later (λ h. ends e (h .found))
+      (rw e (tested (λ (a : Parsed). a .verdict) 6 (ltb room (length (nodes ss))) (less room (length (nodes ss))) refl all-done)))
+
+parse-met : (s : List ℕ) (t n : ℕ) → Met (parseAnswer s t n .verdict) (parseRows s t n)
+unfolding parseAnswer
+parse-met s t n =
+    let l = lexAnswer s t in
+    after (λ (a : Parsed). a .verdict) (lexing s t) (l .verdict) refl (lex-met s t) refl (parsed-met s n (l .count) (parse s) refl)
+
+pub parse-exactly : ParseExactly
+parse-exactly s t n = exactly (parseAnswer s t n .verdict) (parseRows s t n) refl (parse-met s t n)
+
+-- ---- canonicalise
+
+pub canon-exactly : CanonExactly
+unfolding canonAnswer
+canon-exactly s t n =
+    let v : Canonised → Verdict = λ a. a .verdict in
+    let m = length (text s) in
+    exactly (canonAnswer s t n .verdict) (canonRows s t n) refl
+    (after v (lexing s t) (lexAnswer s t .verdict) refl (lex-met s t) refl
+    (one-tested v 10 (ltb n m) (ltb mostBytes m) (less n m) (less mostBytes m) refl refl all-done))
+
+-- ---- check
+
+refused-at : (s : List ℕ) (at : ℕ) → checked s ≡ refused at ↔ FirstTooMany (contents (tokens s)) (statementsOf (parse s)) at
+unfolding checked
+refused-at s at = names-refused (contents (tokens s)) (statementsOf (parse s)) at
+
+judged-met : (s : List ℕ) (room t n : ℕ) (o : Outcome) → checked s ≡ o
+    → Met (judgedWithin s room t n o .verdict) (drop 1 (judging s room) ++ done)
+judged-met s room t n (refused at) e = here (rowOf 9 (judging s room)) (record { token = at; found = refused-at s at .0 e }) refl refl
+judged-met s room t n (judged ds hs) e =
+    later (λ h. let f = refused-at s (h .token) .1 (h .found) in let z : _≡_ {A = ℕ} 0 1 = cc in omega arith)
+    (rw e
+    (both-tested (λ (a : Checked). a .verdict) 11 (eqb (errorsIn ds) 0) (ltb room (length hs)) (equal (errorsIn ds) 0)
+    (less room (length hs)) refl all-done all-done))
+
+pub check-exactly : CheckExactly
+unfolding checkAnswer
+check-exactly s t n k =
+    let v : Checked → Verdict = λ a. a .verdict in
+    let p = parseAnswer s t n in
+    exactly (checkAnswer s t n k .verdict) (checkRows s t n k) refl
+    (after v (lexing s t ++ sentences s n) (p .verdict) refl (parse-met s t n) refl
+    (finds v (firstCall (parsedNodes (parse s))) (λ at. refusedCheck (placed 8 (tokenPlace s at)))
+    (λ at e. here (rowOf 8 (judging s k)) (record { token = at; found = e }) refl refl)
+    (λ e. later (λ h. absent e (h .found)) (judged-met s k (p .tokens) (p .nodes) (checked s) refl))))
+
+-- ---- one instance, written out
+
+six : (s : List ℕ) (t n : ℕ)
+    → parseAnswer s t n .verdict .number ≡ 6
+    ↔ (¬ TooLong s) × ((¬ NotUtf8 s) × ((¬ WrongLexeme s) × ((¬ TokensExceed s t) × ((¬ Stops 5 s) × ((¬ Stops 7 s) × NodesExceed s n)))))
+six s t n = parse-exactly s t n .given 6

@@ -1,0 +1,340 @@
+-- What is found and held stands for tokens of the right kinds: a finding that shows a name stands at one, and a string that
+-- is held is one.
+use Prim.Native.Nat.{ℕ, zero, suc, _+_, _*_, _<_}
+use mathlib.Core.Path.{_≡_, refl}
+use mathlib.Core.Bool.{true, false}
+use mathlib.Core.List.{List, [], _∷_, _++_, List·Memᴰ·head, List·Memᴰ·tail}
+use mathlib.Core.Option.{Option, none, some}
+use native.Mathlib.Omega.{arith}
+use native.Mathlib.Decide.{decLt}
+use lib.Dec.{ltb}
+use lib.ListN.{length, getD}
+use Rattle.language.specs.Choice.{if′}
+use Rattle.language.specs.Integers.{smallest, isTruncated}
+use Rattle.language.specs.Lexemes.{Tok, lParen, rParen, dot, doubleColon, colon, semiColon, equals, comma, slash, importKeyword, letKeyword, identifier, booleanLiteral, ipv4Literal, hexLiteral, decLiteral, same}
+use Rattle.language.specs.Tokens.{Content, eof, plain, name, string}
+use Rattle.language.specs.Tables.{bit}
+use Rattle.language.specs.Sentences.{Expr, Stmt, firstOf, Out, ok, no, is, program}
+use Rattle.language.specs.Grammar.{PathNames, is-start, is-name, Chain, is-literal, is-address, is-sock4, is-local, is-path, is-member, is-call, Slashed, is-chain, is-slash, Expression, is-expression, Statement, is-import, is-let, is-expr, Program, is-end, is-next}
+use Rattle.language.specs.Values.{Value, isInteger, isBool, isSized, isIp4, isSock4, isString, isText, isFunction, Entry, entry, entries, entryAt, lookup}
+use Rattle.language.specs.Judgements.{What, unknownName, unknownItem, unknownModule, notImported, notAModule, notAValue, alreadyBound, noMembers, operandType, integralTooLarge, multipleImports, discardedValue, truncated, Diag, Judged, val, err, poisoned, Judgement, judgement, andThen, goesOn, Known, known, Import, Binding, Held, Turn, goes, full, Outcome, find, findImport, mostImports, mostNames, content, nameAt, tokValue, literalValue, leftOf, rightOf, cut, narrowed, lastItem, innerItem, walk, below, boundTo, judge, imported, importStmt, bound, letStmt, discarded, told, stmt, onward, run, judgeAll}
+use Rattle.language.specs.Numbers.{statementsOf, foundBy, heldBy}
+use Rattle.language.proofs.Tests.{each-side}
+use Rattle.language.proofs.Each.{Each, of-none, of-one, of-both}
+use Rattle.language.proofs.SentenceOutcomes.{Every}
+use Rattle.language.proofs.GrammarSound.{found-program}
+use Rattle.language.proofs.GrammarRows.{names-next}
+
+module _ (ts : List Content) where
+  -- the kinds that show a name ask for one where they stand
+  abbrev pub Shown : What → ℕ → Type 0
+  Shown unknownName at = is ts at (name []) ≡ true
+  Shown (unknownItem m) at = is ts at (name []) ≡ true
+  Shown unknownModule at = is ts at (name []) ≡ true
+  Shown notImported at = is ts at (name []) ≡ true
+  Shown notAModule at = is ts at (name []) ≡ true
+  Shown notAValue at = is ts at (name []) ≡ true
+  Shown (alreadyBound t) at = is ts at (name []) ≡ true
+  Shown multipleImports at = is ts at (name []) ≡ true
+  Shown (noMembers t) at = Unit {0}
+  Shown (operandType s t u) at = Unit {0}
+  Shown integralTooLarge at = Unit {0}
+  Shown (discardedValue t) at = Unit {0}
+  Shown (truncated n t) at = Unit {0}
+
+  abbrev pub Stands : Diag → Type 0
+  Stands d = Shown (d .what) (d .at)
+
+  -- a string is that of a string's token
+  abbrev pub Right : Value → Type 0
+  Right (isString t) = (b : List ℕ) × (bs : List (List ℕ)) × (content ts t ≡ string b bs)
+  Right (isInteger n) = Unit {0}
+  Right (isBool b) = Unit {0}
+  Right (isSized t n) = Unit {0}
+  Right (isIp4 n) = Unit {0}
+  Right (isSock4 n p) = Unit {0}
+  Right (isText a b) = Unit {0}
+  Right (isFunction k) = Unit {0}
+
+  abbrev RightIf : Option Value → Type 0
+  RightIf (some v) = Right v
+  RightIf none = Unit {0}
+
+  -- ---- values
+
+  tok-right : (k : Tok) → Right (tokValue k)
+  tok-right (booleanLiteral b) = tt
+  tok-right (ipv4Literal n) = tt
+  tok-right (hexLiteral n) = tt
+  tok-right (decLiteral n) = tt
+  tok-right lParen = tt
+  tok-right rParen = tt
+  tok-right dot = tt
+  tok-right doubleColon = tt
+  tok-right colon = tt
+  tok-right semiColon = tt
+  tok-right equals = tt
+  tok-right comma = tt
+  tok-right slash = tt
+  tok-right importKeyword = tt
+  tok-right letKeyword = tt
+  tok-right identifier = tt
+
+  literal-right : (t : ℕ) (c : Content) → content ts t ≡ c → Right (literalValue t c)
+  literal-right t (string b bs) e = (b, bs, e)
+  literal-right t (plain k) e = tok-right k
+  literal-right t (name bs) e = tt
+  literal-right t eof e = tt
+
+  narrowed-right : (v : Value) → Right v → RightIf (narrowed v)
+  narrowed-right (isInteger n) h =
+      elim (smallest n) as (λ o. RightIf (elim o [ some t ↦ some (isSized t n) | none ↦ none ])) [ some t ↦ tt | none ↦ tt ]
+  narrowed-right (isBool b) h = tt
+  narrowed-right (isSized t n) h = tt
+  narrowed-right (isIp4 n) h = tt
+  narrowed-right (isSock4 n p) h = tt
+  narrowed-right (isString t) h = h
+  narrowed-right (isText a b) h = tt
+  narrowed-right (isFunction k) h = tt
+
+  -- the constant table holds no string of the source
+  abbrev AllRight : List Entry → Type 0
+  AllRight [] = Unit {0}
+  AllRight (e ∷ es) = RightIf (e .value) × AllRight es
+
+  getD-right : (es : List Entry) (k : ℕ) → AllRight es → RightIf (getD es k (entry 0 0 0 none) .value)
+  getD-right [] k h = tt
+  getD-right (e ∷ es) zero h = h .0
+  getD-right (e ∷ es) (suc k) h = getD-right es k (h .1)
+
+  entry-right : (k : ℕ) → RightIf (entryAt k .value)
+  unfolding entries
+  entry-right zero = tt
+  entry-right (suc k) = getD-right entries k search
+
+  -- ---- what is known
+
+  abbrev Bound : Binding → Type 0
+  Bound b = RightIf (b .value)
+
+  abbrev Sure : Known → Type 0
+  Sure k = Each Bound (k .bindings)
+
+  abbrev BoundIf : Option Binding → Type 0
+  BoundIf (some b) = Bound b
+  BoundIf none = Unit {0}
+
+  find-bound : (bs : List Binding) (w : List ℕ) → Each Bound bs → BoundIf (find bs w)
+  unfolding find
+  find-bound [] w h = tt
+  find-bound (b ∷ bs) w h =
+      elim (same (b .name) w) as (λ t. BoundIf (if′ t (some b) (find bs w))) [
+        | true ↦ h .holds b (List·Memᴰ·head refl)
+        | false ↦ find-bound bs w (record { holds = λ c m. h .holds c (List·Memᴰ·tail m) })
+      ]
+
+  -- ---- judgements
+
+  abbrev Sound : Judged → Type 0
+  Sound (val v) = Right v
+  Sound (err at w) = Shown w at
+  Sound poisoned = Unit {0}
+
+  record Fine (j : Judgement) : Type 0 where
+    out : Sound (j .out)
+    warns : Each Stands (j .warns)
+
+  alone : {o : Judged} → Sound o → Fine (judgement o [])
+  alone h = record { out = h; warns = of-none }
+
+  then-fine : (j : Judgement) (f : Value → Judgement) → Fine j → ((v : Value) → Right v → Fine (f v)) → Fine (andThen j f)
+  unfolding andThen
+  then-fine j f h g = by (j .out) (h .out)
+    where
+      by : (o : Judged) → Sound o → Fine (goesOn o (j .warns) f)
+      by (val v) r = record { out = g v r .out; warns = of-both (h .warns) (g v r .warns) }
+      by (err at w) r = record { out = r; warns = h .warns }
+      by poisoned r = record { out = tt; warns = h .warns }
+
+  bound-sound : (t : ℕ) (o : Option Binding) → is ts t (name []) ≡ true → BoundIf o → Sound (boundTo ts t o)
+  bound-sound t none a h = a
+  bound-sound t (some b) a h = by (b .value) h
+    where
+      by : (o : Option Value) → RightIf o → Sound (elim o [ some v ↦ val v | none ↦ poisoned ])
+      by (some v) r = r
+      by none r = tt
+
+  -- ---- paths
+
+  -- the names after the one at t, n of them
+  abbrev Names : ℕ → ℕ → Type 0
+  Names t n = (j : ℕ) → j < n → is ts (t + 2 * suc j) (name []) ≡ true
+
+  names-at : {mid n next : ℕ} (at : ℕ) → mid ≡ at + 1 → PathNames ts mid n next → Names at n
+  names-at at h is-start j l = absurd (omega arith)
+  names-at at h (is-name {n = n} {t = t} p a b) j l =
+      elim (decLt j n) [
+        | Dec.yes m ↦ names-at at h p j m
+        | Dec.no m ↦ let last : t ≡ at + 2 * suc j = omega (arith, names-next ts p, a .after) in rw last at (b .passes)
+      ]
+
+  last-sound : (t : ℕ) (o : Option Value) → is ts t (name []) ≡ true → RightIf o → Sound (lastItem ts t o)
+  last-sound t (some v) a h = h
+  last-sound t none a h = a
+
+  inner-sound : (t : ℕ) (o : Option Value) (j : Judged) → is ts t (name []) ≡ true → Sound j → Sound (innerItem ts t o j)
+  inner-sound t (some v) j a h = a
+  inner-sound t none j a h = h
+
+  walk-sound : (n m t : ℕ) → Names t n → Sound (walk ts n m t)
+  unfolding walk
+  walk-sound zero m t h = tt
+  walk-sound (suc zero) m t h =
+      elim (lookup m (nameAt ts (t + 2)))
+      as (λ o. Sound (elim o [ none ↦ err (t + 2) (unknownItem m) | some k ↦ lastItem ts (t + 2) (entryAt k .value) ])) [
+        | none ↦ h 0 (omega arith)
+        | some k ↦ last-sound (t + 2) (entryAt k .value) (h 0 (omega arith)) (entry-right k)
+      ]
+  walk-sound (suc (suc n)) m t h =
+      elim (lookup m (nameAt ts (t + 2)))
+      as (λ o. Sound (elim o [
+        | none ↦ err (t + 2) (unknownItem m)
+        | some k ↦ innerItem ts (t + 2) (entryAt k .value) (walk ts (suc n) k (t + 2))
+      ])) [
+        | none ↦ h 0 (omega arith)
+        | some k ↦ inner-sound (t + 2) (entryAt k .value) (walk ts (suc n) k (t + 2)) (h 0 (omega arith))
+            (walk-sound (suc n) k (t + 2) (λ j l.
+            let on : t + 2 * suc (suc j) ≡ t + 2 + 2 * suc j = omega arith in rw on at (h (suc j) (omega arith))))
+      ]
+
+  below-sound : (t n : ℕ) (o : Option Import) → is ts t (name []) ≡ true → Names t n → Sound (below ts t n o)
+  below-sound t n none a h = a
+  below-sound t n (some i) a h =
+      elim (i .found) as (λ o. Sound (elim o [ none ↦ poisoned | some m ↦ walk ts n m t ])) [ none ↦ tt | some m ↦ walk-sound n m t h ]
+
+  -- ---- expressions
+
+  module _ (n : ℕ) where
+    cut-fine : (at i : ℕ) → Each Stands (cut ts n at i)
+    cut-fine at i =
+        each-side (Each Stands) (isTruncated i) (of-one tt) of-none
+
+    right-fine : (ip at : ℕ) (v : Value) → Fine (rightOf ts n ip at v)
+    right-fine ip at (isInteger i) = record { out = tt; warns = cut-fine at i }
+    right-fine ip at (isSized t i) = record { out = tt; warns = cut-fine at i }
+    right-fine ip at (isBool b) = record { out = tt; warns = cut-fine at (bit b) }
+    right-fine ip at (isIp4 i) = alone tt
+    right-fine ip at (isSock4 i p) = alone tt
+    right-fine ip at (isString t) = alone tt
+    right-fine ip at (isText a b) = alone tt
+    right-fine ip at (isFunction k) = alone tt
+
+    left-fine : (at : ℕ) (f : ℕ → Judgement) (v : Value) → ((i : ℕ) → Fine (f i)) → Fine (leftOf ts at f v)
+    left-fine at f (isIp4 i) h = h i
+    left-fine at f (isInteger i) h = alone tt
+    left-fine at f (isSized t i) h = alone tt
+    left-fine at f (isBool b) h = alone tt
+    left-fine at f (isSock4 i p) h = alone tt
+    left-fine at f (isString t) h = alone tt
+    left-fine at f (isText a b) h = alone tt
+    left-fine at f (isFunction k) h = alone tt
+
+    module _ (k : Known) (sure : Sure k) where
+      chain-fine : {d at next : ℕ} {e : Expr} → Chain ts d at e next → Fine (judge ts n k e)
+      unfolding judge
+      chain-fine (is-literal {at = at} a) = alone (literal-right at (content ts at) refl)
+      chain-fine (is-address {at = at} a b) = alone (literal-right at (content ts at) refl)
+      chain-fine (is-sock4 a b c) = alone tt
+      chain-fine (is-local {at = at} a b) =
+          alone (bound-sound at (find (k .bindings) (nameAt ts at)) (a .passes) (find-bound (k .bindings) (nameAt ts at) sure))
+      chain-fine (is-path {at = at} {n = m} a p l b) =
+          alone (below-sound at m (findImport (k .imports) (nameAt ts at)) (a .passes) (names-at at (a .after) p))
+      chain-fine (is-member {e = e} c a b) = then-fine (judge ts n k e) _ (chain-fine c) (λ v h. alone tt)
+      chain-fine (is-call c l) = alone tt
+
+      slashed-fine : {d at next : ℕ} {e : Expr} → Slashed ts d at e next → Fine (judge ts n k e)
+      unfolding judge
+      slashed-fine (is-chain c) = chain-fine c
+      slashed-fine (is-slash {e = e} {r} c a q) =
+          then-fine (judge ts n k e) _ (slashed-fine c) (λ v h.
+          left-fine (firstOf e) _ v (λ ip. then-fine (judge ts n k r) _ (chain-fine q) (λ w l. right-fine ip (firstOf r) w)))
+
+      expr-fine : {d at next : ℕ} {e : Expr} → Expression ts d at e next → Fine (judge ts n k e)
+      expr-fine (is-expression c l) = slashed-fine c
+
+  -- ---- statements
+
+  abbrev pub Kept : Held → Type 0
+  Kept h = Right (h .value)
+
+  abbrev Turned : Turn → Type 0
+  Turned (goes k ds hs) = Sure k × Each Stands ds × Each Kept hs
+  Turned (full t) = Unit {0}
+
+  module _ (n : ℕ) (k : Known) (sure : Sure k) where
+    imported-turned : (t : ℕ) (o : Option ℕ) → is ts t (name []) ≡ true → Turned (imported ts n k t o)
+    imported-turned t (some m) a = (sure, of-none, of-none)
+    imported-turned t none a = (sure, of-one a, of-none)
+
+    import-turned : (t : ℕ) (o : Option Import) → is ts t (name []) ≡ true → Turned (importStmt ts n k t o)
+    import-turned t (some i) a = (sure, of-one a, of-none)
+    import-turned t none a = each-side Turned (ltb (length (k .imports)) mostImports) (imported-turned t (lookup 0 (nameAt ts t)) a) tt
+
+    bound-turned : (t : ℕ) (o : Judged) (ws : List Diag) → Sound o → Each Stands ws → Turned (bound ts n k t o ws)
+    bound-turned t (val v) ws h l = (of-both sure (of-one h), l, of-none)
+    bound-turned t (err at w) ws h l = (of-both sure (of-one tt), of-both l (of-one h), of-none)
+    bound-turned t poisoned ws h l = (of-both sure (of-one tt), l, of-none)
+
+    let-turned : (t : ℕ) (e : Expr) (o : Option Binding) → is ts t (name []) ≡ true → Fine (judge ts n k e)
+        → Turned (letStmt ts n k t e o)
+    let-turned t e (some b) a f = (sure, of-one a, of-none)
+    let-turned t e none a f =
+        each-side Turned (ltb (length (k .bindings)) mostNames)
+        (bound-turned t (judge ts n k e .out) (judge ts n k e .warns) (f .out) (f .warns)) tt
+
+    discarded-turned : (at : ℕ) (o : Option Value) (ws : List Diag) → RightIf o → Each Stands ws → Turned (discarded ts n k at o ws)
+    discarded-turned at (some v) ws h l = (sure, of-both l (of-one tt), of-one h)
+    discarded-turned at none ws h l = (sure, of-both l (of-one tt), of-none)
+
+    told-turned : (at : ℕ) (o : Judged) (ws : List Diag) → Sound o → Each Stands ws → Turned (told ts n k at o ws)
+    told-turned at (val v) ws h l = discarded-turned at (narrowed v) ws (narrowed-right v h) l
+    told-turned at (err p w) ws h l = (sure, of-both l (of-one h), of-none)
+    told-turned at poisoned ws h l = (sure, l, of-none)
+
+    stmt-turned : {at next : ℕ} {s : Stmt} → Statement ts at s next → Turned (stmt ts n k s)
+    unfolding stmt
+    stmt-turned (is-import {t = t} a b c) = import-turned t (findImport (k .imports) (nameAt ts t)) (b .passes)
+    stmt-turned (is-let {t = t} {e = e} a b c x o) =
+        let-turned t e (find (k .bindings) (nameAt ts t)) (b .passes) (expr-fine n k sure x)
+    stmt-turned (is-expr {e = e} x o) =
+        let f = expr-fine n k sure x in told-turned (firstOf e) (judge ts n k e .out) (judge ts n k e .warns) (f .out) (f .warns)
+
+  -- ---- the run
+
+  pub record Grounded (o : Outcome) : Type 0 where
+    pub found : Each Stands (foundBy o)
+    pub kept : Each Kept (heldBy o)
+
+  onward-grounded : (t : Turn) (ds : List Diag) (hs : List Held) (f : Known → List Diag → List Held → Outcome) → Turned t
+      → Each Stands ds → Each Kept hs
+      → ((k : Known) (es : List Diag) (gs : List Held) → Sure k → Each Stands es → Each Kept gs → Grounded (f k es gs))
+      → Grounded (onward ts t ds hs f)
+  onward-grounded (full t) ds hs f h a b g = record { found = of-none; kept = of-none }
+  onward-grounded (goes k es gs) ds hs f h a b g = g k (ds ++ es) (hs ++ gs) (h .0) (of-both a (h .1)) (of-both b (h .2))
+
+  run-grounded : {at next : ℕ} {ss : List Stmt} → Program ts at ss next → (n : ℕ) (k : Known) (ds : List Diag) (hs : List Held)
+      → Sure k → Each Stands ds → Each Kept hs → Grounded (run ts ss n k ds hs)
+  unfolding run
+  run-grounded (is-end e) n k ds hs sure a b = record { found = a; kept = b }
+  run-grounded (is-next {s = s} {ss} x p) n k ds hs sure a b =
+      onward-grounded (stmt ts n k s) ds hs (λ k′ es gs. run ts ss (suc n) k′ es gs) (stmt-turned n k sure x) a b
+      (λ k′ es gs c d e. run-grounded p (suc n) k′ es gs c d e)
+
+  -- whatever the contents are, and if they are no program nothing is found
+  parsed-grounded : (o : Out (List Stmt)) → Every (λ ss next x. Program ts 0 ss next) o → Grounded (judgeAll ts (statementsOf o))
+  unfolding run
+  parsed-grounded (ok ss at x) h = run-grounded (h .holds) 1 (known [] []) [] [] of-none of-none of-none
+  parsed-grounded (no n m at) h = record { found = of-none; kept = of-none }
+
+  pub outcome-grounded : Grounded (judgeAll ts (statementsOf (program ts)))
+  outcome-grounded = parsed-grounded (program ts) (found-program ts)

@@ -1,0 +1,285 @@
+-- Statements are refused at a name exactly when it is the first that is one too many.
+use Prim.Native.Nat.{ℕ, suc, _<_}
+use mathlib.Core.Path.{_≡_, refl, sym, ap, _∙_}
+use mathlib.Core.Bool.{Bool, true, false, _||_}
+use mathlib.Core.List.{List, [], _∷_, _++_, map, append-assoc, append-nil}
+use mathlib.Core.Option.{Option, none, some}
+use native.Mathlib.Omega.{arith}
+use borrow.Author.Tests.{ltb-true, ltb-false}
+use lib.Dec.{ltb}
+use lib.ListN.{length, length-append}
+use Rattle.language.specs.Choice.{if′}
+use Rattle.language.specs.Lexemes.{same}
+use Rattle.language.specs.Tokens.{Content}
+use Rattle.language.specs.Sentences.{Expr, Stmt, import′, let′, expr′, firstOf}
+use Rattle.language.specs.Values.{Value, lookup}
+use Rattle.language.specs.Judgements.{Diag, Judged, val, err, poisoned, Known, known, Import, Binding, Held, Turn, goes, full, refused, find, findImport, mostImports, mostNames, nameAt, narrowed, judge, imported, importStmt, bind, bound, letStmt, discarded, told, stmt, onward, run}
+use Rattle.language.specs.Names.{letNames, importNames, TooMany, NamesRefused}
+use Rattle.language.proofs.LexemeSizes.{by-cases}
+use Rattle.language.proofs.DistinctNames.{among, Kept, none-kept, repeated, added, filled}
+
+-- ---- what is known, by name
+
+abbrev isFound : {A : Type 0} → Option A → Bool
+isFound none = false
+isFound (some a) = true
+
+abbrev bindingName : Binding → List ℕ
+bindingName b = b .name
+
+abbrev importName : Import → List ℕ
+importName i = i .name
+
+-- a name is found exactly if it is among them
+module _ (w : List ℕ) where
+  bound-among : (bs : List Binding) → among w (map bindingName bs) ≡ isFound (find bs w)
+  unfolding find among
+  bound-among [] = refl
+  bound-among (b ∷ bs) =
+      elim (same (b .name) w) as (λ t. t || among w (map bindingName bs) ≡ isFound (if′ t (some b) (find bs w))) [
+        | true ↦ refl
+        | false ↦ bound-among bs
+      ]
+
+  imported-among : (is : List Import) → among w (map importName is) ≡ isFound (findImport is w)
+  unfolding findImport among
+  imported-among [] = refl
+  imported-among (i ∷ is) =
+      elim (same (i .name) w) as (λ t. t || among w (map importName is) ≡ isFound (if′ t (some i) (findImport is w))) [
+        | true ↦ refl
+        | false ↦ imported-among is
+      ]
+
+module _ (ts : List Content) where
+  -- after the statements us their distinct names are known
+  record Knows (us : List Stmt) (k : Known) : Type 0 where
+    lets : Kept bindingName mostNames (k .bindings) (letNames ts us)
+    imports : Kept importName mostImports (k .imports) (importNames ts us)
+
+  lets-append : (us vs : List Stmt) → letNames ts (us ++ vs) ≡ letNames ts us ++ letNames ts vs
+  unfolding letNames
+  lets-append [] vs = refl
+  lets-append (let′ t e ∷ us) vs = ap (λ (r : List (List ℕ)). nameAt ts t ∷ r) (lets-append us vs)
+  lets-append (import′ t ∷ us) vs = lets-append us vs
+  lets-append (expr′ e ∷ us) vs = lets-append us vs
+
+  imports-append : (us vs : List Stmt) → importNames ts (us ++ vs) ≡ importNames ts us ++ importNames ts vs
+  unfolding importNames
+  imports-append [] vs = refl
+  imports-append (import′ t ∷ us) vs = ap (λ (r : List (List ℕ)). nameAt ts t ∷ r) (imports-append us vs)
+  imports-append (let′ t e ∷ us) vs = imports-append us vs
+  imports-append (expr′ e ∷ us) vs = imports-append us vs
+
+  -- ---- one statement
+
+  -- it goes on, and has no name that is one too many; or it stops, at that name
+  After : List Stmt → Stmt → Turn → Type 0
+  After us s (goes k ds hs) = Knows (us ++ s ∷ []) k × ((u : ℕ) → ¬ TooMany ts us s u)
+  After us s (full t) = TooMany ts us s t
+
+  module _ (us : List Stmt) (k : Known) (h : Knows us k) where
+    -- names of the other kind stay as they are
+    lets-stay : (s : Stmt) → letNames ts (s ∷ []) ≡ [] → Kept bindingName mostNames (k .bindings) (letNames ts (us ++ s ∷ []))
+    lets-stay s e = rw (lets-append us (s ∷ []), e, append-nil) (h .lets)
+
+    imports-stay : (s : Stmt) → importNames ts (s ∷ []) ≡ []
+        → Kept importName mostImports (k .imports) (importNames ts (us ++ s ∷ []))
+    imports-stay s e = rw (imports-append us (s ∷ []), e, append-nil) (h .imports)
+
+    module _ (n t : ℕ) where
+      module _ (e : Expr) where
+        let-knows : (bs : List Binding) → Kept bindingName mostNames bs (letNames ts us ++ nameAt ts t ∷ [])
+            → Knows (us ++ let′ t e ∷ []) (known (k .imports) bs)
+        unfolding letNames importNames
+        let-knows bs m = record { lets = rw (lets-append us (let′ t e ∷ [])) m; imports = imports-stay (let′ t e) refl }
+
+        bound-after : (o : Judged) (ws : List Diag) → among (nameAt ts t) (map bindingName (k .bindings)) ≡ false
+            → length (k .bindings) < mostNames → After us (let′ t e) (bound ts n k t o ws)
+        unfolding After
+        bound-after o ws new room = go o
+          where
+            binds : (v : Option Value) → Knows (us ++ let′ t e ∷ []) (bind ts n k t v) × ((u : ℕ) → ¬ TooMany ts us (let′ t e) u)
+            binds v =
+                let b : Binding = record { name = nameAt ts t; tok = t; value = v } in
+                let a = added bindingName (h .lets) b new room in
+                (let-knows (k .bindings ++ b ∷ []) (a .0), λ u m. a .1 (m .1))
+
+            go : (o : Judged) → After us (let′ t e) (bound ts n k t o ws)
+            go (val v) = binds (some v)
+            go (err at w) = binds none
+            go poisoned = binds none
+
+        let-after : (o : Option Binding) → find (k .bindings) (nameAt ts t) ≡ o → After us (let′ t e) (letStmt ts n k t e o)
+        unfolding After
+        let-after (some b) f =
+            let a = repeated bindingName (h .lets) (nameAt ts t) (bound-among (nameAt ts t) (k .bindings) ∙ ap isFound f) in
+            (let-knows (k .bindings) (a .0), λ u m. a .1 (m .1))
+        let-after none f =
+            let new = bound-among (nameAt ts t) (k .bindings) ∙ ap isFound f in
+            by-cases (After us (let′ t e)) (ltb (length (k .bindings)) mostNames)
+            (λ r. bound-after (judge ts n k e .out) (judge ts n k e .warns) new (ltb-true (length (k .bindings)) mostNames r))
+            (λ r. (refl, filled bindingName (h .lets) (nameAt ts t) new (ltb-false (length (k .bindings)) mostNames r)))
+
+      import-knows : (is : List Import) → Kept importName mostImports is (importNames ts us ++ nameAt ts t ∷ [])
+          → Knows (us ++ import′ t ∷ []) (known is (k .bindings))
+      unfolding letNames importNames
+      import-knows is m = record { lets = lets-stay (import′ t) refl; imports = rw (imports-append us (import′ t ∷ [])) m }
+
+      imported-after : (o : Option ℕ) → among (nameAt ts t) (map importName (k .imports)) ≡ false → length (k .imports) < mostImports
+          → After us (import′ t) (imported ts n k t o)
+      unfolding After
+      imported-after o new room = go o
+        where
+          adds : (v : Option ℕ)
+              → Knows (us ++ import′ t ∷ []) (known (k .imports ++ record { name = nameAt ts t; found = v } ∷ []) (k .bindings))
+              × ((u : ℕ) → ¬ TooMany ts us (import′ t) u)
+          adds v =
+              let i : Import = record { name = nameAt ts t; found = v } in
+              let a = added importName (h .imports) i new room in
+              (import-knows (k .imports ++ i ∷ []) (a .0), λ u m. a .1 (m .1))
+
+          go : (o : Option ℕ) → After us (import′ t) (imported ts n k t o)
+          go (some m) = adds (some m)
+          go none = adds none
+
+      import-after : (o : Option Import) → findImport (k .imports) (nameAt ts t) ≡ o → After us (import′ t) (importStmt ts n k t o)
+      unfolding After
+      import-after (some i) f =
+          let a = repeated importName (h .imports) (nameAt ts t) (imported-among (nameAt ts t) (k .imports) ∙ ap isFound f) in
+          (import-knows (k .imports) (a .0), λ u m. a .1 (m .1))
+      import-after none f =
+          let new = imported-among (nameAt ts t) (k .imports) ∙ ap isFound f in
+          by-cases (After us (import′ t)) (ltb (length (k .imports)) mostImports)
+          (λ r. imported-after (lookup 0 (nameAt ts t)) new (ltb-true (length (k .imports)) mostImports r))
+          (λ r. (refl, filled importName (h .imports) (nameAt ts t) new (ltb-false (length (k .imports)) mostImports r)))
+
+    module _ (n : ℕ) where
+      told-after : (e : Expr) (o : Judged) (ws : List Diag) → After us (expr′ e) (told ts n k (firstOf e) o ws)
+      unfolding After letNames importNames
+      told-after e o ws = go o
+        where
+          stays : Knows (us ++ expr′ e ∷ []) k × ((u : ℕ) → ¬ TooMany ts us (expr′ e) u)
+          stays = (record { lets = lets-stay (expr′ e) refl; imports = imports-stay (expr′ e) refl }, λ u m. m)
+
+          narrowed-after : (v : Option Value) → After us (expr′ e) (discarded ts n k (firstOf e) v ws)
+          narrowed-after (some v) = stays
+          narrowed-after none = stays
+
+          go : (o : Judged) → After us (expr′ e) (told ts n k (firstOf e) o ws)
+          go (val v) = narrowed-after (narrowed v)
+          go (err at w) = stays
+          go poisoned = stays
+
+      stmt-after : (s : Stmt) → After us s (stmt ts n k s)
+      unfolding stmt
+      stmt-after (import′ t) = import-after n t (findImport (k .imports) (nameAt ts t)) refl
+      stmt-after (let′ t e) = let-after n t e (find (k .bindings) (nameAt ts t)) refl
+      stmt-after (expr′ e) = told-after e (judge ts n k e .out) (judge ts n k e .warns)
+
+  -- ---- the run
+
+  -- of the statements ss after us none has a name that is one too many
+  abbrev Clear : List Stmt → List Stmt → Type 0
+  Clear us ss = (vs : List Stmt) (s : Stmt) (ws : List Stmt) (u : ℕ) → ss ≡ vs ++ s ∷ ws → ¬ TooMany ts (us ++ vs) s u
+
+  -- the first that has one stands among the statements ss after us
+  record Reached (us ss : List Stmt) (t : ℕ) : Type 0 where
+    before : List Stmt
+    here : Stmt
+    after : List Stmt
+    order : ss ≡ before ++ here ∷ after
+    tooMany : TooMany ts (us ++ before) here t
+    first : Clear us before
+
+  module _ (us : List Stmt) (s : Stmt) where
+    reached-here : {t : ℕ} (ss : List Stmt) → TooMany ts us s t → Reached us (s ∷ ss) t
+    reached-here ss h =
+        record {
+          before = [];
+          here = s;
+          after = ss;
+          order = refl;
+          tooMany = rw append-nil h;
+          first = λ vs x ws u e m.
+            let l : 0 ≡ length (vs ++ x ∷ ws) = ap length e in
+            omega (arith, l, length-append vs (x ∷ ws));
+        }
+
+    clear-more : (ss : List Stmt) → ((u : ℕ) → ¬ TooMany ts us s u) → Clear (us ++ s ∷ []) ss → Clear us (s ∷ ss)
+    clear-more ss h c [] x ws u e m =
+        let q : s ≡ x = cc in
+        h u (rw (append-nil, ← q) at m)
+    clear-more ss h c (v ∷ vs) x ws u e m =
+        let q : s ≡ v = cc in
+        let r : ss ≡ vs ++ x ∷ ws = cc in
+        c vs x ws u r (rw (q, append-assoc) m)
+
+    clear-less : (ss : List Stmt) → Clear us (s ∷ ss) → ((u : ℕ) → ¬ TooMany ts us s u) × Clear (us ++ s ∷ []) ss
+    clear-less ss c = (
+      λ u m. c [] s ss u refl (rw append-nil m),
+      λ vs x ws u e m. c (s ∷ vs) x ws u (ap (λ (r : List Stmt). s ∷ r) e) (rw append-assoc at m),
+    )
+
+    reached-later : {t : ℕ} (ss : List Stmt) → ((u : ℕ) → ¬ TooMany ts us s u) → Reached (us ++ s ∷ []) ss t → Reached us (s ∷ ss) t
+    reached-later ss h r =
+        record {
+          before = s ∷ r .before;
+          here = r .here;
+          after = r .after;
+          order = ap (λ (r : List Stmt). s ∷ r) (r .order);
+          tooMany = rw append-assoc at (r .tooMany);
+          first = clear-more (r .before) h (r .first);
+        }
+
+  -- a run that is refused at a name has reached it
+  refused-reached : {t : ℕ} (ss us : List Stmt) (n : ℕ) (k : Known) (ds : List Diag) (hs : List Held) → Knows us k
+      → run ts ss n k ds hs ≡ refused t → Reached us ss t
+  unfolding run After
+  refused-reached [] us n k ds hs h e = let z : _≡_ {A = ℕ} 0 1 = cc in absurd (omega arith)
+  refused-reached {t} (s ∷ ss) us n k ds hs h e =
+      by (stmt ts n k s) (stmt-after us k h n s) e (λ k′ es gs. refused-reached ss (us ++ s ∷ []) (suc n) k′ es gs)
+    where
+      by : (o : Turn) → After us s o → onward ts o ds hs (λ k′ es gs. run ts ss (suc n) k′ es gs) ≡ refused t
+          → ((k′ : Known) (es : List Diag) (gs : List Held) → Knows (us ++ s ∷ []) k′ → run ts ss (suc n) k′ es gs ≡ refused t
+          → Reached (us ++ s ∷ []) ss t)
+          → Reached us (s ∷ ss) t
+      by (full u) a f rest = let q : u ≡ t = cc in reached-here us s ss (rw q at a)
+      by (goes k′ es gs) a f rest = reached-later us s ss (a .1) (rest k′ (ds ++ es) (hs ++ gs) (a .0) f)
+
+  -- a statement has one name at the most
+  one-token : {u t : ℕ} (us : List Stmt) (s : Stmt) → TooMany ts us s u → TooMany ts us s t → u ≡ t
+  one-token us (let′ v e) a b = sym (a .0) ∙ b .0
+  one-token us (import′ v) a b = sym (a .0) ∙ b .0
+  one-token us (expr′ e) a b = absurd a
+
+  -- a run that reaches a name is refused there
+  reached-refused : {t : ℕ} (bs us : List Stmt) (s : Stmt) (ss : List Stmt) (n : ℕ) (k : Known) (ds : List Diag) (hs : List Held)
+      → Knows us k → Clear us bs → TooMany ts (us ++ bs) s t → run ts (bs ++ s ∷ ss) n k ds hs ≡ refused t
+  unfolding run After
+  reached-refused {t} [] us s ss n k ds hs h c m = by (stmt ts n k s) (stmt-after us k h n s) (rw append-nil at m)
+    where
+      by : (o : Turn) → After us s o → TooMany ts us s t → onward ts o ds hs (λ k′ es gs. run ts ss (suc n) k′ es gs) ≡ refused t
+      by (full u) a x = ap (λ (i : ℕ). refused i) (one-token us s a x)
+      by (goes k′ es gs) a x = absurd (a .1 t x)
+  reached-refused {t} (b ∷ bs) us s ss n k ds hs h c m =
+      let l = clear-less us b bs c in
+      by (stmt ts n k b) (stmt-after us k h n b) (l .0)
+      (λ k′ es gs i. reached-refused bs (us ++ b ∷ []) s ss (suc n) k′ es gs i (l .1) (rw append-assoc m))
+    where
+      by : (o : Turn) → After us b o → ((u : ℕ) → ¬ TooMany ts us b u)
+          → ((k′ : Known) (es : List Diag) (gs : List Held) → Knows (us ++ b ∷ []) k′ → run ts (bs ++ s ∷ ss) (suc n) k′ es gs ≡ refused t)
+          → onward ts o ds hs (λ k′ es gs. run ts (bs ++ s ∷ ss) (suc n) k′ es gs) ≡ refused t
+      by (full u) a x rest = absurd (x u a)
+      by (goes k′ es gs) a x rest = rest k′ (ds ++ es) (hs ++ gs) (a .0)
+
+  none-known : Knows [] (known [] [])
+  unfolding letNames importNames
+  none-known = record { lets = none-kept bindingName mostNames; imports = none-kept importName mostImports }
+
+pub names-refused : NamesRefused
+names-refused ts ss t = (
+  λ e. let r = refused-reached ts ss [] 1 (known [] []) [] [] (none-known ts) e in
+    record { before = r .before; here = r .here; after = r .after; order = r .order; tooMany = r .tooMany; first = r .first },
+  λ f. rw (f .order)
+    (reached-refused ts (f .before) [] (f .here) (f .after) 1 (known [] []) [] [] (none-known ts) (f .first) (f .tooMany)),
+)

@@ -1,0 +1,104 @@
+-- Checking goes by contents alone, so a source and its canonical text are checked alike (01, demand 3, its last sentence):
+-- "checking the text with the same rooms gives the same answer (refusals too, with the same number and kind), the same
+-- counts, and the same diagnostics and statements in the same order, places aside, names and string bodies compared by
+-- their bytes".
+use Prim.Native.Nat.{ℕ}
+use mathlib.Core.Path.{_≡_}
+use mathlib.Core.List.{List, [], List·Memᴰ}
+use lib.Dec.{eqb}
+use lib.ListN.{drop}
+use Rattle.table.specs.Table.{tabled}
+use Rattle.language.specs.Choice.{if′}
+use Rattle.language.specs.Tokens.{tokens, contents, between, bodiesIn}
+use Rattle.language.specs.Canonical.{text, Lexes, Fits}
+use Rattle.language.specs.Values.{isString}
+use Rattle.language.specs.Judgements.{What, alreadyBound, Diag, errorsIn, Held}
+use Rattle.language.specs.Findings.{Detail, detail, diagRow, diagWidth, stmtRow, stmtWidth}
+use Rattle.language.specs.Numbers.{Checked, checkAnswer, checkNodes, checkDiags, checkStmts, checked, foundBy, heldBy, tokenOf, whereDone, SamePlace}
+
+-- ---- answers
+
+-- "the same answer (refusals too, with the same number and kind), the same counts"; a refusal names the same token
+pub record SameCheck (s u : List ℕ) (a b : Checked) : Type 0 where
+  pub number : a .verdict .number ≡ b .verdict .number
+  pub kind : a .verdict .kind ≡ b .verdict .kind
+  pub place : SamePlace s u (a .verdict) (b .verdict)
+  pub character : a .verdict .character ≡ b .verdict .character
+  pub tokens : a .tokens ≡ b .tokens
+  pub nodes : a .nodes ≡ b .nodes
+  pub errors : a .errors ≡ b .errors
+  pub warnings : a .warnings ≡ b .warnings
+  pub statements : a .statements ≡ b .statements
+
+-- ---- findings
+
+-- the first two numbers are the place of a token
+abbrev pub TokenShown : List ℕ → Detail → ℕ → Type 0
+TokenShown s a t = (a .first ≡ tokenOf s t .line) × (a .second ≡ tokenOf s t .column)
+
+-- "the same diagnostics .., places aside, names .. compared by their bytes": what two rows of one kind say after their
+-- places. Where the text is 1 it is a name of the source, else a part of the constant table's text or none; a name bound
+-- twice shows where it was bound first, which is the same token in each source.
+pub record SameDetail (s u : List ℕ) (w : What) (a b : Detail) : Type 0 where
+  pub severity : a .severity ≡ b .severity
+  pub kind : a .kind ≡ b .kind
+  pub text : a .text ≡ b .text
+  pub name : a .text ≡ 1 → between s (a .start) (a .end) ≡ between u (b .start) (b .end)
+  pub start : (a .text ≡ 1 → ⊥) → a .start ≡ b .start
+  pub end : (a .text ≡ 1 → ⊥) → a .end ≡ b .end
+  pub type : a .type ≡ b .type
+  pub bound : (t : ℕ) → w ≡ alreadyBound t → TokenShown s a t × TokenShown u b t
+  pub first : ((t : ℕ) → w ≡ alreadyBound t → ⊥) → a .first ≡ b .first
+  pub second : ((t : ℕ) → w ≡ alreadyBound t → ⊥) → a .second ≡ b .second
+  pub third : a .third ≡ b .third
+
+-- a finding, by its rows for both sources
+abbrev pub SameFinding : List ℕ → List ℕ → Diag → Type 0
+SameFinding s u d = SameDetail s u (d .what) (detail (tokenOf s) (d .at) (d .what)) (detail (tokenOf u) (d .at) (d .what))
+
+-- ---- statements
+
+-- the bodies in the span of a token
+abbrev pub bodiesAt : List ℕ → ℕ → List (List ℕ)
+bodiesAt s t = bodiesIn (between s (tokenOf s t .start) (tokenOf s t .end))
+
+-- "the same .. statements .., places aside, .. string bodies compared by their bytes": a row is the same after its line and
+-- column, and the string that it names has the same bodies
+pub record SameHeld (s u : List ℕ) (h : Held) : Type 0 where
+  pub row : drop 2 (stmtRow (tokenOf s) h) ≡ drop 2 (stmtRow (tokenOf u) h)
+  pub bodies : (t : ℕ) → h .value ≡ isString t → bodiesAt s t ≡ bodiesAt u t
+
+-- ---- the claims
+
+-- the findings and the statements that checking with tables of t, n and k words leaves
+abbrev pub diagsLeft : List ℕ → ℕ → ℕ → ℕ → List Diag
+diagsLeft s t n k = whereDone s t n k (foundBy (checked s))
+
+abbrev pub stmtsLeft : List ℕ → ℕ → ℕ → ℕ → List Held
+stmtsLeft s t n k = whereDone s t n k (if′ (eqb (errorsIn (foundBy (checked s))) 0) (heldBy (checked s)) [])
+
+-- the table of diagnostics, of m words, has the rows of ds; the table of statements has those of hs
+abbrev pub DiagsAre : List ℕ → ℕ → ℕ → ℕ → ℕ → List Diag → Type 0
+DiagsAre s t n k m ds = checkDiags s t n k m ≡ tabled (diagRow (tokenOf s)) diagWidth m ds
+
+abbrev pub StmtsAre : List ℕ → ℕ → ℕ → ℕ → List Held → Type 0
+StmtsAre s t n k hs = checkStmts s t n k ≡ tabled (stmtRow (tokenOf s)) stmtWidth k hs
+
+-- the whole sentence. Findings and statements name tokens by their index, so "the same .. in the same order" is that the
+-- lists are equal: both tables have the rows of one list, and each of its members is the same, places aside.
+pub record CheckedAlike (s u : List ℕ) : Type 0 where
+  pub answer : (t n k : ℕ) → SameCheck s u (checkAnswer s t n k) (checkAnswer u t n k)
+  pub nodes : (t n k : ℕ) → checkNodes s t n k ≡ checkNodes u t n k
+  pub outcome : checked s ≡ checked u
+  pub diags : (t n k m : ℕ) → DiagsAre s t n k m (diagsLeft s t n k) × DiagsAre u t n k m (diagsLeft s t n k)
+  pub stmts : (t n k : ℕ) → StmtsAre s t n k (stmtsLeft s t n k) × StmtsAre u t n k (stmtsLeft s t n k)
+  pub finding : (d : Diag) → List·Memᴰ d (foundBy (checked s)) → SameFinding s u d
+  pub statement : (h : Held) → List·Memᴰ h (heldBy (checked s)) → SameHeld s u h
+
+-- sources that lex to the same contents are checked alike
+abbrev pub CheckedByContents : Type 0
+CheckedByContents = (s u : List ℕ) → Lexes s → Lexes u → contents (tokens s) ≡ contents (tokens u) → CheckedAlike s u
+
+-- and so are a source and its canonical text: "for sources that lex without refusal and whose canonical text fits"
+abbrev pub TextChecked : Type 0
+TextChecked = (s : List ℕ) → Fits s → CheckedAlike (text s) s

@@ -1,0 +1,203 @@
+-- "Given exactly when", read back (01, "Numbers handed back"): the table's rows as each call gives them, and the claims that
+-- the answers of `Numbers.antt` go by them.
+use Prim.Native.Nat.{ℕ, suc, _≤_, _<_}
+use mathlib.Core.Path.{_≡_}
+use mathlib.Core.Bool.{true, false}
+use mathlib.Core.List.{List, [], _∷_, _++_, map, List·Memᴰ}
+use mathlib.Core.Option.{none, some}
+use mathlib.Core.Logic.{_↔_, _⊎_}
+use lib.Dec.{eqb}
+use lib.ListN.{length}
+use Rattle.language.specs.Utf8.{firstBad}
+use Rattle.language.specs.Lexemes.{LexErrorKind, scan}
+use Rattle.language.specs.Tokens.{Content, Item, wrong, Wrong, items, firstWrong, tokens, contents, placeOf}
+use Rattle.language.specs.Canonical.{text}
+use Rattle.language.specs.Sentences.{Out, no, Stmt, Node, callKind, program}
+use Rattle.language.specs.Judgements.{errorsIn}
+use Rattle.language.specs.Numbers.{mostBytes, Verdict, verdict, placed, lexical, tokenPlace, scanAnswer, lexAnswer, parseAnswer, parsedNodes, canonAnswer, firstCall, statementsOf, checked, foundBy, heldBy, checkAnswer}
+use Rattle.language.specs.Names.{FirstTooMany}
+
+-- ---- "Given exactly when"
+
+-- "source over 65,536 bytes"
+abbrev pub TooLong : List ℕ → Type 0
+TooLong s = mostBytes < length s
+
+-- "not well-formed UTF-8", with its "first byte, stepping by whole characters, where no well-formed one starts"
+pub record NotUtf8 (s : List ℕ) : Type 0 where
+  pub byte : ℕ
+  pub found : firstBad s ≡ some byte
+
+-- "a lexical error", with "the first such lexeme"
+pub record WrongLexeme (s : List ℕ) : Type 0 where
+  pub lexeme : Wrong
+  pub found : firstWrong (items s) ≡ some lexeme
+
+-- "tokens with `Eof` (for scan: lexemes) exceed the room"
+abbrev pub TokensExceed : List ℕ → ℕ → Type 0
+TokensExceed s room = room < length (tokens s)
+
+abbrev pub LexemesExceed : List ℕ → ℕ → Type 0
+LexemesExceed line room = room < length (scan line)
+
+-- what the tokens of a source are parsed to
+abbrev pub parse : List ℕ → Out (List Stmt)
+parse s = program (contents (tokens s))
+
+-- parsing stops at a token: with 5 for "`UnexpectedToken` or the parser's `IntOutOfRange`", which its kind says, and with 7 at
+-- "a 33rd open list or a 65th step". It goes from token to token and stops once: "the earlier token decides".
+pub record Stops (n : ℕ) (s : List ℕ) : Type 0 where
+  pub kind : ℕ
+  pub token : ℕ
+  pub found : parse s ≡ no n kind token
+
+-- the numbers with which parsing stops, and their kinds: "Number 5 names which of its two kinds it is"
+pub data Reason : ℕ → ℕ → Type 0 where
+  unexpectedToken : Reason 5 1
+  intOutOfRange : Reason 5 2
+  oneTooMany : Reason 7 0
+
+-- "nodes exceed the room"
+abbrev pub NodesExceed : List ℕ → ℕ → Type 0
+NodesExceed s room = room < length (parsedNodes (parse s))
+
+-- "the tree holds a call", with "the first call's `(`"
+pub record HoldsCall (s : List ℕ) : Type 0 where
+  pub token : ℕ
+  pub found : firstCall (parsedNodes (parse s)) ≡ some token
+
+-- "a 513th distinct let name or 65th distinct import name, failed ones counted", with "the earlier such name"
+pub record NamesExceed (s : List ℕ) : Type 0 where
+  pub token : ℕ
+  pub found : FirstTooMany (contents (tokens s)) (statementsOf (parse s)) token
+
+-- "canonical text exceeds its room or 65,536 bytes"
+abbrev pub TextExceeds : List ℕ → ℕ → Type 0
+TextExceeds s room = (room < length (text s)) ⊎ (mostBytes < length (text s))
+
+-- "no errors, and statements exceed the room"
+abbrev pub StatementsExceed : List ℕ → ℕ → Type 0
+StatementsExceed s room = (errorsIn (foundBy (checked s)) ≡ 0) × (room < length (heldBy (checked s)))
+
+-- ---- the table
+
+-- a number, when it is given, and what is told with it: its place, and of 3 and 5 which of its kinds it is
+pub record Row : Type 1 where
+  pub number : ℕ
+  pub when : Type 0
+  pub told : when → Verdict
+
+abbrev pub row : (n : ℕ) (C : Type 0) → (C → Verdict) → Row
+row n C f = record { number = n; when = C; told = f }
+
+-- "0, 0"
+abbrev pub bare : ℕ → Type 0 → Row
+bare n C = row n C (λ _. verdict n 0 0)
+
+-- "that token"
+abbrev pub stopping : ℕ → List ℕ → Row
+stopping n s =
+    row n (Stops n s) (λ h.
+    let p = tokenPlace s (h .token) in
+    record { number = n; kind = h .kind; line = p .line; column = p .column; character = 0 })
+
+-- "done"
+abbrev pub done : List Row
+done = bare 0 Unit ∷ []
+
+-- lexing, then the parser, and then the checker: "6 only when neither 5 nor 7 holds"
+abbrev pub lexing : List ℕ → ℕ → List Row
+lexing s room =
+    bare 1 (TooLong s)
+    ∷ row 2 (NotUtf8 s) (λ h. placed 2 (placeOf s (h .byte)))
+    ∷ row 3 (WrongLexeme s) (λ h. lexical (h .lexeme))
+    ∷ bare 4 (TokensExceed s room)
+    ∷ []
+
+abbrev pub sentences : List ℕ → ℕ → List Row
+sentences s room = stopping 5 s ∷ stopping 7 s ∷ bare 6 (NodesExceed s room) ∷ []
+
+abbrev pub judging : List ℕ → ℕ → List Row
+judging s room =
+    row 8 (HoldsCall s) (λ h. placed 8 (tokenPlace s (h .token)))
+    ∷ row 9 (NamesExceed s) (λ h. placed 9 (tokenPlace s (h .token)))
+    ∷ bare 11 (StatementsExceed s room)
+    ∷ []
+
+-- "Scan gives 1, 2 and 4, with its line as line 1"
+abbrev pub scanRows : List ℕ → ℕ → List Row
+scanRows line room =
+    bare 1 (TooLong line)
+    ∷ row 2 (NotUtf8 line) (λ h. verdict 2 1 (suc (h .byte)))
+    ∷ bare 4 (LexemesExceed line room)
+    ∷ done
+
+-- "Lex gives 1 to 4, parse 1 to 7, check 1 to 9 and 11, canonicalise 1 to 4 and 10"
+abbrev pub lexRows : List ℕ → ℕ → List Row
+lexRows s t = lexing s t ++ done
+
+abbrev pub parseRows : List ℕ → ℕ → ℕ → List Row
+parseRows s t n = lexing s t ++ sentences s n ++ done
+
+abbrev pub checkRows : List ℕ → ℕ → ℕ → ℕ → List Row
+checkRows s t n k = lexing s t ++ sentences s n ++ judging s k ++ done
+
+abbrev pub canonRows : List ℕ → ℕ → ℕ → List Row
+canonRows s t n = lexing s t ++ bare 10 (TextExceeds s n) ∷ done
+
+-- ---- the claims
+
+-- "Smaller numbers go first": what the row of n says holds, and of no row before it. So `Given 3 (lexRows s room)` is
+-- (¬ TooLong s) × ((¬ NotUtf8 s) × WrongLexeme s).
+abbrev pub Given : ℕ → List Row → Type 0
+Given n [] = ⊥
+Given n (r ∷ rs) = elim (eqb n (r .number)) [ true ↦ r .when | false ↦ (¬ r .when) × Given n rs ]
+
+-- with the number of a row comes what that row tells
+abbrev pub Told : Verdict → List Row → Type 0
+Told v [] = Unit
+Told v (r ∷ rs) = (v .number ≡ r .number → (h : r .when) × (v ≡ r .told h)) × Told v rs
+
+-- an answer goes by rows: it has the number of one, exactly when that one says, and tells what that one tells
+pub record Exactly (v : Verdict) (rs : List Row) : Type 0 where
+  pub listed : List·Memᴰ (v .number) (map (λ r. r .number) rs)
+  pub given : (n : ℕ) → v .number ≡ n ↔ Given n rs
+  pub told : Told v rs
+
+abbrev pub ScanExactly : Type 0
+ScanExactly = (line : List ℕ) (room : ℕ) → Exactly (scanAnswer line room .verdict) (scanRows line room)
+
+abbrev pub LexExactly : Type 0
+LexExactly = (s : List ℕ) (room : ℕ) → Exactly (lexAnswer s room .verdict) (lexRows s room)
+
+abbrev pub ParseExactly : Type 0
+ParseExactly = (s : List ℕ) (t n : ℕ) → Exactly (parseAnswer s t n .verdict) (parseRows s t n)
+
+abbrev pub CanonExactly : Type 0
+CanonExactly = (s : List ℕ) (t n : ℕ) → Exactly (canonAnswer s t n .verdict) (canonRows s t n)
+
+abbrev pub CheckExactly : Type 0
+CheckExactly = (s : List ℕ) (t n k : ℕ) → Exactly (checkAnswer s t n k .verdict) (checkRows s t n k)
+
+-- ---- the claims on what is found
+
+-- "the first such lexeme": none before it is wrong; and none at all where none is found
+abbrev pub WrongIsFirst : Type 0
+WrongIsFirst =
+    (is : List Item)
+    → ((w : Wrong) → firstWrong is ≡ some w
+    → (p : List Item) × (q : List Item) × (is ≡ p ++ w .at ∷ q) × (w .at .piece ≡ wrong (w .kind)) × (firstWrong p ≡ none))
+    × (firstWrong is ≡ none → (i : Item) (e : LexErrorKind) → List·Memᴰ i is → i .piece ≡ wrong e → ⊥)
+
+-- parsing stops for no other reason
+abbrev pub StopsFor : Type 0
+StopsFor = (ts : List Content) (n k at : ℕ) → program ts ≡ no n k at → Reason n k
+
+-- "the first call's `(`": it is a call's, and no call's stands before it; and there is no call where none is found
+abbrev pub CallIsFirst : Type 0
+CallIsFirst =
+    (ns : List Node)
+    → ((t : ℕ) → firstCall ns ≡ some t
+    → ((n : Node) × List·Memᴰ n ns × (n .kind ≡ callKind) × (n .third ≡ t))
+    × ((n : Node) → List·Memᴰ n ns → n .kind ≡ callKind → t ≤ n .third))
+    × (firstCall ns ≡ none → (n : Node) → List·Memᴰ n ns → n .kind ≡ callKind → ⊥)

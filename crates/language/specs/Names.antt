@@ -1,0 +1,62 @@
+-- When number 9 is given (01, "Numbers handed back"): "a 513th distinct let name or 65th distinct import name, failed ones
+-- counted", over statements and contents alone. Nothing is judged here, so names that fail are counted like the others.
+use Prim.Native.Nat.{ℕ}
+use mathlib.Core.Path.{_≡_}
+use mathlib.Core.List.{List, [], _∷_, _++_, List·Memᴰ}
+use mathlib.Core.Logic.{_↔_}
+use lib.ListN.{length}
+use Rattle.language.specs.Choice.{if′}
+use Rattle.language.specs.Lexemes.{same}
+use Rattle.language.specs.Tokens.{Content}
+use Rattle.language.specs.Sentences.{Stmt, import′, let′, expr′}
+use Rattle.language.specs.Judgements.{nameAt, refused, judgeAll}
+
+-- names other than w
+unfoldable pub without : List ℕ → List (List ℕ) → List (List ℕ)
+without w [] = []
+without w (x ∷ xs) = if′ (same w x) (without w xs) (x ∷ without w xs)
+
+-- names in order, a name that occurred before left out
+unfoldable pub distinct : List (List ℕ) → List (List ℕ)
+distinct [] = []
+distinct (w ∷ ws) = w ∷ without w (distinct ws)
+
+-- w does not occur among the names ws, of which n are distinct
+pub record NewAfter (n : ℕ) (ws : List (List ℕ)) (w : List ℕ) : Type 0 where
+  pub new : ¬ List·Memᴰ w ws
+  pub count : length (distinct ws) ≡ n
+
+module _ (ts : List Content) where
+  -- the names of the `let`s, and of the imports
+  unfoldable pub letNames : List Stmt → List (List ℕ)
+  letNames [] = []
+  letNames (let′ t e ∷ ss) = nameAt ts t ∷ letNames ss
+  letNames (import′ t ∷ ss) = letNames ss
+  letNames (expr′ e ∷ ss) = letNames ss
+
+  unfoldable pub importNames : List Stmt → List (List ℕ)
+  importNames [] = []
+  importNames (import′ t ∷ ss) = nameAt ts t ∷ importNames ss
+  importNames (let′ t e ∷ ss) = importNames ss
+  importNames (expr′ e ∷ ss) = importNames ss
+
+  -- the statement after us has, at the token u, "a 513th distinct let name or 65th distinct import name"
+  abbrev pub TooMany : List Stmt → Stmt → ℕ → Type 0
+  TooMany us (let′ t e) u = (t ≡ u) × NewAfter 512 (letNames us) (nameAt ts t)
+  TooMany us (import′ t) u = (t ≡ u) × NewAfter 64 (importNames us) (nameAt ts t)
+  TooMany us (expr′ e) u = ⊥
+
+  -- "the earlier such name", at the token t: no statement before has one
+  pub record FirstTooMany (ss : List Stmt) (t : ℕ) : Type 0 where
+    pub before : List Stmt
+    pub here : Stmt
+    pub after : List Stmt
+    pub order : ss ≡ before ++ here ∷ after
+    pub tooMany : TooMany before here t
+    pub first : (us : List Stmt) (s : Stmt) (vs : List Stmt) (u : ℕ) → before ≡ us ++ s ∷ vs → ¬ TooMany us s u
+
+-- ---- the claim
+
+-- judging refuses statements at a token exactly when this name stands there
+abbrev pub NamesRefused : Type 0
+NamesRefused = (ts : List Content) (ss : List Stmt) (t : ℕ) → judgeAll ts ss ≡ refused t ↔ FirstTooMany ts ss t
