@@ -6,7 +6,7 @@ use printing::output;
 use wide::Wide;
 
 // A row of the table of diagnostics.
-struct Diagnostic {
+pub struct Diagnostic {
     line: u64,
     column: u64,
     // 1 for an error, 2 for a warning
@@ -25,7 +25,7 @@ struct Diagnostic {
 
 impl Diagnostic {
     // How many words a row has.
-    const ROW_WORDS: usize = 11;
+    pub const ROW_WORDS: usize = 11;
 }
 
 // The words of the row that starts at word `at`.

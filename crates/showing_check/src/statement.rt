@@ -8,7 +8,7 @@ use printing::output;
 use printing::token;
 
 // A row of the table of statements.
-struct Statement {
+pub struct Statement {
     line: u64,
     column: u64,
     kind: u64,
@@ -22,7 +22,7 @@ struct Statement {
 
 impl Statement {
     // How many words a row has.
-    const ROW_WORDS: usize = 7;
+    pub const ROW_WORDS: usize = 7;
 }
 
 // The words of the row that starts at word `at`.
