@@ -1,6 +1,7 @@
 // Diagnostics: a line has its place, `E` or `W`, its kind, and its fields in the order of check.rs.
 ghost use Prim.Native.Nat.{_+_, _≤_};
 ghost use lib.ListN.{length};
+use checker::Checker;
 use crate::types;
 use printing::output;
 use wide::Wide;
@@ -25,7 +26,7 @@ pub struct Diagnostic {
 
 impl Diagnostic {
     // How many words a row has.
-    pub const ROW_WORDS: usize = 11;
+    pub const ROW_WORDS: usize = Checker::DIAGNOSTIC_WORDS;
 }
 
 // The words of the row that starts at word `at`.
