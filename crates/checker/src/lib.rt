@@ -17,6 +17,8 @@ ghost use Rattle.checker.specs.Checking.{plusError, plusStatement, plusN
 ghost use Rattle.scan.specs.Scanning.{verdictAs};
 ghost use Rattle.checker.specs.Entry.{refusal, callAs, GivesUp, Parses, CheckSource};
 use constants::Constants;
+use lex::Lexer;
+use parse::Parser;
 use scan::Verdict;
 use judging::{Counts, Detail, Fault, Judged, Judgement, Text, Token, Value};
 use wide::{Size, Wide};
@@ -29,6 +31,10 @@ pub struct Checker {}
 impl Checker {
     pub const NAMES: usize = 512;
     pub const IMPORTS: usize = 64;
+
+    // How many words a row of the diagnostic table and a row of the statement table have.
+    pub const DIAGNOSTIC_WORDS: usize = Fault::WORDS;
+    pub const STATEMENT_WORDS: usize = 7;
 
     // An entry with no name and no value.
     pub const EMPTY: [u64; 6] = [0; 6];
@@ -187,7 +193,7 @@ fn put_stmt(stmts: &mut [u64], row: usize, tok: Token, v: Value)
     ensures { λ _. ⌜ HeldRow tok v row (now (stmts .entry)) (now (stmts .exit)) ⌝ }
 {
     let text = shown(v);
-    let words: [u64; 7] = [
+    let words: [u64; Checker::STATEMENT_WORDS] = [
         tok.line,
         tok.column,
         1,
@@ -196,8 +202,8 @@ fn put_stmt(stmts: &mut [u64], row: usize, tok: Token, v: Value)
         text.start,
         text.end,
     ];
-    if row < stmts.len() / 7 {
-        let at = row * 7;
+    if row < stmts.len() / Checker::STATEMENT_WORDS {
+        let at = row * Checker::STATEMENT_WORDS;
         table::put_row(&mut stmts[at..], 0, &words);
     }
 }
@@ -416,7 +422,7 @@ fn run(source: &[u8], toks: &[u64], nodes: &[u64], diags: &mut [u64], stmts: &mu
     let mut bindings = Checker::names();
     let mut imports = Checker::modules();
     let mut counts = Checker::start();
-    let rows = nodes.len() / 5;
+    let rows = nodes.len() / Parser::ROW_WORDS;
     let mut i: usize = 0;
     while i < rows {
         match stmt(source, toks, nodes, &mut bindings, &mut imports, diags, stmts, i, counts) {
@@ -464,7 +470,7 @@ fn first_call(nodes: &[u64]) -> Call
     ensures { λ r. ⌜ ((ns : List Node) → now (nodes .entry) ≡ flat nodeRow ns → r ≡ callAs (firstCall ns)) ⌝ }
 {
     let mut found = Call::Nowhere;
-    let mut i = nodes.len() / 5;
+    let mut i = nodes.len() / Parser::ROW_WORDS;
     while 0 < i {
         i -= 1;
         if judging::word(nodes, i, 0) == 8 {
@@ -519,7 +525,7 @@ fn at_token(toks: &[u64], count: usize, number: u64, t: u64) -> Verdict
     requires { ⌜ (1 ≤ count) × (7 * count ≤ length (now toks)) ⌝ }
     ensures { λ r. ⌜ ((s : List ℕ) → Lexed s (take (7 * count) (now (toks .entry))) → r ≡ verdictAs (placed number (tokenPlace s t))) ⌝ }
 {
-    let rows = 7 * count;
+    let rows = Lexer::ROW_WORDS * count;
     let tok = judging::token_at(&toks[..rows], t);
     Verdict::new(number, tok.line, tok.column)
 }
@@ -536,7 +542,7 @@ fn conclude(counts: Counts, count: usize, rows: usize, toks: &mut [u64], nodes: 
         table::clear(stmts);
         return done(counts, count, rows, 0);
     }
-    if stmts.len() / 7 < counts.statements {
+    if stmts.len() / Checker::STATEMENT_WORDS < counts.statements {
         return give_up(Verdict::new(11, 0, 0), toks, nodes, diags, stmts);
     }
     done(counts, count, rows, counts.statements)
@@ -550,8 +556,8 @@ fn check_statements(source: &[u8], toks: &mut [u64], nodes: &mut [u64], diags: &
         → CheckSource (now (source .entry)) (length (now (toks .entry))) (length (now (nodes .entry))) (length (now (diags .entry))) (length (now (stmts .entry)))
             r (now (toks .exit)) (now (nodes .exit)) (now (diags .exit)) (now (stmts .exit))) ⌝ }
 {
-    let token_words = 7 * count;
-    let node_words = 5 * rows;
+    let token_words = Lexer::ROW_WORDS * count;
+    let node_words = Parser::ROW_WORDS * rows;
     match run(source, &toks[..token_words], &nodes[..node_words], diags, stmts) {
         Turn::Went(counts) => conclude(counts, count, rows, toks, nodes, diags, stmts),
         Turn::Full(t) => {
@@ -568,7 +574,7 @@ fn check_tree(source: &[u8], toks: &mut [u64], nodes: &mut [u64], diags: &mut [u
     ensures { λ r. ⌜ CheckSource (now (source .entry)) (length (now (toks .entry))) (length (now (nodes .entry))) (length (now (diags .entry))) (length (now (stmts .entry)))
         r (now (toks .exit)) (now (nodes .exit)) (now (diags .exit)) (now (stmts .exit)) ⌝ }
 {
-    let node_words = 5 * rows;
+    let node_words = Parser::ROW_WORDS * rows;
     match first_call(&nodes[..node_words]) {
         Call::At(t) => {
             let found = at_token(toks, count, 8, t);

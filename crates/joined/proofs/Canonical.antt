@@ -1,21 +1,29 @@
 -- The proofs of the claims of specs/Canonical.antt.
 use Prim.Native.Nat.{ℕ, _/_}
 use mathlib.Core.Path.{_≡_, sym, ap, _∙_}
-use mathlib.Core.List.{List}
+use mathlib.Core.Bool.{Bool, true, false}
+use mathlib.Core.List.{List, [], List·Memᴰ, List·Memᴰ·not-nil}
+use lib.Dec.{eqb}
 use lib.ListN.{length, take}
 use Rattle.table.specs.Table.{padTo}
 use Rattle.table.proofs.Laws.{pad-prefix}
+use Rattle.language.specs.Choice.{if′}
 use Rattle.language.specs.Tables.{tokenWidth}
 use Rattle.language.specs.Tokens.{tokens, contents}
 use Rattle.language.specs.Canonical.{text}
 use Rattle.language.specs.Sentences.{nodeWidth}
-use Rattle.language.specs.Numbers as numbers
-use Rattle.language.specs.Numbers.{verdict, lexed, canonised, parseAnswer, parseNodes}
+use Rattle.language.specs.Judgements.{errorsIn}
+use Rattle.language.specs.Findings.{stmtWidth}
+use Rattle.language.specs.Numbers.{verdict, lexed, canonised, parseAnswer, parseNodes, foundBy, checked, checkAnswer, checkNodes}
+use Rattle.language.specs.Checks.{diagsLeft, stmtsLeft, CheckedAlike}
 use Rattle.parse.specs.declared.ParseAnswer.{ParseAnswer}
-use Rattle.parse.specs.Entry.{parsedAs, ParseSource}
+use Rattle.parse.specs.Entry.{parsedAs}
+use Rattle.checker.specs.declared.CheckAnswer.{CheckAnswer}
+use Rattle.checker.specs.Entry.{checkedAs, CheckSource}
 use Rattle.language.proofs.Canonical.{round-trip, own-text, same-text}
 use Rattle.language.proofs.TokenContents.{contents-decide}
 use Rattle.language.proofs.ParseClaims.{text-parsed}
+use Rattle.language.proofs.CheckClaims.{text-checked}
 use Rattle.language.proofs.Done.{lex-done, lex-leaves, FitsIn, lexes-in, canon-done, canon-done-only, canon-leaves-tokens, canon-leaves-text}
 use Rattle.lex.specs.declared.Lexed.{Lexed}
 use Rattle.lex.specs.Lexing.{lexedAs}
@@ -23,7 +31,7 @@ use Rattle.lex.specs.Entry.{LexSource}
 use Rattle.canon.specs.declared.Canonised.{Canonised}
 use Rattle.canon.specs.Writing.{Lexes}
 use Rattle.canon.specs.Entry.{canonisedAs, CanonSource}
-use Rattle.joined.specs.Canonical.{Done, textLeft, SameRows, DoneExactly, TextLexes, TextStays, SameTexts, SameTables, TextParses}
+use Rattle.joined.specs.Canonical.{Done, textLeft, SameRows, DoneExactly, TextLexes, TextStays, SameTexts, SameTables, TextParses, SameLeft, TextChecks}
 use Rattle.canon.proofs.Rows.{holds}
 use Rattle.joined.proofs.SameRows.{same-rows, same-written}
 
@@ -113,22 +121,64 @@ same-tables s u t n k m r q a b x y c d z w =
     (λ e. (counted c z ∙ contents-decide (tokens s) (tokens u) (told e) .0 ∙ sym (counted d w), same-rows h g (told e)),
     λ e. written c z ∙ same-written h g (e .0) (e .1) ∙ sym (written d w))
 
--- a field of two answers of parse, to the text and to its source
-parsed-field : {A : Type 0} (f : ParseAnswer → A) {s u : List ℕ} {t m : ℕ} {p q : ParseAnswer} {a b x y : List ℕ}
-    → ParseSource s t m p a x → ParseSource u t m q b y → u ≡ text s
-    → f (parsedAs (parseAnswer (text s) (t / tokenWidth) (m / nodeWidth))) ≡ f (parsedAs (parseAnswer s (t / tokenWidth) (m / nodeWidth))) → f q ≡ f p
-parsed-field f {s} {u} {t} {m} c d w e =
-    ap f (d .answer) ∙ ap (λ (v : List ℕ). f (parsedAs (parseAnswer v (t / tokenWidth) (m / nodeWidth)))) w ∙ e ∙ sym (ap f (c .answer))
+-- ---- parse and check
+
+-- a field of two answers, to the text and to its source
+same-field : {A B : Type 0} (f : A → B) (answer : List ℕ → A) {s u : List ℕ} {p q : A} → p ≡ answer s → q ≡ answer u → u ≡ text s
+    → f (answer (text s)) ≡ f (answer s) → f q ≡ f p
+same-field f answer c d w e = ap f d ∙ ap (λ (v : List ℕ). f (answer v)) w ∙ e ∙ sym (ap f c)
 
 pub text-parses : TextParses
 text-parses s t n r toks left c z m p q a b x y f g =
     let w = written c z in
     let h = text-parsed s (fits c z .fits) in
     let k = h .1 (t / tokenWidth) (m / nodeWidth) in
+    let answer : List ℕ → ParseAnswer = λ v. parsedAs (parseAnswer v (t / tokenWidth) (m / nodeWidth)) in
     (
       g .nodes ∙ ap (λ (v : List ℕ). parseNodes v t m) w ∙ h .0 t m ∙ sym (f .nodes),
-      parsed-field (λ (v : ParseAnswer). v .verdict .number) f g w (k .number),
-      parsed-field (λ (v : ParseAnswer). v .verdict .kind) f g w (k .kind),
-      parsed-field (λ (v : ParseAnswer). v .tokens) f g w (k .tokens),
-      parsed-field (λ (v : ParseAnswer). v .nodes) f g w (k .nodes),
+      same-field (λ (v : ParseAnswer). v .verdict .number) answer (f .answer) (g .answer) w (k .number),
+      same-field (λ (v : ParseAnswer). v .verdict .kind) answer (f .answer) (g .answer) w (k .kind),
+      same-field (λ (v : ParseAnswer). v .tokens) answer (f .answer) (g .answer) w (k .tokens),
+      same-field (λ (v : ParseAnswer). v .nodes) answer (f .answer) (g .answer) w (k .nodes),
+    )
+
+-- a member of a list that is kept or dropped is a member of it
+kept : {A : Type 0} {c : A} {xs : List A} (b : Bool) → List·Memᴰ c (if′ b xs []) → List·Memᴰ c xs
+kept true m = m
+kept false m = absurd (List·Memᴰ·not-nil m)
+
+-- what calls of check leave for the text and for its source
+same-left : (s : List ℕ) → CheckedAlike (text s) s → {t m d k : ℕ} {p q : CheckAnswer} {a b x y v w g h : List ℕ}
+    → CheckSource s t m d k p a x v g → CheckSource (text s) t m d k q b y w h → SameLeft (text s) s d k w v h g
+same-left s l {t} {m} {d} {k} e f =
+    let u = text s in
+    let two = l .diags t m k d in
+    let both = l .stmts t m k in
+    let done = eqb (checkAnswer u (t / tokenWidth) (m / nodeWidth) (k / stmtWidth) .verdict .number) 0 in
+    let clean = eqb (errorsIn (foundBy (checked u))) 0 in
+    record {
+      found = diagsLeft u t m k;
+      held = stmtsLeft u t m k;
+      diags = (f .diags ∙ two .0, e .diags ∙ two .1);
+      stmts = (f .stmts ∙ both .0, e .stmts ∙ both .1);
+      finding = λ c n. l .finding c (kept done n);
+      statement = λ c n. l .statement c (kept clean (kept done n));
+    }
+
+pub text-checks : TextChecks
+text-checks s t n r toks left c z m d k p q a b x y v w g h e f =
+    let u = written c z in
+    let l = text-checked s (fits c z .fits) in
+    let o = l .answer (t / tokenWidth) (m / nodeWidth) (k / stmtWidth) in
+    let answer : List ℕ → CheckAnswer = λ i. checkedAs (checkAnswer i (t / tokenWidth) (m / nodeWidth) (k / stmtWidth)) in
+    (
+      f .nodes ∙ ap (λ (i : List ℕ). checkNodes i t m k) u ∙ l .nodes t m k ∙ sym (e .nodes),
+      same-field (λ (i : CheckAnswer). i .verdict .number) answer (e .answer) (f .answer) u (o .number),
+      same-field (λ (i : CheckAnswer). i .verdict .kind) answer (e .answer) (f .answer) u (o .kind),
+      same-field (λ (i : CheckAnswer). i .tokens) answer (e .answer) (f .answer) u (o .tokens),
+      same-field (λ (i : CheckAnswer). i .nodes) answer (e .answer) (f .answer) u (o .nodes),
+      same-field (λ (i : CheckAnswer). i .errors) answer (e .answer) (f .answer) u (o .errors),
+      same-field (λ (i : CheckAnswer). i .warnings) answer (e .answer) (f .answer) u (o .warnings),
+      same-field (λ (i : CheckAnswer). i .statements) answer (e .answer) (f .answer) u (o .statements),
+      rw u (same-left s l e (rw u at f)),
     )

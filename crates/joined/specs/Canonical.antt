@@ -1,12 +1,17 @@
--- The theorems on canonical text (`RoundTrip`, `OwnText`, `SameText`, `TextParsed` of the crate `language`), said of what calls
--- of canonicalise, lex and parse answer and leave.
+-- The theorems on canonical text (`RoundTrip`, `OwnText`, `SameText`, `TextParsed`, `TextChecked` of the crate `language`), said
+-- of what calls of canonicalise, lex, parse and check answer and leave.
 use Prim.Native.Nat.{ℕ, _+_, _*_, _/_, _≤_}
 use mathlib.Core.Path.{_≡_}
-use mathlib.Core.List.{List}
+use mathlib.Core.List.{List, List·Memᴰ}
 use lib.ListN.{length, getD, take}
+use Rattle.table.specs.Table.{tabled}
 use Rattle.language.specs.Tables.{tokenWidth}
 use Rattle.language.specs.Tokens.{tokens, contents, between}
 use Rattle.language.specs.Canonical.{text, Fits}
+use Rattle.language.specs.Judgements.{Diag, Held}
+use Rattle.language.specs.Findings.{diagRow, diagWidth, stmtRow, stmtWidth}
+use Rattle.language.specs.Numbers.{tokenOf}
+use Rattle.language.specs.Checks.{SameFinding, SameHeld}
 use Rattle.lex.specs.declared.Lexed.{Lexed}
 use Rattle.lex.specs.Entry.{LexSource}
 use Rattle.lex.specs.Lexing.{bodyAt}
@@ -14,6 +19,8 @@ use Rattle.parse.specs.declared.ParseAnswer.{ParseAnswer}
 use Rattle.parse.specs.Entry.{ParseSource}
 use Rattle.canon.specs.declared.Canonised.{Canonised}
 use Rattle.canon.specs.Entry.{CanonSource}
+use Rattle.checker.specs.declared.CheckAnswer.{CheckAnswer}
+use Rattle.checker.specs.Entry.{CheckSource}
 
 -- a call that answered 0
 abbrev pub Done : Canonised → Type 0
@@ -44,6 +51,19 @@ pub record SameRow (s u a b : List ℕ) (row : ℕ) : Type 0 where
 -- all rows of both tables
 abbrev pub SameRows : List ℕ → List ℕ → List ℕ → List ℕ → Type 0
 SameRows s u a b = (i : ℕ) → SameRow s u a b (tokenWidth * i)
+
+-- ---- what two calls of check leave
+
+-- the tables w and h of the source u, and v and g of the source s (of diagnostics, d words, and of statements, k words), hold
+-- the same in the same order, places aside, names and string bodies compared by their bytes: they have the rows of one list of
+-- findings and of one list of statements, as many as fit, and each of these says the same in both sources
+pub record SameLeft (u s : List ℕ) (d k : ℕ) (w v h g : List ℕ) : Type 0 where
+  pub found : List Diag
+  pub held : List Held
+  pub diags : (w ≡ tabled (diagRow (tokenOf u)) diagWidth d found) × (v ≡ tabled (diagRow (tokenOf s)) diagWidth d found)
+  pub stmts : (h ≡ tabled (stmtRow (tokenOf u)) stmtWidth k held) × (g ≡ tabled (stmtRow (tokenOf s)) stmtWidth k held)
+  pub finding : (c : Diag) → List·Memᴰ c found → SameFinding u s c
+  pub statement : (c : Held) → List·Memᴰ c held → SameHeld u s c
 
 -- ---- the claims
 
@@ -94,3 +114,14 @@ TextParses =
     → (m : ℕ) (p q : ParseAnswer) (a b x y : List ℕ) → ParseSource source t m p a x → ParseSource (textLeft r left) t m q b y
     → (y ≡ x) × (q .verdict .number ≡ p .verdict .number) × (q .verdict .kind ≡ p .verdict .kind) × (q .tokens ≡ p .tokens)
     × (q .nodes ≡ p .nodes)
+
+-- 01, demand 3, its last sentence: checking that text with the same rooms "gives the same answer (refusals too, with the same
+-- number and kind), the same counts, and the same diagnostics and statements in the same order"; it leaves the same nodes
+abbrev pub TextChecks : Type 0
+TextChecks =
+    (source : List ℕ) (t n : ℕ) (r : Canonised) (toks left : List ℕ) → CanonSource source t n r toks left → Done r
+    → (m d k : ℕ) (p q : CheckAnswer) (a b x y v w g h : List ℕ)
+    → CheckSource source t m d k p a x v g → CheckSource (textLeft r left) t m d k q b y w h
+    → (y ≡ x) × (q .verdict .number ≡ p .verdict .number) × (q .verdict .kind ≡ p .verdict .kind) × (q .tokens ≡ p .tokens)
+    × (q .nodes ≡ p .nodes) × (q .errors ≡ p .errors) × (q .warnings ≡ p .warnings) × (q .statements ≡ p .statements)
+    × SameLeft (textLeft r left) source d k w v h g

@@ -62,6 +62,11 @@ pub struct Fault {
     pub detail: Detail,
 }
 
+impl Fault {
+    // How many words a row of the diagnostic table has.
+    pub const WORDS: usize = 11;
+}
+
 // What an expression comes to. A name whose `let` or `import` failed poisons what it stands in.
 pub enum Judged {
     Val(Value),
@@ -97,7 +102,7 @@ fn token_row(toks: &[u64], i: usize) -> Token
     requires { ⌜ 7 * i + 7 ≤ length (now toks) ⌝ }
     ensures { λ r. ⌜ r ≡ rowToken (now (toks .entry)) i ⌝ }
 {
-    let at = 7 * i;
+    let at = Token::WORDS * i;
     Token {
         kind: toks[at],
         line: toks[at + 1],
@@ -248,7 +253,7 @@ pub fn put_diag(diags: &mut [u64], row: usize, f: Fault)
     ensures { λ _. ⌜ now (diags .exit) ≡ putRow (now (diags .entry)) row (faultRow f) ⌝ }
 {
     let d = f.detail;
-    let words: [u64; 11] = [
+    let words: [u64; Fault::WORDS] = [
         f.line,
         f.column,
         d.severity,
@@ -262,8 +267,8 @@ pub fn put_diag(diags: &mut [u64], row: usize, f: Fault)
         d.third,
     ];
     // the table may have more rows than `put_row` counts
-    if row < diags.len() / 11 {
-        let at = row * 11;
+    if row < diags.len() / Fault::WORDS {
+        let at = row * Fault::WORDS;
         table::put_row(&mut diags[at..], 0, &words);
     }
 }

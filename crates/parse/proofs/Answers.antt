@@ -5,7 +5,7 @@ use Prim.Native.Nat.{ℕ, _+_, _*_, _≤_}
 use native.Mathlib.Omega.{arith}
 use lib.ListN.{length}
 use Rattle.language.specs.Sentences.{Expr, Args, Stmt, Out, ok, no, Node, nodesFrom}
-use Rattle.parse.specs.Parsing.{Holds, withStmt, Stands, Lists, MetExpr, MetArgs, MetStmt, MetAll, Ahead, AheadList}
+use Rattle.parse.specs.Parsing.{Holds, withStmt, Stands, Lists, MetExpr, MetArg, MetArgs, MetStmt, MetAll, Ahead, AheadList}
 use Rattle.parse.specs.declared.Parsed.{Parsed}
 use Rattle.parse.specs.declared.Parsed.the-variants.{Done, Refused}
 use Rattle.parse.specs.declared.Listed.{Listed}
@@ -43,6 +43,21 @@ module _ {r : Parsed} {t : List ℕ} {ns : List Node} {first : ℕ} where
 
 listing : {t : List ℕ} {ns : List Node} {g : Args} {m n last end : ℕ} → m ≡ n → last ≡ end → Lists t ns g m last → Lists t ns g n end
 listing p q h = rw (p, q) at h
+
+module _ {r : Parsed} {t : List ℕ} {ns : List Node} where
+  pub arg-done : {o : Out Args} {next n s : ℕ} → r ≡ Done next n s → MetArg r t ns o → (g : Args) × (o ≡ ok g next s) × Lists t ns g n n
+  arg-done {o = ok g at x} {n = n} q h = let d = h .met in let p : r ≡ Done at (d .0) x = d .1 in let same : d .0 ≡ n = cc in (g, (cc), listing same same (d .2))
+  arg-done {o = no m k a} q h = let p = h .met in never (cc)
+
+  pub arg-refused : {o : Out Args} {n k a : ℕ} → r ≡ Refused n k a → MetArg r t ns o → o ≡ no n k a
+  arg-refused {o = ok g at s} q h = let p = h .met .1 in never (cc)
+  arg-refused {o = no m j b} q h = let p = h .met in cc
+
+pub met-arg : {t : List ℕ} {ns : List Node} {o : Out Args} {g : Args} {at n s : ℕ} → o ≡ ok g at s → Lists t ns g n n → MetArg (Done at n s) t ns o
+met-arg {n = n} q h = record { met = rw q (n, refl, h) }
+
+pub met-arg-no : {t : List ℕ} {ns : List Node} {o : Out Args} {n k a : ℕ} → o ≡ no n k a → MetArg (Refused n k a) t ns o
+met-arg-no q = record { met = rw q refl }
 
 module _ {r : Listed} {t : List ℕ} {ns : List Node} where
   pub list-done : {o : Out Args} {next n last : ℕ} → r ≡ listed.Done next n last → MetArgs r t ns o → (g : Args) × (s : ℕ) × (o ≡ ok g next s) × Lists t ns g n last

@@ -153,38 +153,44 @@ module _ {toks : List ℕ} {ts : List Content} (rep : Rep toks ts) where
       both true false = refl
       both false b = refl
 
+  -- its value starts at v
+  module _ (p : ℕ → Out Expr) (g : Args) (at v : ℕ) (ev : v ≡ valueFrom (isNamed toks at) at) where
+    pub arg-no : (n j a : ℕ) → p v ≡ no n j a → argOf ts p g at ≡ no n j a
+    arg-no n j a q = rw (arg-is p g at, ← ev, q) refl
+
+    pub arg-go : (e : Expr) (next x : ℕ) → p v ≡ ok e next x → argOf ts p g at ≡ ok (withArg (isNamed toks at) g at e) next 0
+    arg-go e next x q = rw (arg-is p g at, ← ev, q) refl
+
   module _ (p : ℕ → Out Expr) (g : Args) (at : ℕ) where
     pub args-end : (k : ℕ) → length ts < at + k → kindAt toks at ≡ 3 → argsOf ts p k g at ≡ ok g (at + 1) 0
     unfolding argsOf
     args-end zero lt is3 = absurd (omega (arith, rep .long, inside toks at 1 is3))
     args-end (suc k) lt is3 = rw (is-true toks at rep 3 is3, argsOf)
 
-    module _ (v k : ℕ) (ev : v ≡ valueFrom (isNamed toks at) at) (le : 7 * at ≤ length toks) (lt : length ts < at + k) (no3 : kindAt toks at ≡ 3 → ⊥) where
+    module _ (k : ℕ) (le : 7 * at ≤ length toks) (lt : length ts < at + k) (no3 : kindAt toks at ≡ 3 → ⊥) where
       some : (k : ℕ) → length ts < at + k → (j : ℕ) × (k ≡ suc j)
       some zero lt = absurd (omega (arith, rep .long))
       some (suc j) lt = (j, refl)
 
-      pub args-no : (n j a : ℕ) → p v ≡ no n j a → argsOf ts p k g at ≡ no n j a
+      pub args-no : (n j a : ℕ) → argOf ts p g at ≡ no n j a → argsOf ts p k g at ≡ no n j a
       unfolding argsOf
-      args-no n j a q = rw (some k lt .1) (rw (is-false toks at rep 3 no3, argsOf) (rw (arg-is p g at, ← ev, q) refl))
+      args-no n j a q = rw (some k lt .1) (rw (is-false toks at rep 3 no3, argsOf) (rw q refl))
 
-      module _ (e : Expr) (next x : ℕ) (q : p v ≡ ok e next x) where
-        pub args-last : kindAt toks next ≡ 3 → argsOf ts p k g at ≡ ok (withArg (isNamed toks at) g at e) (next + 1) 0
+      module _ (h : Args) (next x : ℕ) (q : argOf ts p g at ≡ ok h next x) where
+        pub args-last : kindAt toks next ≡ 3 → argsOf ts p k g at ≡ ok h (next + 1) 0
         unfolding argsOf
-        args-last is3 =
-            let z = kind-is toks next rep 3 is3 in
-            rw (some k lt .1) (rw (is-false toks at rep 3 no3, argsOf) (rw (arg-is p g at, ← ev, q) (rw (z, andThen) refl)))
+        args-last is3 = let z = kind-is toks next rep 3 is3 in rw (some k lt .1) (rw (is-false toks at rep 3 no3, argsOf) (rw q (rw (z, andThen) refl)))
 
         pub args-bad : (kindAt toks next ≡ 9 → ⊥) → (kindAt toks next ≡ 3 → ⊥) → argsOf ts p k g at ≡ no 5 1 next
         unfolding argsOf
         args-bad no9 nor3 =
-            rw (some k lt .1) (rw (is-false toks at rep 3 no3, argsOf) (rw (arg-is p g at, ← ev, q) (rw (is-false toks next rep 9 no9, andThen) (rw (is-false toks next rep 3 nor3) refl))))
+            rw (some k lt .1) (rw (is-false toks at rep 3 no3, argsOf) (rw q (rw (is-false toks next rep 9 no9, andThen) (rw (is-false toks next rep 3 nor3) refl))))
 
-        go : (j : ℕ) → k ≡ suc j → kindAt toks next ≡ 9 → argsOf ts p k g at ≡ argsOf ts p j (withArg (isNamed toks at) g at e) (next + 1)
+        go : (j : ℕ) → k ≡ suc j → kindAt toks next ≡ 9 → argsOf ts p k g at ≡ argsOf ts p j h (next + 1)
         unfolding argsOf
-        go j f is9 = rw f (rw (is-false toks at rep 3 no3, argsOf) (rw (arg-is p g at, ← ev, q) (rw (is-true toks next rep 9 is9, andThen) refl)))
+        go j f is9 = rw f (rw (is-false toks at rep 3 no3, argsOf) (rw q (rw (is-true toks next rep 9 is9, andThen) refl)))
 
-        pub args-more : kindAt toks next ≡ 9 → at < next → (k′ : ℕ) × (length ts < next + 1 + k′) × (argsOf ts p k g at ≡ argsOf ts p k′ (withArg (isNamed toks at) g at e) (next + 1))
+        pub args-more : kindAt toks next ≡ 9 → at < next → (k′ : ℕ) × (length ts < next + 1 + k′) × (argsOf ts p k g at ≡ argsOf ts p k′ h (next + 1))
         args-more is9 up = let f = some k lt in (f .0, omega (arith, f .1), go (f .0) (f .1) is9)
 
   -- ---- statements

@@ -108,6 +108,10 @@ After toks t count P = (ts : List Content) (ns : List Node) → Rep toks ts → 
 abbrev pub AfterExpr : List ℕ → List ℕ → ℕ → ℕ → (List Content → List Node → Expr → Type 0) → Type 0
 AfterExpr toks t count first P = (ts : List Content) (ns : List Node) (e : Expr) → Rep toks ts → Stands t ns e count first → P ts ns e
 
+-- and for all arguments that were parsed before, with the row of the last one plus 1
+abbrev pub AfterArgs : List ℕ → List ℕ → ℕ → ℕ → (List Content → List Node → Args → Type 0) → Type 0
+AfterArgs toks t count last P = (ts : List Content) (ns : List Node) (g : Args) → Rep toks ts → Lists t ns g count last → P ts ns g
+
 -- r is the code's answer and t its table, where the definition gives an outcome, after the nodes ns
 abbrev pub ExprOf : Parsed → List ℕ → List Node → ℕ → Out Expr → Type 0
 ExprOf r t ns first (ok e at s) = (n : ℕ) × (r ≡ Done at n s) × Stands t ns e n first
@@ -115,6 +119,14 @@ ExprOf r t ns first (no n k at) = r ≡ Refused n k at
 
 pub record MetExpr (r : Parsed) (t : List ℕ) (ns : List Node) (first : ℕ) (o : Out Expr) : Type 0 where
   pub met : ExprOf r t ns first o
+
+-- an argument and those before it: its own node is the last, so its row plus 1 is how many nodes there are
+abbrev pub ArgOf : Parsed → List ℕ → List Node → Out Args → Type 0
+ArgOf r t ns (ok g at s) = (n : ℕ) × (r ≡ Done at n s) × Lists t ns g n n
+ArgOf r t ns (no n k at) = r ≡ Refused n k at
+
+pub record MetArg (r : Parsed) (t : List ℕ) (ns : List Node) (o : Out Args) : Type 0 where
+  pub met : ArgOf r t ns o
 
 abbrev pub ArgsOf : Listed → List ℕ → List Node → Out Args → Type 0
 ArgsOf r t ns (ok g at s) = (n : ℕ) × (last : ℕ) × (r ≡ listed.Done at n last) × Lists t ns g n last

@@ -1,7 +1,7 @@
 // The parser: trees as flat nodes. Ports parse.rs and ast.rs; the definitions are `Sentences` of the crate `language`.
 // A node is stored after its children, so a child is named by its row, which is always a smaller number. A store past the
-// table's end is lost, and every node is counted. Expressions and lists of arguments call each other: each list that is
-// opened leaves one list less to open.
+// table's end is lost, and every node is counted. Expressions, lists of arguments and arguments call each other: each list
+// that is opened leaves one list less to open.
 //
 // Kinds of tokens: 1 `Eof`, 2 `(`, 3 `)`, 4 `.`, 5 `::`, 6 `:`, 7 `;`, 8 `=`, 9 `,`, 10 `/`, 11 `import`, 12 `let`, 13 a name,
 // 14 a bool, 15 an address, 16 a string, 17 and 18 integers, of which 18 is decimal.
@@ -12,9 +12,9 @@ ghost use mathlib.Core.List.{List, [], _∷_, _++_};
 ghost use Prim.Native.Nat.{ℕ, _+_, _*_, _<_, _≤_};
 ghost use lib.ListN.{length, getD};
 ghost use Rattle.language.specs.Tokens.{Content};
-ghost use Rattle.language.specs.Sentences.{Stmt, Node, node, mostSteps, primary, address, named′, links, chainAt, slashes, exprAt, listAt, ended, importAt, letAt, stmtAt, program};
+ghost use Rattle.language.specs.Sentences.{Stmt, Node, node, mostSteps, primary, address, named′, links, chainAt, slashes, exprAt, argOf, listAt, ended, importAt, letAt, stmtAt, program};
 ghost use Rattle.parse.specs.Entry.{GivesUp, Lexes, ParseSource};
-ghost use Rattle.parse.specs.Parsing.{kindAt, literalKind, portAt, portAs, portTokOf, isNamed, argKind, valueFrom, Room, Rep, Holds, Pushes, withStmt, exprStmt, After, AfterExpr, MetExpr, MetArgs, MetStmt, MetAll, Ahead, AheadList, rowVerdict, verdictAt};
+ghost use Rattle.parse.specs.Parsing.{kindAt, literalKind, portAt, portAs, portTokOf, isNamed, argKind, valueFrom, Room, Rep, Holds, Pushes, withStmt, exprStmt, After, AfterExpr, AfterArgs, MetExpr, MetArg, MetArgs, MetStmt, MetAll, Ahead, AheadList, rowVerdict, verdictAt};
 use scan::Verdict;
 use wide::Wide;
 
@@ -366,7 +366,31 @@ fn arg_head(toks: &[u64], at: usize) -> ArgHead
     ArgHead { kind: 9, value: at }
 }
 
-// The arguments from the `(` at `start` to its `)`. Each names the argument before it by its row plus 1.
+// One argument. Its node names the argument before it by `last`, that one's row plus 1, 0 where there is none. That node
+// comes on top of the value's, so the bound on nodes starts from one more; the `,` or `)` that follows makes up for it.
+fn arg(
+    toks: &[u64],
+    nodes: &mut [u64],
+    at: usize,
+    count: usize,
+    left: usize,
+    last: usize,
+) -> Parsed
+    requires { ⌜ Room (length (now toks)) at count ⌝ }
+    ensures { λ r. ⌜ Ahead 1 (length (now (toks .entry))) at (count + 1) 0 r ⌝ }
+    ensures { λ r. ⌜ AfterArgs (now (toks .entry)) (now (nodes .entry)) count last (λ ts ns g. MetArg r (now (nodes .exit)) ns (argOf ts (exprAt ts left) g at)) ⌝ }
+{
+    let head = arg_head(toks, at);
+    match expr(toks, nodes, head.value, count, left) {
+        Parsed::Done(next, m, _) => {
+            push(nodes, m, head.kind, at, m - 1, last, 0);
+            Parsed::Done(next, m + 1, 0)
+        }
+        Parsed::Refused(number, kind, a) => Parsed::Refused(number, kind, a),
+    }
+}
+
+// The arguments from the `(` at `start` to its `)`.
 fn list(toks: &[u64], nodes: &mut [u64], start: usize, count: usize, left: usize) -> Listed
     requires { ⌜ Room (length (now toks)) start count × (kindAt (now toks) start ≡ 2) ⌝ }
     ensures { λ r. ⌜ AheadList (length (now (toks .entry))) start count r ⌝ }
@@ -379,12 +403,10 @@ fn list(toks: &[u64], nodes: &mut [u64], start: usize, count: usize, left: usize
     let mut have = count;
     let mut last: usize = 0;
     while kind_at(toks, at) != 3 {
-        let head = arg_head(toks, at);
-        match expr(toks, nodes, head.value, have, left - 1) {
+        match arg(toks, nodes, at, have, left - 1, last) {
             Parsed::Done(next, m, _) => {
-                push(nodes, m, head.kind, at, m - 1, last, 0);
-                have = m + 1;
-                last = have;
+                have = m;
+                last = m;
                 let t = kind_at(toks, next);
                 if t == 9 {
                     at = next + 1;

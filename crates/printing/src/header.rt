@@ -12,6 +12,8 @@ pub enum Mode {
     Canon,
     // rows of tokens, and rows of nodes
     Parse,
+    // rows of tokens, nodes, diagnostics and statements
+    Check,
     // the line is not understood, or has not as many numbers as the mode has tables
     Unknown,
 }
@@ -75,6 +77,9 @@ fn mode_of(name: &[u8]) -> Mode {
     }
     if same(name, b"parse") {
         return Mode::Parse;
+    }
+    if same(name, b"check") {
+        return Mode::Check;
     }
     Mode::Unknown
 }
@@ -151,6 +156,7 @@ fn tables(mode: Mode) -> usize {
         Mode::Lex => 1,
         Mode::Canon => 2,
         Mode::Parse => 2,
+        Mode::Check => 4,
         Mode::Unknown => 0,
     }
 }

@@ -4,3 +4,4 @@ pub mod header;
 pub mod input;
 pub mod output;
 pub mod token;
+pub mod verdict;

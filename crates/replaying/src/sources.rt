@@ -8,12 +8,14 @@ use showing::canon_mode;
 use showing::lex_mode;
 use showing::scan_mode;
 
-// The answer for one source. A table that the mode does not use is empty.
+// The answer for one source.
 fn answer(
     mode: Mode,
     source: &[u8],
     tokens: &mut [u64],
     nodes: &mut [u64],
+    diags: &mut [u64],
+    stmts: &mut [u64],
     text: &mut [u8],
     out: &mut [u8],
     at: usize,
@@ -23,11 +25,39 @@ fn answer(
         Mode::Lex => lex_mode::answer(source, tokens, out, at),
         Mode::Canon => canon_mode::answer(source, tokens, text, out, at),
         Mode::Parse => showing_tree::answer(source, tokens, nodes, out, at),
+        Mode::Check => showing_check::answer(source, tokens, nodes, diags, stmts, out, at),
         Mode::Unknown => at,
     }
 }
 
-// The answers for the sources that are not yet read, each with the line that closes it.
+// The answer, and the line that closes it.
+fn closed(
+    mode: Mode,
+    source: &[u8],
+    size: usize,
+    tokens: &mut [u64],
+    nodes: &mut [u64],
+    diags: &mut [u64],
+    stmts: &mut [u64],
+    text: &mut [u8],
+    out: &mut [u8],
+    at: usize,
+) -> usize {
+    let given = input::first(source, size);
+    let p = answer(mode, given, tokens, nodes, diags, stmts, text, out, at);
+    output::close(out, p)
+}
+
+// What is written after the last source: where that is not the end of the input, that the rest is bad.
+fn last(line: Line, out: &mut [u8], at: usize) {
+    if let Line::Bad = line {
+        output::bad_input(out, at);
+        return;
+    }
+    output::flush(out, at);
+}
+
+// The answers for the sources that are not yet read, one after the other.
 pub fn answers(
     mode: Mode,
     chunk: &mut [u8],
@@ -35,6 +65,8 @@ pub fn answers(
     source: &mut [u8],
     tokens: &mut [u64],
     nodes: &mut [u64],
+    diags: &mut [u64],
+    stmts: &mut [u64],
     text: &mut [u8],
     out: &mut [u8],
 ) {
@@ -44,29 +76,23 @@ pub fn answers(
     let mut sources: u64 = 1000000000000;
     while 0 < sources {
         let line = input::next(chunk, unread, source);
-        match line {
-            Line::Source(size, rest) => {
-                let p = answer(
-                    mode,
-                    input::first(source, size),
-                    tokens,
-                    nodes,
-                    text,
-                    out,
-                    at,
-                );
-                at = output::close(out, p);
-                unread = rest;
-                sources -= 1;
-            }
-            Line::End => {
-                output::flush(out, at);
-                return;
-            }
-            Line::Bad => {
-                output::bad_input(out, at);
-                return;
-            }
-        }
+        let Line::Source(size, rest) = line else {
+            last(line, out, at);
+            return;
+        };
+        at = closed(
+            mode,
+            source,
+            size,
+            tokens,
+            nodes,
+            diags,
+            stmts,
+            text,
+            out,
+            at,
+        );
+        unread = rest;
+        sources -= 1;
     }
 }

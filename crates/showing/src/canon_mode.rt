@@ -1,7 +1,7 @@
 // The mode `canon`: the text is one line of the answer, in hex.
-use crate::verdict;
 use printing::input;
 use printing::output;
+use printing::verdict;
 
 pub fn answer(
     source: &[u8],

@@ -1,10 +1,10 @@
 // The mode `lex`: each token is a line of the answer. A string is shown as the list of its raw bodies.
 ghost use Prim.Native.Nat.{_+_, _≤_};
 ghost use lib.ListN.{length};
-use crate::verdict;
 use printing::output;
 use printing::token;
 use printing::token::Token;
+use printing::verdict;
 use wide::Wide;
 
 // A row of the table of tokens.

@@ -3,4 +3,3 @@
 pub mod canon_mode;
 pub mod lex_mode;
 pub mod scan_mode;
-pub mod verdict;

@@ -1,10 +1,10 @@
 // The mode `scan`: each source is one line, and each lexeme a line of the answer.
 ghost use Prim.Native.Nat.{_+_, _≤_};
 ghost use lib.ListN.{length};
-use crate::verdict;
 use printing::output;
 use printing::token;
 use printing::token::Token;
+use printing::verdict;
 use wide::Wide;
 
 // A row of the table of lexemes.

@@ -1,12 +1,13 @@
 // Diagnostics: a line has its place, `E` or `W`, its kind, and its fields in the order of check.rs.
 ghost use Prim.Native.Nat.{_+_, _≤_};
 ghost use lib.ListN.{length};
+use checker::Checker;
 use crate::types;
 use printing::output;
 use wide::Wide;
 
 // A row of the table of diagnostics.
-struct Diagnostic {
+pub struct Diagnostic {
     line: u64,
     column: u64,
     // 1 for an error, 2 for a warning
@@ -25,7 +26,7 @@ struct Diagnostic {
 
 impl Diagnostic {
     // How many words a row has.
-    const ROW_WORDS: usize = 11;
+    pub const ROW_WORDS: usize = Checker::DIAGNOSTIC_WORDS;
 }
 
 // The words of the row that starts at word `at`.

@@ -2,13 +2,14 @@
 // the source is shown as the list of its raw bodies.
 ghost use Prim.Native.Nat.{_+_, _≤_};
 ghost use lib.ListN.{length};
+use checker::Checker;
 use crate::types;
 use lex::Lexer;
 use printing::output;
 use printing::token;
 
 // A row of the table of statements.
-struct Statement {
+pub struct Statement {
     line: u64,
     column: u64,
     kind: u64,
@@ -22,7 +23,7 @@ struct Statement {
 
 impl Statement {
     // How many words a row has.
-    const ROW_WORDS: usize = 7;
+    pub const ROW_WORDS: usize = Checker::STATEMENT_WORDS;
 }
 
 // The words of the row that starts at word `at`.

@@ -3,7 +3,8 @@
 mod leaf;
 mod rows;
 mod tree;
-mod verdict;
+
+use printing::verdict;
 
 pub fn answer(
     source: &[u8],

@@ -14,6 +14,7 @@ use Rattle.language.specs.Tokens.{Content, eof, plain}
 use Rattle.language.specs.Sentences.{Expr, path, member, call, slash′, Args, none-given, given, named, Stmt, import′, let′, expr′, Out, ok, no, andThen, Port, port, tooLarge, notPort, portOf, mostSteps, mostLists, is, isName, isLiteral, namesFrom, address, named′, primary, links, chainOf, slashes, exprOf, argOf, argsOf, listAt, ended, importAt, letAt, stmtAt, stmtsFrom, program, exprAt, exprSize, argsSize, stmtNodes, nodesFrom, nodes}
 use Rattle.language.proofs.LexemeSizes.{by-cases}
 use Rattle.parse.proofs.Nodes.{expr-long, nodes-more}
+use Rattle.checker.specs.Checking.{stmtSize}
 
 abbrev Refusal : ℕ → Type 0
 Refusal n = (n ≡ 5) ⊎ (n ≡ 7)
@@ -41,6 +42,12 @@ earlier : {A : Type 0} (size : A → ℕ) (have at have′ at′ : ℕ) → at +
     → Spends size have at o
 earlier size have at have′ at′ l (ok a next s) h = omega arith
 earlier size have at have′ at′ l (no n k t) h = h
+
+-- a statement has as many nodes as its size
+pub stmt-long : (k : ℕ) (s : Stmt) → length (stmtNodes k s) ≡ stmtSize s
+stmt-long k (import′ t) = refl
+stmt-long k (let′ t e) = simp length-append (omega (arith, expr-long k e))
+stmt-long k (expr′ e) = simp length-append (omega (arith, expr-long k e))
 
 -- past the end is no `;`
 within : (ts : List Content) (at : ℕ) → is ts at (plain semiColon) ≡ true → at < length ts
@@ -183,16 +190,6 @@ module _ (ts : List Content) where
       args-few (exprOf ts (chainOf ts (listAt ts d))) (expr-few (listAt ts d) (lists-few d)) (suc (length ts)) none-given (at + 1)
 
   -- ---- statements: each takes its `;`, which is a token of the list
-
-  abbrev stmtSize : Stmt → ℕ
-  stmtSize (import′ t) = 1
-  stmtSize (let′ t e) = exprSize e + 1
-  stmtSize (expr′ e) = exprSize e + 1
-
-  stmt-long : (k : ℕ) (s : Stmt) → length (stmtNodes k s) ≡ stmtSize s
-  stmt-long k (import′ t) = refl
-  stmt-long k (let′ t e) = simp length-append (omega (arith, expr-long k e))
-  stmt-long k (expr′ e) = simp length-append (omega (arith, expr-long k e))
 
   abbrev Ends : ℕ → Out Stmt → Type 0
   Ends at (ok s next x) = (at + stmtSize s ≤ next) × (next ≤ length ts)

@@ -1,27 +1,31 @@
 -- Rooms that are always enough: the proofs of the claims of specs/Rooms.antt.
-use Prim.Native.Nat.{ℕ, suc, _≤_, _<_}
-use mathlib.Core.Path.{_≡_, refl, ap}
+use Prim.Native.Nat.{ℕ, suc, _+_, _≤_, _<_}
+use mathlib.Core.Path.{_≡_, refl, sym, ap}
+use mathlib.Core.Bool.{false, _||_, false≢true}
 use mathlib.Core.List.{List}
 use mathlib.Core.Logic.{inl, inr}
 use mathlib.Core.Option.{Option, none, some}
 use native.Mathlib.Omega.{arith}
 use borrow.Author.Tests.{ltb-true, le-ltb}
-use lib.Dec.{ltb}
+use lib.Dec.{ltb, eqb}
 use lib.ListN.{length, length-map}
 use Rattle.language.specs.Canonical.{text}
 use Rattle.language.specs.Utf8.{firstBad}
 use Rattle.language.specs.Lexemes.{scan}
-use Rattle.language.specs.Tokens.{Token, items, firstWrong, Wrong, tokens, contents, placeOf}
+use Rattle.language.specs.Tokens.{Content, Token, items, firstWrong, Wrong, tokens, contents, placeOf}
 use Rattle.language.specs.Sentences as sentences
 use Rattle.language.specs.Sentences.{Out, Stmt, ok, program, nodes}
-use Rattle.language.specs.Numbers.{mostBytes, Scanned, Lexed, Parsed, Canonised, verdict, scanned, counted, lexed, lexical, placed, lexedWithin, parsedAs, scanAnswer, lexAnswer, parseAnswer, canonAnswer}
+use Rattle.language.specs.Judgements.{Outcome, judged, refused, errorsIn, judgeAll}
+use Rattle.language.specs.Numbers.{mostBytes, Scanned, Lexed, Parsed, Canonised, Checked, verdict, scanned, counted, lexed, lexical, placed, lexedWithin, parsedAs, parsedNodes, firstCall, checked, judgedWithin, scanAnswer, lexAnswer, parseAnswer, canonAnswer, checkAnswer}
+use Rattle.language.proofs.JudgementClaims.{all-counted}
 use Rattle.language.proofs.LexemeSizes.{by-cases}
 use Rattle.language.proofs.LexemeSpans.{spans-join}
 use Rattle.lex.proofs.Answers.{fits}
 use Rattle.parse.proofs.Entry.{short, all-good, no-wrong, all-lexed}
 use Rattle.parse.proofs.TokenRows.{few-tokens}
-use Rattle.terkinoha.specs.Rooms.{ScanRoom, LexRoom, ParseRoom, CanonRoom}
+use Rattle.terkinoha.specs.Rooms.{ScanRoom, LexRoom, ParseRoom, CanonRoom, CheckRoom}
 use Rattle.terkinoha.proofs.Few.{grammar-refuses, nodes-few}
+use Rattle.terkinoha.proofs.Found.{found-few}
 
 -- ---- scan and lex
 
@@ -72,9 +76,19 @@ module _ (s : List ℕ) (room : ℕ) (z : lexAnswer s room .verdict .number ≡ 
   no-more : (ss : List Stmt) (at x : ℕ) → program (contents (tokens s)) ≡ ok ss at x → length (nodes ss) ≤ lexAnswer s room .count
   no-more ss at x e = omega (arith, counted-is, nodes-few (contents (tokens s)) ss at x e, length-map (tokens s) (λ (t : Token). t .content))
 
+  -- parsing goes by the grammar alone
+  parsed-in : (t n : ℕ) → lexAnswer s room .count ≤ t → parseAnswer s t n ≡ parsedAs s n (length (tokens s)) (program (contents (tokens s)))
+  unfolding parseAnswer
+  parsed-in t n h = rw (in-another t h)
+
+  -- a program is parsed in every room that is enough
+  parsed-too : (t n : ℕ) → lexAnswer s room .count ≤ t → lexAnswer s room .count ≤ n → {ss : List Stmt} {at x : ℕ}
+      → program (contents (tokens s)) ≡ ok ss at x → parseAnswer s t n .verdict .number ≡ 0
+  parsed-too t n h l {ss} {at} {x} e =
+      rw (parsed-in t n h, e, le-ltb n (length (nodes ss)) (omega (arith, no-more ss at x e)))
+
 pub parse-room : ParseRoom
-unfolding parseAnswer
-parse-room s room t n z h l = rw (in-another s room z t h, parseAnswer) (go (program (contents (tokens s))) refl)
+parse-room s room t n z h l = rw (parsed-in s room z t n h) (go (program (contents (tokens s))) refl)
   where
     P : Parsed → Type 0
     P a = (a .verdict .number ≡ 4 → ⊥) × (a .verdict .number ≡ 6 → ⊥)
@@ -95,3 +109,43 @@ canon-room s room t n z h l =
     (by-cases P (ltb n (length (text s))) (λ e. (λ r. absurd (omega arith), λ r. omega (arith, ltb-true n (length (text s)) e)))
     (λ _. by-cases P (ltb mostBytes (length (text s))) (λ e. (λ r. absurd (omega arith), λ r. ltb-true _ _ e))
     (λ _. (λ r. absurd (omega arith), λ r. absurd (omega arith)))))
+
+-- a number that is none of those for room
+other : (m : ℕ) → eqb m 4 || eqb m 6 || eqb m 11 ≡ false → (m ≡ 4 → ⊥) × (m ≡ 6 → ⊥) × (m ≡ 11 → ⊥)
+other m e = (λ q. absurd (false≢true (sym (rw q at e))), λ q. absurd (false≢true (sym (rw q at e))), λ q. absurd (false≢true (sym (rw q at e))))
+
+pub check-room : CheckRoom
+unfolding checkAnswer checked
+check-room s room t n k z h l i = go (program cs) refl
+  where
+    cs : List Content
+    cs = contents (tokens s)
+
+    P : Checked → Type 0
+    P a =
+        ((a .verdict .number ≡ 4 → ⊥) × (a .verdict .number ≡ 6 → ⊥) × (a .verdict .number ≡ 11 → ⊥))
+        × (a .errors + a .warnings ≤ lexAnswer s room .count)
+
+    judged-in : (ss : List Stmt) (a b : ℕ) → length (nodes ss) ≤ lexAnswer s room .count → (o : Outcome) → judgeAll cs ss ≡ o → P (judgedWithin s k a b o)
+    judged-in ss a b m (refused at) e = (other 9 refl, omega arith)
+    judged-in ss a b m (judged ds hs) e =
+        let w = found-few cs ss e in
+        let c = all-counted ds in
+        by-cases P (eqb (errorsIn ds) 0)
+        (λ _. by-cases P (ltb k (length hs)) (λ f. absurd (omega (arith, ltb-true k (length hs) f, w .1))) (λ _. (other 0 refl, omega (arith, w .0, c))))
+        (λ _. (other 0 refl, omega (arith, w .0, c)))
+
+    -- a program, by its first call
+    called : {ss : List Stmt} {at x : ℕ} → program cs ≡ ok ss at x → (c : Option ℕ) → firstCall (parsedNodes (program cs)) ≡ c → P (checkAnswer s t n k)
+    called e (some u) f = rw (parsed-too s room z t n h l e, f) (other 8 refl, omega arith)
+    called {ss} {at} {x} e none f =
+        let p = parseAnswer s t n in
+        rw (parsed-too s room z t n h l e, f) (judged-in ss (p .tokens) (p .nodes) (no-more s room z ss at x e) (checked s) (rw e))
+
+    go : (o : Out (List Stmt)) → program cs ≡ o → P (checkAnswer s t n k)
+    go (ok ss at x) e = called e (firstCall (parsedNodes (program cs))) refl
+    go (sentences.no m j at) e =
+        elim (grammar-refuses cs m j at e) [
+          | inl q ↦ rw (parsed-in s room z t n h, e, q) (other 5 refl, omega arith)
+          | inr q ↦ rw (parsed-in s room z t n h, e, q) (other 7 refl, omega arith)
+        ]

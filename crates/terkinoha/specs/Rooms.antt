@@ -1,10 +1,10 @@
 -- Rooms that are always enough: a host that lends them is never refused for room.
-use Prim.Native.Nat.{ℕ, _≤_, _<_}
+use Prim.Native.Nat.{ℕ, _+_, _≤_, _<_}
 use mathlib.Core.Path.{_≡_}
 use mathlib.Core.List.{List}
 use lib.ListN.{length}
 use Rattle.language.specs.Canonical.{text}
-use Rattle.language.specs.Numbers.{mostBytes, scanAnswer, lexAnswer, parseAnswer, canonAnswer}
+use Rattle.language.specs.Numbers.{mostBytes, scanAnswer, lexAnswer, parseAnswer, canonAnswer, checkAnswer}
 
 -- lexemes: a row for each byte of the line
 abbrev pub ScanRoom : Type 0
@@ -25,3 +25,12 @@ abbrev pub CanonRoom : Type 0
 CanonRoom =
     (s : List ℕ) (room t n : ℕ) → lexAnswer s room .verdict .number ≡ 0 → lexAnswer s room .count ≤ t → mostBytes ≤ n
     → (canonAnswer s t n .verdict .number ≡ 4 → ⊥) × (canonAnswer s t n .verdict .number ≡ 10 → mostBytes < length (text s))
+
+-- .. and, with as many rows for statements, to check; as many rows for diagnostics keep them all
+abbrev pub CheckRoom : Type 0
+CheckRoom =
+    (s : List ℕ) (room t n k : ℕ) → lexAnswer s room .verdict .number ≡ 0 → lexAnswer s room .count ≤ t → lexAnswer s room .count ≤ n
+    → lexAnswer s room .count ≤ k
+    → let a = checkAnswer s t n k in
+    ((a .verdict .number ≡ 4 → ⊥) × (a .verdict .number ≡ 6 → ⊥) × (a .verdict .number ≡ 11 → ⊥))
+    × (a .errors + a .warnings ≤ lexAnswer s room .count)

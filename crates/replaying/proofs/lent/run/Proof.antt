@@ -1,4 +1,4 @@
--- Each is given by hand, since a search would count the zeros of the array.
+-- Each is given by hand, since a search would count the zeros of the arrays.
 use Rattle.replaying.proofs.Zeros.{as-long, within, from-0}
 use borrow.Author.Needs.{needs}
 use Rattle.replaying.proofs.lent.run.Statement.{statement}
@@ -10,26 +10,83 @@ array-read-token-words c = search needs
 token-words-requires : tie.Need-token-words-requires
 token-words-requires c κs = search needs
 
-array-read-room : tie.Need-array-read-room
-array-read-room c = search needs
+array-read-node-words : tie.Need-array-read-node-words
+array-read-node-words c = search needs
 
-slice-aggregate-with-tokens : tie.Need-slice-aggregate-with-tokens
-slice-aggregate-with-tokens c = as-long 65600
+node-words-requires : tie.Need-node-words-requires
+node-words-requires c κs = search needs
 
-sub-with-tokens : tie.Need-sub-with-tokens
-sub-with-tokens c = from-0 _
+array-read-at-most : tie.Need-array-read-at-most
+array-read-at-most c = search needs
+
+at-most-requires : tie.Need-at-most-requires
+at-most-requires c κs = search needs
+
+array-read-diag-words : tie.Need-array-read-diag-words
+array-read-diag-words c = search needs
+
+diag-words-requires : tie.Need-diag-words-requires
+diag-words-requires c κs = search needs
+
+array-read-stmt-words : tie.Need-array-read-stmt-words
+array-read-stmt-words c = search needs
+
+stmt-words-requires : tie.Need-stmt-words-requires
+stmt-words-requires c κs = search needs
+
+slice-aggregate-answers : tie.Need-slice-aggregate-answers
+slice-aggregate-answers c = as-long 65600
+
+sub-answers : tie.Need-sub-answers
+sub-answers c = from-0 _
 
 part-tokens-start : tie.Need-part-tokens-start
 part-tokens-start c = from-0 _
 
 part-tokens-end : tie.Need-part-tokens-end
-part-tokens-end c = within 458759 (c .before .before .token-words .ensures)
+part-tokens-end c = within 458759 (c .before .before .before .before .before .before .token-words .ensures)
 
-with-tokens-requires : tie.Need-with-tokens-requires
-with-tokens-requires c κs = tt
+sub-answers-2 : tie.Need-sub-answers-2
+sub-answers-2 c = from-0 _
+
+part-nodes-start : tie.Need-part-nodes-start
+part-nodes-start c = from-0 _
+
+part-nodes-end : tie.Need-part-nodes-end
+part-nodes-end c = within 327680 (c .before .before .before .before .before .before .node-words .ensures)
+
+sub-answers-3 : tie.Need-sub-answers-3
+sub-answers-3 c = from-0 _
+
+part-diags-start : tie.Need-part-diags-start
+part-diags-start c = from-0 _
+
+part-diags-end : tie.Need-part-diags-end
+part-diags-end c = within 45056 (c .before .before .before .before .before .diag-words .ensures)
+
+sub-answers-4 : tie.Need-sub-answers-4
+sub-answers-4 c = from-0 _
+
+part-stmts-start : tie.Need-part-stmts-start
+part-stmts-start c = from-0 _
+
+part-stmts-end : tie.Need-part-stmts-end
+part-stmts-end c = within 28672 (c .before .before .before .before .before .stmt-words .ensures)
+
+sub-answers-5 : tie.Need-sub-answers-5
+sub-answers-5 c = from-0 _
+
+part-text-start : tie.Need-part-text-start
+part-text-start c = from-0 _
+
+part-text-end : tie.Need-part-text-end
+part-text-end c = within 65600 (c .before .before .before .before .before .before .before .before .at-most .ensures)
+
+answers-requires : tie.Need-answers-requires
+answers-requires c κs = tt
 
 same-length : tie.Need-same-length
-same-length c = c .before .before .before .before .before .chunk .given
+same-length c = c .before .before .before .before .before .before .before .before .before .chunk .given
 
 same-length-2 : tie.Need-same-length-2
 same-length-2 c = c .before .out .given
@@ -43,12 +100,31 @@ run-spec =
     (tie.spec
     array-read-token-words
     token-words-requires
-    array-read-room
-    slice-aggregate-with-tokens
-    sub-with-tokens
+    array-read-node-words
+    node-words-requires
+    array-read-at-most
+    at-most-requires
+    array-read-diag-words
+    diag-words-requires
+    array-read-stmt-words
+    stmt-words-requires
+    slice-aggregate-answers
+    sub-answers
     part-tokens-start
     part-tokens-end
-    with-tokens-requires
+    sub-answers-2
+    part-nodes-start
+    part-nodes-end
+    sub-answers-3
+    part-diags-start
+    part-diags-end
+    sub-answers-4
+    part-stmts-start
+    part-stmts-end
+    sub-answers-5
+    part-text-start
+    part-text-end
+    answers-requires
     same-length
     same-length-2
     returns)

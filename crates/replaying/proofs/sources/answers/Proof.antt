@@ -6,16 +6,18 @@ use Rattle.replaying.proofs.sources.answers.Statement.{statement}
 use Rattle.replaying.proofs.sources.answers.Tie as tie
 
 abbrev Inv-loop : tie.InvT-loop
-Inv-loop mode chunk₀ source₀ tokens₀ nodes₀ text₀ out₀ unread₀ at₀ sources₀ chunk source tokens nodes text out unread at sources =
+Inv-loop mode chunk₀ source₀ tokens₀ nodes₀ diags₀ stmts₀ text₀ out₀ unread₀ at₀ sources₀ chunk source tokens nodes diags stmts text out unread at sources =
     (length chunk ≡ length chunk₀)
     × (length source ≡ length source₀)
     × (length tokens ≡ length tokens₀)
     × (length nodes ≡ length nodes₀)
+    × (length diags ≡ length diags₀)
+    × (length stmts ≡ length stmts₀)
     × (length text ≡ length text₀)
     × (length out ≡ length out₀)
 
 abbrev μ-loop : tie.MeasureT-loop
-μ-loop mode chunk₀ source₀ tokens₀ nodes₀ text₀ out₀ unread₀ at₀ sources₀ chunk source tokens nodes text out unread at sources = sources
+μ-loop mode chunk₀ source₀ tokens₀ nodes₀ diags₀ stmts₀ text₀ out₀ unread₀ at₀ sources₀ chunk source tokens nodes diags stmts text out unread at sources = sources
 
 loop-holds : tie.Need-loop-holds Inv-loop μ-loop
 loop-holds c = search needs
@@ -26,29 +28,8 @@ next-requires c κs = search needs
 enum-known-line : tie.Need-enum-known-line Inv-loop μ-loop
 enum-known-line c = search needs
 
-first-requires : tie.Need-first-requires Inv-loop μ-loop
-first-requires c κs = search needs
-
-answer-requires : tie.Need-answer-requires Inv-loop μ-loop
-answer-requires c κs = search needs
-
-close-requires : tie.Need-close-requires Inv-loop μ-loop
-close-requires c κs = search needs
-
-sub-sources : tie.Need-sub-sources Inv-loop μ-loop
-sub-sources c = search needs
-
-loop-less : tie.Need-loop-less Inv-loop μ-loop
-loop-less c = search needs
-
-loop-again : tie.Need-loop-again Inv-loop μ-loop
-loop-again c = search needs
-
-enum-told : tie.Need-enum-told Inv-loop μ-loop
-enum-told c = search needs
-
-flush-requires : tie.Need-flush-requires Inv-loop μ-loop
-flush-requires c κs = search needs
+last-requires : tie.Need-last-requires Inv-loop μ-loop
+last-requires c κs = search needs
 
 same-length : tie.Need-same-length Inv-loop μ-loop
 same-length c = search needs
@@ -68,20 +49,26 @@ same-length-5 c = search needs
 same-length-6 : tie.Need-same-length-6 Inv-loop μ-loop
 same-length-6 c = search needs
 
-returns : tie.Need-returns Inv-loop μ-loop
-returns c = search needs
-
-enum-told-2 : tie.Need-enum-told-2 Inv-loop μ-loop
-enum-told-2 c = search needs
-
-bad-input-requires : tie.Need-bad-input-requires Inv-loop μ-loop
-bad-input-requires c κs = search needs
-
 same-length-7 : tie.Need-same-length-7 Inv-loop μ-loop
 same-length-7 c = search needs
 
 same-length-8 : tie.Need-same-length-8 Inv-loop μ-loop
 same-length-8 c = search needs
+
+returns : tie.Need-returns Inv-loop μ-loop
+returns c = search needs
+
+closed-requires : tie.Need-closed-requires Inv-loop μ-loop
+closed-requires c κs = search needs
+
+sub-sources : tie.Need-sub-sources Inv-loop μ-loop
+sub-sources c = search needs
+
+loop-less : tie.Need-loop-less Inv-loop μ-loop
+loop-less c = search needs
+
+loop-again : tie.Need-loop-again Inv-loop μ-loop
+loop-again c = search needs
 
 same-length-9 : tie.Need-same-length-9 Inv-loop μ-loop
 same-length-9 c = search needs
@@ -95,9 +82,6 @@ same-length-11 c = search needs
 same-length-12 : tie.Need-same-length-12 Inv-loop μ-loop
 same-length-12 c = search needs
 
-returns-2 : tie.Need-returns-2 Inv-loop μ-loop
-returns-2 c = search needs
-
 same-length-13 : tie.Need-same-length-13 Inv-loop μ-loop
 same-length-13 c = search needs
 
@@ -110,14 +94,8 @@ same-length-15 c = search needs
 same-length-16 : tie.Need-same-length-16 Inv-loop μ-loop
 same-length-16 c = search needs
 
-same-length-17 : tie.Need-same-length-17 Inv-loop μ-loop
-same-length-17 c = search needs
-
-same-length-18 : tie.Need-same-length-18 Inv-loop μ-loop
-same-length-18 c = search needs
-
-returns-3 : tie.Need-returns-3 Inv-loop μ-loop
-returns-3 c = search needs
+returns-2 : tie.Need-returns-2 Inv-loop μ-loop
+returns-2 c = search needs
 
 pub answers-spec : {M : Type 1} → statement M
 answers-spec =
@@ -128,34 +106,26 @@ answers-spec =
     loop-holds
     next-requires
     enum-known-line
-    first-requires
-    answer-requires
-    close-requires
-    sub-sources
-    loop-less
-    loop-again
-    enum-told
-    flush-requires
+    last-requires
     same-length
     same-length-2
     same-length-3
     same-length-4
     same-length-5
     same-length-6
-    returns
-    enum-told-2
-    bad-input-requires
     same-length-7
     same-length-8
+    returns
+    closed-requires
+    sub-sources
+    loop-less
+    loop-again
     same-length-9
     same-length-10
     same-length-11
     same-length-12
-    returns-2
     same-length-13
     same-length-14
     same-length-15
     same-length-16
-    same-length-17
-    same-length-18
-    returns-3)
+    returns-2)

@@ -1,59 +1,72 @@
--- The cycle of calls. Its measure is how many lists may still be opened, and within one list the order expr, slashes, chain,
--- links, list. Each loop's invariant: how far it went, in numbers, and that what the definition gives from here on, after the
--- tree so far, is what it gives from the start. `links` and `slashes` measure their steps, `list` what is left of the tokens.
+-- The cycle of calls. Its measure is how many lists may still be opened, and within one list the order arg, expr, slashes,
+-- chain, links, list. Each loop's invariant: how far it went, in numbers, and that what the definition gives from here on,
+-- after the tree so far, is what it gives from the start. `links` and `slashes` measure their steps, `list` what is left of
+-- the tokens.
 use Prim.Native.Nat.{ℕ, suc, _+_, _-_, _*_, _≤_, _<_}
 use mathlib.Core.Path.{_≡_, refl, _∙_}
 use lib.ListN.{length}
 use Rattle.language.specs.Sentences as grammar
 use Rattle.language.specs.Sentences.{Expr, Args, exprAt, chainAt, listAt, argsOf}
-use Rattle.parse.specs.Parsing.{isNamed, withArg, withExpr, withArgs, Stands, Lists, After, AfterExpr}
+use Rattle.parse.specs.Parsing.{isNamed, withExpr, withArgs, Stands, Lists, After, AfterExpr}
 use Rattle.parse.proofs.Looks.{seen, unseen, inside}
 use Rattle.parse.proofs.Nodes.{member-pushed, slash-pushed, call-pushed, arg-pushed, none-listed}
-use Rattle.parse.proofs.Answers.{done, refused, met-ok, met-no, met-by, list-done, list-refused, list-ok, list-no, ahead, ahead-place, ahead-no, ahead-more, ahead-list, ahead-list-place}
-use Rattle.parse.proofs.Steps.{chain-go, chain-no, expr-go, expr-no, links-stop, links-call-7, links-dot-7, links-dot-5, links-dot, links-call, links-no, slashes-stop, slashes-7, slashes-no, slashes-go, list-shut, list-open, args-end, args-no, args-last, args-bad, args-more}
+use Rattle.parse.proofs.Answers.{done, refused, met-ok, met-no, met-by, arg-done, arg-refused, met-arg, met-arg-no, list-done, list-refused, list-ok, list-no, ahead, ahead-place, ahead-no, ahead-more, ahead-list, ahead-list-place}
+use Rattle.parse.proofs.Steps.{chain-go, chain-no, expr-go, expr-no, links-stop, links-call-7, links-dot-7, links-dot-5, links-dot, links-call, links-no, slashes-stop, slashes-7, slashes-no, slashes-go, list-shut, list-open, arg-no, arg-go, args-end, args-no, args-last, args-bad, args-more}
 use borrow.Author.Needs.{needs}
 use native.Mathlib.Omega.{arith}
 use Prim.Native.Nat.{ℕ, _<_}
 use borrow.Fn.Kinds.{In}
 use borrow.Fn.PlainCycle.{Measures, is, falls, and}
+use Rattle.parse.proofs.arg.Reads as arg
+use Rattle.parse.proofs.arg.Kinds as arg-kinds
+use Rattle.parse.proofs.+arg+chain+expr+links+list+slashes.Lts-arg as arg-lts
 use Rattle.parse.proofs.chain.Reads as chain
 use Rattle.parse.proofs.chain.Kinds as chain-kinds
-use Rattle.parse.proofs.+chain+expr+links+list+slashes.Lts-chain as chain-lts
+use Rattle.parse.proofs.+arg+chain+expr+links+list+slashes.Lts-chain as chain-lts
 use Rattle.parse.proofs.expr.Reads as expr
 use Rattle.parse.proofs.expr.Kinds as expr-kinds
-use Rattle.parse.proofs.+chain+expr+links+list+slashes.Lts-expr as expr-lts
+use Rattle.parse.proofs.+arg+chain+expr+links+list+slashes.Lts-expr as expr-lts
 use Rattle.parse.proofs.links.Reads as links
 use Rattle.parse.proofs.links.Kinds as links-kinds
-use Rattle.parse.proofs.+chain+expr+links+list+slashes.Lts-links as links-lts
+use Rattle.parse.proofs.+arg+chain+expr+links+list+slashes.Lts-links as links-lts
 use Rattle.parse.proofs.list.Reads as list
 use Rattle.parse.proofs.list.Kinds as list-kinds
-use Rattle.parse.proofs.+chain+expr+links+list+slashes.Lts-list as list-lts
+use Rattle.parse.proofs.+arg+chain+expr+links+list+slashes.Lts-list as list-lts
 use Rattle.parse.proofs.slashes.Reads as slashes
 use Rattle.parse.proofs.slashes.Kinds as slashes-kinds
-use Rattle.parse.proofs.+chain+expr+links+list+slashes.Lts-slashes as slashes-lts
+use Rattle.parse.proofs.+arg+chain+expr+links+list+slashes.Lts-slashes as slashes-lts
 use Rattle.parse.proofs.arg_head.Reads as arg-head-reads
 use Rattle.parse.proofs.kind_at.Reads as kind-at-reads
 use Rattle.parse.proofs.primary.Reads as primary-reads
 use Rattle.parse.proofs.push.Reads as push-reads
 use Rattle.parse.proofs.too_deep.Reads as too-deep-reads
 use Rattle.parse.proofs.unexpected.Reads as unexpected-reads
-use Rattle.parse.proofs.+chain+expr+links+list+slashes.{statement}
-use Rattle.parse.proofs.+chain+expr+links+list+slashes.Tie.{close}
+use Rattle.parse.proofs.+arg+chain+expr+links+list+slashes.{statement}
+use Rattle.parse.proofs.+arg+chain+expr+links+list+slashes.Tie.{close}
+
+abbrev μ-arg : Measures 2 arg-kinds.ps ℕ
+μ-arg κs a = 6 * a .1 .1 .1 .1 .0 + 5
 
 abbrev μ-chain : Measures 2 chain-kinds.ps ℕ
-μ-chain κs a = 5 * a .1 .1 .1 .1 .0 + 2
+μ-chain κs a = 6 * a .1 .1 .1 .1 .0 + 2
 
 abbrev μ-expr : Measures 2 expr-kinds.ps ℕ
-μ-expr κs a = 5 * a .1 .1 .1 .1 .0 + 4
+μ-expr κs a = 6 * a .1 .1 .1 .1 .0 + 4
 
 abbrev μ-links : Measures 2 links-kinds.ps ℕ
-μ-links κs a = 5 * a .1 .1 .0 .lists + 1
+μ-links κs a = 6 * a .1 .1 .0 .lists + 1
 
 abbrev μ-list : Measures 2 list-kinds.ps ℕ
-μ-list κs a = 5 * a .1 .1 .1 .1 .0
+μ-list κs a = 6 * a .1 .1 .1 .1 .0
 
 abbrev μ-slashes : Measures 2 slashes-kinds.ps ℕ
-μ-slashes κs a = 5 * a .1 .1 .0 .lists + 3
+μ-slashes κs a = 6 * a .1 .1 .0 .lists + 3
+
+abbrev arg-at : ℕ → In 2 arg-kinds.ps
+arg-at t = and 2 arg-kinds.ps (is 2 arg-kinds.ps μ-arg t) arg.Pre
+
+abbrev arg-below : ℕ → In 2 arg-kinds.ps
+arg-below t = and 2 arg-kinds.ps (falls 2 arg-kinds.ps _<_ μ-arg t) arg.Pre
 
 abbrev chain-at : ℕ → In 2 chain-kinds.ps
 chain-at t = and 2 chain-kinds.ps (is 2 chain-kinds.ps μ-chain t) chain.Pre
@@ -85,6 +98,9 @@ slashes-at t = and 2 slashes-kinds.ps (is 2 slashes-kinds.ps μ-slashes t) slash
 abbrev slashes-below : ℕ → In 2 slashes-kinds.ps
 slashes-below t = and 2 slashes-kinds.ps (falls 2 slashes-kinds.ps _<_ μ-slashes t) slashes.Pre
 
+abbrev arg-cs : ℕ → arg-lts.Claims
+arg-cs t = (arg-head-reads.Asked, arg-head-reads.Learnt, expr-below t, expr.Post, push-reads.Asked, push-reads.Learnt)
+
 abbrev chain-cs : ℕ → chain-lts.Claims
 chain-cs t = (primary-reads.Asked, primary-reads.Learnt, links-below t, links.Post)
 
@@ -95,10 +111,55 @@ abbrev links-cs : ℕ → links-lts.Claims
 links-cs t = (kind-at-reads.Asked, kind-at-reads.Learnt, too-deep-reads.Asked, too-deep-reads.Learnt, list-below t, list.Post, push-reads.Asked, push-reads.Learnt, unexpected-reads.Asked, unexpected-reads.Learnt)
 
 abbrev list-cs : ℕ → list-lts.Claims
-list-cs t = (kind-at-reads.Asked, kind-at-reads.Learnt, arg-head-reads.Asked, arg-head-reads.Learnt, expr-below t, expr.Post, push-reads.Asked, push-reads.Learnt)
+list-cs t = (kind-at-reads.Asked, kind-at-reads.Learnt, arg-below t, arg.Post)
 
 abbrev slashes-cs : ℕ → slashes-lts.Claims
 slashes-cs t = (kind-at-reads.Asked, kind-at-reads.Learnt, too-deep-reads.Asked, too-deep-reads.Learnt, chain-below t, chain.Post, push-reads.Asked, push-reads.Learnt)
+
+arg-arg-head-requires : (t : ℕ) → arg-lts.Need-arg-head-requires (arg-cs t) (arg-at t) arg.Post
+arg-arg-head-requires t c κs = omega arith
+
+arg-expr-requires : (t : ℕ) → arg-lts.Need-expr-requires (arg-cs t) (arg-at t) arg.Post
+arg-expr-requires t c κs = omega arith
+
+arg-enum-known-next : (t : ℕ) → arg-lts.Need-enum-known-next (arg-cs t) (arg-at t) arg.Post
+arg-enum-known-next t c = search needs
+
+arg-sub-push : (t : ℕ) → arg-lts.Need-sub-push (arg-cs t) (arg-at t) arg.Post
+arg-sub-push t c = omega (arith, ahead (c .before .before .next .given .1) (c .before .before .before .before .before .before .expr .ensures .0))
+
+arg-push-requires : (t : ℕ) → arg-lts.Need-push-requires (arg-cs t) (arg-at t) arg.Post
+arg-push-requires t c κs = omega (arith, ahead (c .before .before .next .given .1) (c .before .before .before .before .before .before .expr .ensures .0))
+
+arg-add-t20 : (t : ℕ) → arg-lts.Need-add-t20 (arg-cs t) (arg-at t) arg.Post
+arg-add-t20 t c = omega (arith, ahead (c .before .before .before .before .before .next .given .1) (c .before .before .before .before .before .before .before .before .before .expr .ensures .0))
+
+arg-enum-known-number : (t : ℕ) → arg-lts.Need-enum-known-number (arg-cs t) (arg-at t) arg.Post
+arg-enum-known-number t c = search needs
+
+arg-same-length : (t : ℕ) → arg-lts.Need-same-length (arg-cs t) (arg-at t) arg.Post
+arg-same-length t c = omega (arith, c .before .before .push .kept .0, c .before .before .before .before .before .before .before .before .before .expr .kept .1 .0)
+
+arg-returns : (t : ℕ) → arg-lts.Need-returns (arg-cs t) (arg-at t) arg.Post
+arg-returns t c =
+    let a = c .before .before .before .before .before .before .before .before .before .before .before .before .before .before .args in
+    let hd = c .before .before .before .before .before .before .before .before .before .before .before .arg-head .ensures in
+    let e = c .before .before .before .before .before .next .given .1 in
+    let o = c .before .before .before .before .before .before .before .before .before .expr .ensures in
+    let f = ahead e (o .0) in (
+      omega arith,
+      λ ts ns g rep s. let d = done e (o .1 ts (withArgs ns g) rep (s .long) (s .held)) in
+          met-arg (arg-go rep _ g _ _ (hd .0 .1) (d .0) _ _ (d .1)) (arg-pushed (isNamed (a .toks .now) (a .at)) (a .at) s (d .2) (hd .0 .1) (hd .0 .0) (c .before .before .push .ensures)),
+    )
+
+arg-same-length-2 : (t : ℕ) → arg-lts.Need-same-length-2 (arg-cs t) (arg-at t) arg.Post
+arg-same-length-2 t c = search needs
+
+arg-returns-2 : (t : ℕ) → arg-lts.Need-returns-2 (arg-cs t) (arg-at t) arg.Post
+arg-returns-2 t c =
+    let e = c .before .number .given .1 in
+    let o = c .before .before .before .before .before .expr .ensures in
+    (ahead-no refl (ahead-place e (o .0)), λ ts ns g rep s. met-arg-no (arg-no rep _ g _ _ (c .before .before .before .before .before .before .before .arg-head .ensures .0 .1) _ _ _ (refused e (o .1 ts (withArgs ns g) rep (s .long) (s .held)))))
 
 chain-primary-requires : (t : ℕ) → chain-lts.Need-primary-requires (chain-cs t) (chain-at t) chain.Post
 chain-primary-requires t c κs = omega arith
@@ -357,113 +418,100 @@ list-loop-holds t c =
 list-kind-at-requires : (t : ℕ) → list-lts.Need-kind-at-requires (list-cs t) (list-at t) list.Post list-Inv-loop list-μ-loop
 list-kind-at-requires t c κs = omega arith
 
-list-arg-head-requires : (t : ℕ) → list-lts.Need-arg-head-requires (list-cs t) (list-at t) list.Post list-Inv-loop list-μ-loop
-list-arg-head-requires t c κs = omega arith
+list-sub-arg : (t : ℕ) → list-lts.Need-sub-arg (list-cs t) (list-at t) list.Post list-Inv-loop list-μ-loop
+list-sub-arg t c = omega arith
 
-list-sub-expr : (t : ℕ) → list-lts.Need-sub-expr (list-cs t) (list-at t) list.Post list-Inv-loop list-μ-loop
-list-sub-expr t c = omega arith
-
-list-expr-requires : (t : ℕ) → list-lts.Need-expr-requires (list-cs t) (list-at t) list.Post list-Inv-loop list-μ-loop
-list-expr-requires t c κs = omega arith
+list-arg-requires : (t : ℕ) → list-lts.Need-arg-requires (list-cs t) (list-at t) list.Post list-Inv-loop list-μ-loop
+list-arg-requires t c κs = omega arith
 
 list-enum-known-next : (t : ℕ) → list-lts.Need-enum-known-next (list-cs t) (list-at t) list.Post list-Inv-loop list-μ-loop
 list-enum-known-next t c = search needs
 
-list-sub-push : (t : ℕ) → list-lts.Need-sub-push (list-cs t) (list-at t) list.Post list-Inv-loop list-μ-loop
-list-sub-push t c = omega (arith, ahead (c .before .before .next .given .1) (c .before .before .before .before .before .before .expr .ensures .0))
-
-list-push-requires : (t : ℕ) → list-lts.Need-push-requires (list-cs t) (list-at t) list.Post list-Inv-loop list-μ-loop
-list-push-requires t c κs = omega (arith, ahead (c .before .before .next .given .1) (c .before .before .before .before .before .before .expr .ensures .0))
-
-list-add-have : (t : ℕ) → list-lts.Need-add-have (list-cs t) (list-at t) list.Post list-Inv-loop list-μ-loop
-list-add-have t c = omega (arith, ahead (c .before .before .before .before .before .next .given .1) (c .before .before .before .before .before .before .before .before .before .expr .ensures .0))
-
 list-kind-at-requires-2 : (t : ℕ) → list-lts.Need-kind-at-requires-2 (list-cs t) (list-at t) list.Post list-Inv-loop list-μ-loop
-list-kind-at-requires-2 t c κs = omega (arith, ahead (c .before .before .before .before .before .next .given .1) (c .before .before .before .before .before .before .before .before .before .expr .ensures .0))
+list-kind-at-requires-2 t c κs = omega (arith, ahead (c .before .next .given .1) (c .before .before .before .before .before .arg .ensures .0))
 
 list-add-at-2 : (t : ℕ) → list-lts.Need-add-at-2 (list-cs t) (list-at t) list.Post list-Inv-loop list-μ-loop
-list-add-at-2 t c = omega (arith, ahead (c .before .before .before .before .before .before .before .next .given .1) (c .before .before .before .before .before .before .before .before .before .before .before .expr .ensures .0))
+list-add-at-2 t c = omega (arith, ahead (c .before .before .before .next .given .1) (c .before .before .before .before .before .before .before .arg .ensures .0))
 
 list-loop-less : (t : ℕ) → list-lts.Need-loop-less (list-cs t) (list-at t) list.Post list-Inv-loop list-μ-loop
-list-loop-less t c = omega (arith, ahead (c .before .before .before .before .before .before .before .next .given .1) (c .before .before .before .before .before .before .before .before .before .before .before .expr .ensures .0), inside (c .before .before .before .before .before .before .before .before .before .before .before .before .before .before .before .before .before .before .before .before .args .toks .now) (c .before .before .before .before .before .before .before .next .given .0 .0) 7 (seen (c .before .kind-at2 .ensures) (c .if3 .taken)))
+list-loop-less t c = omega (arith, ahead (c .before .before .before .next .given .1) (c .before .before .before .before .before .before .before .arg .ensures .0), inside (c .before .before .before .before .before .before .before .before .before .before .before .before .before .before .before .args .toks .now) (c .before .before .before .next .given .0 .0) 7 (seen (c .before .kind-at2 .ensures) (c .if3 .taken)))
 
 list-loop-again : (t : ℕ) → list-lts.Need-loop-again (list-cs t) (list-at t) list.Post list-Inv-loop list-μ-loop
 list-loop-again t c =
-    let a = c .before .before .before .before .before .before .before .before .before .before .before .before .before .before .before .before .before .before .before .before .args in
-    let v = c .before .before .before .before .before .before .before .before .before .before .before .before .before .before .before .before .loop in
-    let hd = c .before .before .before .before .before .before .before .before .before .before .before .before .before .arg-head in
-    let e = c .before .before .before .before .before .before .before .next .given .1 in
-    let o = c .before .before .before .before .before .before .before .before .before .before .before .expr .ensures in
+    let a = c .before .before .before .before .before .before .before .before .before .before .before .before .before .before .before .args in
+    let v = c .before .before .before .before .before .before .before .before .before .before .before .loop in
+    let e = c .before .before .before .next .given .1 in
+    let o = c .before .before .before .before .before .before .before .arg .ensures in
     let f = ahead e (o .0) in
     let is9 = seen (c .before .kind-at2 .ensures) (c .if3 .taken) in
-    let i = inside (a .toks .now) (c .before .before .before .before .before .before .before .next .given .0 .0) 7 is9 in (
+    let i = inside (a .toks .now) (c .before .before .before .next .given .0 .0) 7 is9 in (
       omega arith,
       omega arith,
       omega arith,
       omega arith,
       omega arith,
-      omega (arith, c .before .before .before .before .push .kept .0, c .before .before .before .before .before .before .before .before .before .before .before .expr .kept .1 .0),
+      omega (arith, c .before .before .before .before .before .before .before .arg .kept .1 .0),
       λ ts ns rep l h. let g = v .inv .6 ts ns rep l h in
-          let d = done e (o .1 ts (withArgs ns (g .0)) rep (g .2 .long) (g .2 .held)) in
-          let m = args-more rep (exprAt ts (a .left - 1)) (g .0) (v .at) _ (g .1) (hd .ensures .0 .1) (v .inv .1) (g .3) (unseen (c .before .before .before .before .before .before .before .before .before .before .before .before .before .before .before .kind-at .ensures) (c .before .before .before .before .before .before .before .before .before .before .before .before .before .before .if2 .taken)) (d .0) _ _ (d .1) is9 (omega arith) in
-          (withArg (isNamed (a .toks .now) (v .at)) (g .0) (v .at) (d .0), m .0, arg-pushed (isNamed (a .toks .now) (v .at)) (v .at) (g .2) (d .2) (hd .ensures .0 .1) (hd .ensures .0 .0) (c .before .before .before .before .push .ensures), m .1, g .4 ∙ m .2),
+          let d = arg-done e (o .1 ts ns (g .0) rep (g .2)) in
+          let m = args-more rep (exprAt ts (a .left - 1)) (g .0) (v .at) (g .1) (v .inv .1) (g .3) (unseen (c .before .before .before .before .before .before .before .before .before .before .kind-at .ensures) (c .before .before .before .before .before .before .before .before .before .if2 .taken)) (d .0) _ _ (d .1) is9 (omega arith) in
+          (d .0, m .0, d .2, m .1, g .4 ∙ m .2),
     )
 
-list-add-t29 : (t : ℕ) → list-lts.Need-add-t29 (list-cs t) (list-at t) list.Post list-Inv-loop list-μ-loop
-list-add-t29 t c = omega (arith, ahead (c .before .before .before .before .before .before .before .before .next .given .1) (c .before .before .before .before .before .before .before .before .before .before .before .before .expr .ensures .0))
+list-add-t24 : (t : ℕ) → list-lts.Need-add-t24 (list-cs t) (list-at t) list.Post list-Inv-loop list-μ-loop
+list-add-t24 t c = omega (arith, ahead (c .before .before .before .before .next .given .1) (c .before .before .before .before .before .before .before .before .arg .ensures .0))
 
 list-same-length : (t : ℕ) → list-lts.Need-same-length (list-cs t) (list-at t) list.Post list-Inv-loop list-μ-loop
-list-same-length t c = omega (arith, c .before .before .before .before .before .push .kept .0, c .before .before .before .before .before .before .before .before .before .before .before .before .expr .kept .1 .0, c .before .before .before .before .before .before .before .before .before .before .before .before .before .before .before .before .before .loop .inv .5)
+list-same-length t c = omega (arith, c .before .before .before .before .before .before .before .before .arg .kept .1 .0, c .before .before .before .before .before .before .before .before .before .before .before .before .loop .inv .5)
 
 list-returns-2 : (t : ℕ) → list-lts.Need-returns-2 (list-cs t) (list-at t) list.Post list-Inv-loop list-μ-loop
 list-returns-2 t c =
-    let a = c .before .before .before .before .before .before .before .before .before .before .before .before .before .before .before .before .before .before .before .before .before .args in
-    let v = c .before .before .before .before .before .before .before .before .before .before .before .before .before .before .before .before .before .loop in
-    let hd = c .before .before .before .before .before .before .before .before .before .before .before .before .before .before .arg-head in
-    let e = c .before .before .before .before .before .before .before .before .next .given .1 in
-    let o = c .before .before .before .before .before .before .before .before .before .before .before .before .expr .ensures in
+    let a = c .before .before .before .before .before .before .before .before .before .before .before .before .before .before .before .before .args in
+    let v = c .before .before .before .before .before .before .before .before .before .before .before .before .loop in
+    let e = c .before .before .before .before .next .given .1 in
+    let o = c .before .before .before .before .before .before .before .before .arg .ensures in
     let f = ahead e (o .0) in
     let is3 = seen (c .before .before .kind-at2 .ensures) (c .if4 .taken) in
-    let i = inside (a .toks .now) (c .before .before .before .before .before .before .before .before .next .given .0 .0) 1 is3 in (
+    let i = inside (a .toks .now) (c .before .before .before .before .next .given .0 .0) 1 is3 in (
       omega arith,
       λ ts ns rep l h. let g = v .inv .6 ts ns rep l h in
-          let d = done e (o .1 ts (withArgs ns (g .0)) rep (g .2 .long) (g .2 .held)) in
-          list-ok (g .4 ∙ args-last rep _ (g .0) _ _ (g .1) (hd .ensures .0 .1) (v .inv .1) (g .3) (unseen (c .before .before .before .before .before .before .before .before .before .before .before .before .before .before .before .before .kind-at .ensures) (c .before .before .before .before .before .before .before .before .before .before .before .before .before .before .before .if2 .taken)) (d .0) _ _ (d .1) is3) (arg-pushed (isNamed (a .toks .now) (v .at)) (v .at) (g .2) (d .2) (hd .ensures .0 .1) (hd .ensures .0 .0) (c .before .before .before .before .before .push .ensures)),
+          let d = arg-done e (o .1 ts ns (g .0) rep (g .2)) in
+          list-ok (g .4 ∙ args-last rep _ (g .0) _ (g .1) (v .inv .1) (g .3) (unseen (c .before .before .before .before .before .before .before .before .before .before .before .kind-at .ensures) (c .before .before .before .before .before .before .before .before .before .before .if2 .taken)) (d .0) _ _ (d .1) is3) (d .2),
     )
 
 list-same-length-2 : (t : ℕ) → list-lts.Need-same-length-2 (list-cs t) (list-at t) list.Post list-Inv-loop list-μ-loop
-list-same-length-2 t c = omega (arith, c .before .before .before .before .before .push .kept .0, c .before .before .before .before .before .before .before .before .before .before .before .before .expr .kept .1 .0, c .before .before .before .before .before .before .before .before .before .before .before .before .before .before .before .before .before .loop .inv .5)
+list-same-length-2 t c = omega (arith, c .before .before .before .before .before .before .before .before .arg .kept .1 .0, c .before .before .before .before .before .before .before .before .before .before .before .before .loop .inv .5)
 
 list-returns-3 : (t : ℕ) → list-lts.Need-returns-3 (list-cs t) (list-at t) list.Post list-Inv-loop list-μ-loop
 list-returns-3 t c =
-    let v = c .before .before .before .before .before .before .before .before .before .before .before .before .before .before .before .before .before .loop in
+    let v = c .before .before .before .before .before .before .before .before .before .before .before .before .loop in
     let k2 = c .before .before .kind-at2 in
-    let e = c .before .before .before .before .before .before .before .before .next .given .1 in
-    let o = c .before .before .before .before .before .before .before .before .before .before .before .before .expr .ensures in
+    let e = c .before .before .before .before .next .given .1 in
+    let o = c .before .before .before .before .before .before .before .before .arg .ensures in
     let f = ahead e (o .0) in (
       omega arith,
       λ ts ns rep l h. let g = v .inv .6 ts ns rep l h in
-          let d = done e (o .1 ts (withArgs ns (g .0)) rep (g .2 .long) (g .2 .held)) in
-          list-no (g .4 ∙ args-bad rep _ (g .0) _ _ (g .1) (c .before .before .before .before .before .before .before .before .before .before .before .before .before .before .arg-head .ensures .0 .1) (v .inv .1) (g .3) (unseen (c .before .before .before .before .before .before .before .before .before .before .before .before .before .before .before .before .kind-at .ensures) (c .before .before .before .before .before .before .before .before .before .before .before .before .before .before .before .if2 .taken)) (d .0) _ _ (d .1) (unseen (k2 .ensures) (c .before .if3 .left)) (unseen (k2 .ensures) (c .if4 .left))),
+          let d = arg-done e (o .1 ts ns (g .0) rep (g .2)) in
+          list-no (g .4 ∙ args-bad rep _ (g .0) _ (g .1) (v .inv .1) (g .3) (unseen (c .before .before .before .before .before .before .before .before .before .before .before .kind-at .ensures) (c .before .before .before .before .before .before .before .before .before .before .if2 .taken)) (d .0) _ _ (d .1) (unseen (k2 .ensures) (c .before .if3 .left)) (unseen (k2 .ensures) (c .if4 .left))),
     )
 
 list-enum-known-number : (t : ℕ) → list-lts.Need-enum-known-number (list-cs t) (list-at t) list.Post list-Inv-loop list-μ-loop
 list-enum-known-number t c = search needs
 
 list-same-length-3 : (t : ℕ) → list-lts.Need-same-length-3 (list-cs t) (list-at t) list.Post list-Inv-loop list-μ-loop
-list-same-length-3 t c = omega (arith, c .before .before .before .before .before .expr .kept .1 .0, c .before .before .before .before .before .before .before .before .before .before .loop .inv .5)
+list-same-length-3 t c = omega (arith, c .before .before .before .before .before .arg .kept .1 .0, c .before .before .before .before .before .before .before .before .before .loop .inv .5)
 
 list-returns-4 : (t : ℕ) → list-lts.Need-returns-4 (list-cs t) (list-at t) list.Post list-Inv-loop list-μ-loop
 list-returns-4 t c =
-    let v = c .before .before .before .before .before .before .before .before .before .before .loop in
-    let e = c .before .number .given .1 in (
-      record { on = ahead-place e (c .before .before .before .before .before .expr .ensures .0) },
+    let v = c .before .before .before .before .before .before .before .before .before .loop in
+    let e = c .before .number .given .1 in
+    let o = c .before .before .before .before .before .arg .ensures in (
+      record { on = ahead-place e (o .0) },
       λ ts ns rep l h. let g = v .inv .6 ts ns rep l h in
-          list-no (g .4 ∙ args-no rep _ (g .0) _ _ (g .1) (c .before .before .before .before .before .before .before .arg-head .ensures .0 .1) (v .inv .1) (g .3) (unseen (c .before .before .before .before .before .before .before .before .before .kind-at .ensures) (c .before .before .before .before .before .before .before .before .if2 .taken)) _ _ _ (refused e (c .before .before .before .before .before .expr .ensures .1 ts (withArgs ns (g .0)) rep (g .2 .long) (g .2 .held)))),
+          list-no (g .4 ∙ args-no rep _ (g .0) _ (g .1) (v .inv .1) (g .3) (unseen (c .before .before .before .before .before .before .before .before .kind-at .ensures) (c .before .before .before .before .before .before .before .if2 .taken)) _ _ _ (arg-refused e (o .1 ts ns (g .0) rep (g .2)))),
     )
 
-list-add-t30 : (t : ℕ) → list-lts.Need-add-t30 (list-cs t) (list-at t) list.Post list-Inv-loop list-μ-loop
-list-add-t30 t c = omega (arith, inside (c .before .before .before .before .before .before .args .toks .now) (c .before .before .loop .at) 1 (seen (c .before .kind-at .ensures) (c .if2 .left)))
+list-add-t25 : (t : ℕ) → list-lts.Need-add-t25 (list-cs t) (list-at t) list.Post list-Inv-loop list-μ-loop
+list-add-t25 t c = omega (arith, inside (c .before .before .before .before .before .before .args .toks .now) (c .before .before .loop .at) 1 (seen (c .before .kind-at .ensures) (c .if2 .left)))
 
 list-same-length-4 : (t : ℕ) → list-lts.Need-same-length-4 (list-cs t) (list-at t) list.Post list-Inv-loop list-μ-loop
 list-same-length-4 t c = c .before .before .loop .inv .5
@@ -575,11 +623,12 @@ slashes-returns-3 t c = (
       met-ok refl (g .4 ∙ slashes-stop rep _ (g .0) _ (g .1) _ (g .3) (unseen (c .before .kind-at .ensures) (c .if1 .left))) (g .2),
 )
 
-pub +chain+expr+links+list+slashes-spec : {M : Type 1} → statement M
-+chain+expr+links+list+slashes-spec =
-    close μ-chain μ-expr μ-links μ-list μ-slashes
+pub +arg+chain+expr+links+list+slashes-spec : {M : Type 1} → statement M
++arg+chain+expr+links+list+slashes-spec =
+    close μ-arg μ-chain μ-expr μ-links μ-list μ-slashes
+    (λ t. arg-lts.spec (arg-cs t) (arg-at t) arg.Post (arg-arg-head-requires t) (arg-expr-requires t) (arg-enum-known-next t) (arg-sub-push t) (arg-push-requires t) (arg-add-t20 t) (arg-enum-known-number t) (arg-same-length t) (arg-returns t) (arg-same-length-2 t) (arg-returns-2 t))
     (λ t. chain-lts.spec (chain-cs t) (chain-at t) chain.Post (chain-primary-requires t) (chain-enum-known-next t) (chain-links-requires t) (chain-enum-known-number t) (chain-same-length t) (chain-returns t) (chain-same-length-2 t) (chain-returns-2 t))
     (λ t. expr-lts.spec (expr-cs t) (expr-at t) expr.Post (expr-chain-requires t) (expr-enum-known-next t) (expr-slashes-requires t) (expr-enum-known-number t) (expr-same-length t) (expr-returns t) (expr-same-length-2 t) (expr-returns-2 t))
     (λ t. links-lts.spec (links-cs t) (links-at t) links.Post links-Inv-loop links-μ-loop (links-loop-holds t) (links-kind-at-requires t) (links-too-deep-requires t) (links-same-length t) (links-returns t) (links-list-requires t) (links-enum-known-next t) (links-sub-push t) (links-push-requires t) (links-add-have t) (links-sub-more t) (links-loop-less t) (links-loop-again t) (links-enum-known-number t) (links-same-length-2 t) (links-returns-2 t) (links-too-deep-requires-2 t) (links-same-length-3 t) (links-returns-3 t) (links-add-kind-at t) (links-kind-at-requires-2 t) (links-add-unexpected t) (links-unexpected-requires t) (links-same-length-4 t) (links-returns-4 t) (links-sub-push-2 t) (links-add-push t) (links-push-requires-2 t) (links-add-at t) (links-add-have-2 t) (links-sub-more-2 t) (links-loop-less-2 t) (links-loop-again-2 t) (links-same-length-5 t) (links-returns-5 t))
-    (λ t. list-lts.spec (list-cs t) (list-at t) list.Post list-Inv-loop list-μ-loop (list-returns t) (list-add-at t) (list-loop-holds t) (list-kind-at-requires t) (list-arg-head-requires t) (list-sub-expr t) (list-expr-requires t) (list-enum-known-next t) (list-sub-push t) (list-push-requires t) (list-add-have t) (list-kind-at-requires-2 t) (list-add-at-2 t) (list-loop-less t) (list-loop-again t) (list-add-t29 t) (list-same-length t) (list-returns-2 t) (list-same-length-2 t) (list-returns-3 t) (list-enum-known-number t) (list-same-length-3 t) (list-returns-4 t) (list-add-t30 t) (list-same-length-4 t) (list-returns-5 t))
+    (λ t. list-lts.spec (list-cs t) (list-at t) list.Post list-Inv-loop list-μ-loop (list-returns t) (list-add-at t) (list-loop-holds t) (list-kind-at-requires t) (list-sub-arg t) (list-arg-requires t) (list-enum-known-next t) (list-kind-at-requires-2 t) (list-add-at-2 t) (list-loop-less t) (list-loop-again t) (list-add-t24 t) (list-same-length t) (list-returns-2 t) (list-same-length-2 t) (list-returns-3 t) (list-enum-known-number t) (list-same-length-3 t) (list-returns-4 t) (list-add-t25 t) (list-same-length-4 t) (list-returns-5 t))
     λ t. slashes-lts.spec (slashes-cs t) (slashes-at t) slashes.Post slashes-Inv-loop slashes-μ-loop (slashes-loop-holds t) (slashes-kind-at-requires t) (slashes-too-deep-requires t) (slashes-same-length t) (slashes-returns t) (slashes-add-chain t) (slashes-sub-chain t) (slashes-chain-requires t) (slashes-enum-known-next t) (slashes-sub-push t) (slashes-sub-push-2 t) (slashes-push-requires t) (slashes-add-have t) (slashes-loop-less t) (slashes-loop-again t) (slashes-enum-known-number t) (slashes-same-length-2 t) (slashes-returns-2 t) (slashes-same-length-3 t) (slashes-returns-3 t)

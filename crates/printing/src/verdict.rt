@@ -1,6 +1,6 @@
-// What is printed where there is no tree.
-use printing::output;
-use printing::token;
+// What is printed where there is no answer.
+use crate::output;
+use crate::token;
 use scan::Verdict;
 
 // Which kind of its number a refusal is, for the numbers that have kinds.

@@ -1,6 +1,10 @@
-// Whole answers: what was found, and what the check program prints.
+// Whole answers: what was found, what the check program prints, and what the mode `check` does.
 use crate::diagnostic;
+use crate::statement;
+use checker::CheckAnswer;
+use constants::Constants;
 use printing::output;
+use printing::verdict;
 use scan::Verdict;
 
 // A sum, or the largest number there is.
@@ -46,4 +50,47 @@ pub fn report<'a>(
         return refused(verdict, out, at);
     }
     findings(source, text, diags, errors, warnings, out, at)
+}
+
+// The findings, and the statements after them.
+fn judged<'a>(
+    source: &'a [u8],
+    text: &'a [u8],
+    tokens: &[u64],
+    diags: &[u64],
+    stmts: &[u64],
+    checked: CheckAnswer,
+    out: &mut [u8],
+    at: usize,
+) -> usize {
+    let p = findings(
+        source,
+        text,
+        diags,
+        checked.errors,
+        checked.warnings,
+        out,
+        at,
+    );
+    statement::statements(source, text, tokens, stmts, checked.statements, out, p)
+}
+
+// The mode `check`.
+pub fn answer(
+    source: &[u8],
+    tokens: &mut [u64],
+    nodes: &mut [u64],
+    diags: &mut [u64],
+    stmts: &mut [u64],
+    out: &mut [u8],
+    at: usize,
+) -> usize {
+    let checked = checker::check_source(source, tokens, nodes, diags, stmts);
+    let v = checked.verdict;
+    if v.number != 0 {
+        return verdict::refused(v, out, at);
+    }
+    let table = Constants::new();
+    let text = table.text;
+    judged(source, &text, tokens, diags, stmts, checked, out, at)
 }

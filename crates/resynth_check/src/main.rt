@@ -1,15 +1,3 @@
-The check program, which waits for the crate `checker` and its entry `check_source`. It was proved over a crate with that
-signature; `check` is the one function that names it. Each part below is a file; this writes them:
-
-    awk '/^=== / { file = $2; system("mkdir -p $(dirname " file ")"); next } file { print >file }' drafts/resynth_check.txt
-
-crates.txt then gets the line
-
-    resynth_check: showing_check printing constants scan lex parse checker io libc
-
-Where `checker` states how many words a row of its tables has, `run` uses that for 11 and 7.
-
-=== crates/resynth_check/src/main.rt
 // The check program: checks the source on standard input and prints what was found, or one line for a refusal.
 use checker::CheckAnswer;
 use constants::Constants;
@@ -18,14 +6,19 @@ use libc::STDIN_FILENO;
 use parse::Parser;
 use printing::output;
 use scan::Scanner;
+use showing_check::Diagnostic;
+use showing_check::Statement;
 
 struct Program {}
 
 impl Program {
     // How many rows each table has.
     const TOKENS: usize = 2048;
+
     const NODES: usize = 2048;
+
     const DIAGNOSTICS: usize = 128;
+
     const STATEMENTS: usize = 512;
 }
 
@@ -67,8 +60,8 @@ fn answer<'a>(
 fn run(source: &mut [u8], out: &mut [u8]) {
     let mut tokens = [0u64; Program::TOKENS * Lexer::ROW_WORDS];
     let mut nodes = [0u64; Program::NODES * Parser::ROW_WORDS];
-    let mut diags = [0u64; Program::DIAGNOSTICS * 11];
-    let mut stmts = [0u64; Program::STATEMENTS * 7];
+    let mut diags = [0u64; Program::DIAGNOSTICS * Diagnostic::ROW_WORDS];
+    let mut stmts = [0u64; Program::STATEMENTS * Statement::ROW_WORDS];
     let table = Constants::new();
     let text = table.text;
     let end = io::read_full(STDIN_FILENO, source);
@@ -90,40 +83,3 @@ fn main() {
     let mut out = [0u8; 65536];
     run(&mut source, &mut out);
 }
-=== crates/resynth_check/proofs/main/Proof.antt
--- An array of repeated zeros has the length that was asked for: by a law, since counting them takes seconds.
-use mathlib.Core.Path.{sym}
-use Prim.Native.Nat.{ℕ}
-use lib.ListN.{length-replicate}
-use borrow.Author.Needs.{needs}
-use Rattle.resynth_check.proofs.main.Statement.{statement}
-use Rattle.resynth_check.proofs.main.Tie as tie
-
-slice-aggregate-run : tie.Need-slice-aggregate-run
-slice-aggregate-run c = sym (length-replicate {A = ℕ} 65537 0)
-
-slice-aggregate-run-2 : tie.Need-slice-aggregate-run-2
-slice-aggregate-run-2 c = sym (length-replicate {A = ℕ} 65536 0)
-
-run-requires : tie.Need-run-requires
-run-requires c κs = search needs
-
-returns : tie.Need-returns
-returns c = search needs
-
-pub main-spec : {M : Type 1} → statement M
-main-spec =
-    tie.close (tie.spec slice-aggregate-run slice-aggregate-run-2 run-requires returns)
-=== crates/resynth_check/stdin
-let p = 65536;
-let a = 1.2.3.4/p;
-a;
-b;
-let c = b;
-c;
-=== crates/resynth_check/stdout
-2 17 W Truncated 65536 u16
-3 1 W DiscardedValue Sock4
-4 1 E UnknownName b
-5 9 E UnknownName b
-errors 2 warnings 2

@@ -1,0 +1,55 @@
+-- A program finds as much as it has nodes at the most, and holds as many statements at the most: each statement finds as much
+-- as it has nodes, and holds one.
+use Prim.Native.Nat.{ℕ, suc, _+_, _≤_}
+use mathlib.Core.Path.{_≡_, refl, subst}
+use mathlib.Core.List.{List, [], _∷_, _++_}
+use native.Mathlib.Omega.{arith}
+use lib.ListN.{length, length-append}
+use Rattle.language.specs.Tokens.{Content}
+use Rattle.language.specs.Sentences.{Stmt, import′, let′, expr′, stmtNodes, nodesFrom, nodes}
+use Rattle.language.specs.Judgements.{Diag, Held, Known, known, Turn, goes, full, Outcome, judged, refused, stmt, onward, run, judgeAll}
+use Rattle.checker.specs.Checking.{stmtSize}
+use Rattle.checker.proofs.Runs.{few-findings}
+use Rattle.terkinoha.proofs.Few.{stmt-long}
+
+some-node : (s : Stmt) → 1 ≤ stmtSize s
+some-node (import′ t) = omega arith
+some-node (let′ t e) = omega arith
+some-node (expr′ e) = omega arith
+
+-- as many findings as a and as many statements as b, at the most
+abbrev Within : ℕ → ℕ → Outcome → Type 0
+Within a b (judged ds hs) = (length ds ≤ a) × (length hs ≤ b)
+Within a b (refused t) = Unit
+
+wider : (a b c d : ℕ) (o : Outcome) → a ≤ c → b ≤ d → Within a b o → Within c d o
+wider a b c d (judged ds hs) h l w = (omega (arith, w .0), omega (arith, w .1))
+wider a b c d (refused t) h l w = tt
+
+module _ (ts : List Content) where
+  -- one statement of c nodes, and those that follow, of m nodes
+  onward-within : (s : Stmt) (n : ℕ) (k : Known) (c m : ℕ) → c ≡ stmtSize s → (t : Turn) → stmt ts n k s ≡ t → (ds : List Diag) (hs : List Held)
+      (f : Known → List Diag → List Held → Outcome) → ((k′ : Known) (es : List Diag) (gs : List Held) → Within (length es + m) (length gs + m) (f k′ es gs))
+      → Within (length ds + (c + m)) (length hs + (c + m)) (onward ts t ds hs f)
+  onward-within s n k c m l (full t) e ds hs f g = tt
+  onward-within s n k c m l (goes k′ es gs) e ds hs f g =
+      let h = few-findings ts n k s e in
+      wider (length (ds ++ es) + m) (length (hs ++ gs) + m) (length ds + (c + m)) (length hs + (c + m)) (f k′ (ds ++ es) (hs ++ gs))
+      (omega (arith, length-append ds es, h .0)) (omega (arith, length-append hs gs, h .1, some-node s)) (g k′ (ds ++ es) (hs ++ gs))
+
+  run-within : (i : ℕ) (ss : List Stmt) (n : ℕ) (k : Known) (ds : List Diag) (hs : List Held)
+      → Within (length ds + length (nodesFrom i ss)) (length hs + length (nodesFrom i ss)) (run ts ss n k ds hs)
+  unfolding run nodesFrom
+  run-within i [] n k ds hs = (omega arith, omega arith)
+  run-within i (s ∷ ss) n k ds hs =
+      let j = i + length (stmtNodes i s) in
+      rw (length-append (stmtNodes i s) (nodesFrom j ss))
+      (onward-within s n k (length (stmtNodes i s)) (length (nodesFrom j ss)) (stmt-long i s) (stmt ts n k s) refl ds hs
+      (λ k′ es gs. run ts ss (suc n) k′ es gs) (λ k′ es gs. run-within j ss (suc n) k′ es gs))
+
+  pub found-few : (ss : List Stmt) {ds : List Diag} {hs : List Held} → judgeAll ts ss ≡ judged ds hs
+      → (length ds ≤ length (nodes ss)) × (length hs ≤ length (nodes ss))
+  found-few ss {ds} {hs} e =
+      let m = length (nodes ss) in
+      let w : Within (0 + m) (0 + m) (judged ds hs) = subst (Within (0 + m) (0 + m)) e (run-within 0 ss 1 (known [] []) [] []) in
+      (omega (arith, w .0), omega (arith, w .1))
