@@ -12,7 +12,6 @@ use Rattle.parse.specs.declared.Parsed.the-variants.{Done, Refused}
 use Rattle.parse.specs.declared.Listed.{Listed}
 use Rattle.parse.specs.declared.Listed.the-variants as listed
 
--- two constructors are never equal
 -- ---- expressions
 
 standing : {t : List ℕ} {ns : List Node} {e : Expr} {m n first : ℕ} → m ≡ n → Stands t ns e m first → Stands t ns e n first
