@@ -298,7 +298,8 @@ static void tell(const struct script *script, const terkinoha_diagnostic *found)
         break;
     case TERKINOHA_FINDING_TRUNCATED:
         put_integer(found->second, found->first);
-        fprintf(stderr, " does not fit %s: it is cut to %" PRIu64, terkinoha_type_text(found->type), found->first & 65535);
+        fprintf(stderr, " does not fit %s: it is cut to %" PRIu64, terkinoha_type_text(found->type),
+                found->first & 65535);
         break;
     default:
         tell_name(script, found);
@@ -551,6 +552,7 @@ int main(int argc, char **argv)
         fprintf(stderr, "usage: show check|tokens|tree|text FILE\n");
         return 2;
     }
+    setvbuf(stderr, NULL, _IOLBF, BUFSIZ); /* a line at a time, and not a character */
     struct script script = read_script(argv[2]);
     int status = show(mode, &script);
     free(script.bytes);

@@ -23,7 +23,8 @@
  *   Every sequence of bytes gets an answer. No call aborts, allocates, prints, calls back or fails
  *   to return. Nothing is kept between calls: the same bytes and sizes give the same answer,
  *   whatever was called before, and calls may run on any threads at the same time. A call needs
- *   less than 32 KiB of stack. What calls promise is proved of their code; the README says how.
+ *   less than 32 KiB of stack, terkinoha_check less than 128 KiB. What calls promise is proved of
+ *   their code; the README says how.
  *
  * What a host owes
  *

@@ -15,13 +15,15 @@ use std::hint::black_box;
 use std::io::Write;
 use std::time::{Duration, Instant};
 
+use resynth::Held;
 use resynth::ast::Stmt;
+use resynth::check::Diagnostic;
 use resynth::lex::Token;
 
 use ours::{Rooms, Tables};
 use scripts::{KINDS, Kind};
 
-const CALLS: [&str; 6] = ["utf8", "scan by line", "scan whole", "lex", "parse", "canonicalise"];
+const CALLS: [&str; 7] = ["utf8", "scan by line", "scan whole", "lex", "parse", "canonicalise", "check"];
 
 /// A script with what both sides need to know of it
 struct Script {
@@ -41,10 +43,15 @@ impl Script {
             lexemes: theirs::scan(text),
             tokens: theirs::lex(text).len(),
             nodes: theirs::nodes(&theirs::parse(text)) as usize,
+            diagnostics: 0,
+            statements: 0,
             text: ours::MOST,
         };
         let mut script = Self { bytes, rooms, lines };
         script.rooms.text = script.agree();
+        if kind.calls.contains(&"check") {
+            script.agree_on_check();
+        }
         script
     }
 
@@ -78,6 +85,25 @@ impl Script {
         assert_eq!(written.verdict.number, 0);
         written.count as usize
     }
+
+    /// Both sides find the same in a script, which has no errors, and hold as many statements at the same places. Then
+    /// there is just room for these.
+    fn agree_on_check(&mut self) {
+        let (held, found) = theirs::check(self.text(), 0);
+        self.rooms.diagnostics = found.len();
+        self.rooms.statements = held.stmts.len();
+        let mut tables = Tables::new();
+        let checked = tables.check(&self.bytes, self.rooms);
+        assert_eq!((checked.verdict.number, checked.errors, held.errors), (0, 0, 0));
+        assert_eq!(checked.warnings, held.warnings as u64);
+        assert_eq!(checked.statements, held.stmts.len() as u64);
+        for (row, diag) in tables.diagnostics.chunks(ours::DIAGNOSTIC_WORDS).zip(&found) {
+            assert_eq!((row[0], row[1], row[2]), theirs::finding(diag));
+        }
+        for (row, stmt) in tables.statements.chunks(ours::STATEMENT_WORDS).zip(&held.stmts) {
+            assert_eq!((row[0], row[1]), (stmt.loc.line() as u64, stmt.loc.col() as u64));
+        }
+    }
 }
 
 /// How much room a call is lent
@@ -109,6 +135,7 @@ fn ours_once(call: &str, script: &Script, tables: &mut Tables, lent: Lent) -> u6
         "scan whole" => tables.scan(bytes, rooms.lexemes).count,
         "lex" => tables.lex(bytes, rooms).count,
         "parse" => tables.parse(bytes, rooms).count,
+        "check" => tables.check(bytes, rooms).statements,
         _ => tables.canonicalise(bytes, rooms).count,
     }
 }
@@ -119,15 +146,20 @@ enum Kept {
     Count(usize),
     Tokens(VecDeque<Token>),
     Trees(Vec<Stmt>),
+    Checked(Held, Vec<Diagnostic>),
 }
 
 /// The Rust's, once. Nothing there canonicalises: its lexer stands beside ours that lexes and writes.
-fn rust_once(call: &str, text: &str) -> Kept {
+fn rust_once(call: &str, text: &str, rooms: Rooms) -> Kept {
     match call {
         "utf8" => Kept::Count(str::from_utf8(black_box(text.as_bytes())).map_or(0, str::len)),
         "scan by line" => Kept::Count(text.split_terminator('\n').map(theirs::scan).sum()),
         "scan whole" => Kept::Count(theirs::scan(text)),
         "lex" | "canonicalise" => Kept::Tokens(theirs::lex(text)),
+        "check" => {
+            let (held, found) = theirs::check(text, rooms.diagnostics);
+            Kept::Checked(held, found)
+        }
         _ => Kept::Trees(theirs::parse(text)),
     }
 }
@@ -212,10 +244,10 @@ fn time_rust(call: &str, script: &Script, from_bytes: bool, freed: bool) -> f64 
     let known = script.text();
     let began = Instant::now();
     for _ in 1..several(call) {
-        black_box(rust_once(call, black_box(known)));
+        black_box(rust_once(call, black_box(known), script.rooms));
     }
     let text = if from_bytes { script.text() } else { known };
-    let kept = black_box(rust_once(call, black_box(text)));
+    let kept = black_box(rust_once(call, black_box(text), script.rooms));
     if freed {
         drop(kept);
         return nanos(call, began);
@@ -261,10 +293,13 @@ fn table(calls: &[&'static str]) {
     println!("| script | KB | call | ours µs | Rust µs | ratio | with `from_utf8` | and freed | sure room | full room |");
     println!("|---|---|---|---|---|---|---|---|---|---|");
     for kind in &KINDS {
-        let sizes: &[usize] = if kind.name == "realistic" { &[1, 16, 64] } else { &[16, 64] };
-        let scripts: Vec<Script> = sizes.iter().map(|kb| Script::new(kind, kb * 1024)).collect();
-        for &call in calls {
-            for (script, &kb) in scripts.iter().zip(sizes) {
+        let calls: Vec<&str> = calls.iter().copied().filter(|call| kind.calls.contains(call)).collect();
+        if calls.is_empty() {
+            continue;
+        }
+        let scripts: Vec<Script> = kind.sizes.iter().map(|kb| Script::new(kind, kb * 1024)).collect();
+        for call in calls {
+            for (script, &kb) in scripts.iter().zip(kind.sizes) {
                 measure(call, script, &mut tables, budget).print(kind.name, kb, call);
             }
             let [.., small, large] = &scripts[..] else { continue };
@@ -290,7 +325,7 @@ fn once(words: &[String]) -> Option<()> {
         if who == "ours" {
             black_box(ours_once(call, &script, &mut tables, Lent::Just));
         } else {
-            black_box(rust_once(call, script.text()));
+            black_box(rust_once(call, script.text(), script.rooms));
         }
     }
     Some(())

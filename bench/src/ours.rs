@@ -10,7 +10,7 @@ pub struct Verdict {
     pub character: u64,
 }
 
-/// What a call with one table came to, and what one with two
+/// What a call with one table came to, what one with two, and what check
 #[repr(C)]
 #[derive(Clone, Copy, Debug)]
 pub struct One {
@@ -24,6 +24,17 @@ pub struct Two {
     pub verdict: Verdict,
     pub tokens: u64,
     pub count: u64,
+}
+
+#[repr(C)]
+#[derive(Clone, Copy, Debug)]
+pub struct Checked {
+    pub verdict: Verdict,
+    pub tokens: u64,
+    pub nodes: u64,
+    pub errors: u64,
+    pub warnings: u64,
+    pub statements: u64,
 }
 
 #[link(name = "terkinoha", kind = "static")]
@@ -46,6 +57,18 @@ unsafe extern "C" {
         text: *mut u8,
         room: usize,
     ) -> Two;
+    fn terkinoha_check_words(
+        source: *const u8,
+        bytes: usize,
+        tokens: *mut u64,
+        token_words: usize,
+        nodes: *mut u64,
+        node_words: usize,
+        diagnostics: *mut u64,
+        diagnostic_words: usize,
+        statements: *mut u64,
+        statement_words: usize,
+    ) -> Checked;
 }
 
 #[link(name = "bench_utf8", kind = "static")]
@@ -61,6 +84,8 @@ pub fn first_bad(source: &[u8]) -> usize {
 pub const LEXEME_WORDS: usize = 6;
 pub const TOKEN_WORDS: usize = 7;
 pub const NODE_WORDS: usize = 5;
+pub const DIAGNOSTIC_WORDS: usize = 11;
+pub const STATEMENT_WORDS: usize = 7;
 
 /// The largest source, which no script has more tokens or nodes than, `Eof` aside
 pub const MOST: usize = 65_536;
@@ -70,6 +95,8 @@ pub struct Tables {
     pub lexemes: Vec<u64>,
     pub tokens: Vec<u64>,
     pub nodes: Vec<u64>,
+    pub diagnostics: Vec<u64>,
+    pub statements: Vec<u64>,
     pub text: Vec<u8>,
 }
 
@@ -79,16 +106,20 @@ pub struct Rooms {
     pub lexemes: usize,
     pub tokens: usize,
     pub nodes: usize,
+    pub diagnostics: usize,
+    pub statements: usize,
     pub text: usize,
 }
 
 impl Rooms {
-    /// Enough for whatever source of so many bytes
+    /// Enough for whatever source of so many bytes. Findings are counted in full however few rows there are.
     pub fn of(bytes: usize) -> Self {
         Self {
             lexemes: bytes,
             tokens: bytes + 1,
             nodes: bytes,
+            diagnostics: 128,
+            statements: bytes,
             text: MOST,
         }
     }
@@ -100,6 +131,8 @@ impl Tables {
             lexemes: vec![0; MOST * LEXEME_WORDS],
             tokens: vec![0; (MOST + 1) * TOKEN_WORDS],
             nodes: vec![0; MOST * NODE_WORDS],
+            diagnostics: vec![0; MOST * DIAGNOSTIC_WORDS],
+            statements: vec![0; MOST * STATEMENT_WORDS],
             text: vec![0; MOST],
         }
     }
@@ -140,6 +173,27 @@ impl Tables {
                 rows.len(),
                 text.as_mut_ptr(),
                 text.len(),
+            )
+        }
+    }
+
+    pub fn check(&mut self, source: &[u8], rooms: Rooms) -> Checked {
+        let rows = &mut self.tokens[..rooms.tokens * TOKEN_WORDS];
+        let nodes = &mut self.nodes[..rooms.nodes * NODE_WORDS];
+        let found = &mut self.diagnostics[..rooms.diagnostics * DIAGNOSTIC_WORDS];
+        let held = &mut self.statements[..rooms.statements * STATEMENT_WORDS];
+        unsafe {
+            terkinoha_check_words(
+                source.as_ptr(),
+                source.len(),
+                rows.as_mut_ptr(),
+                rows.len(),
+                nodes.as_mut_ptr(),
+                nodes.len(),
+                found.as_mut_ptr(),
+                found.len(),
+                held.as_mut_ptr(),
+                held.len(),
             )
         }
     }

@@ -2,17 +2,30 @@
 
 use std::fmt::Write;
 
-pub const KINDS: [Kind; 6] = [
-    Kind { name: "realistic", block: realistic },
-    Kind { name: "comments", block: comments },
-    Kind { name: "strings", block: strings },
-    Kind { name: "numbers", block: numbers },
-    Kind { name: "long names", block: long_names },
-    Kind { name: "accents", block: accents },
+/// What stands at the start of scripts with calls
+const LIBRARIES: &str = "import ipv4;\nimport dns;\nimport tls;\n\n";
+
+/// A script with a call is not checked
+const WITH_CALLS: [&str; 6] = ["utf8", "scan by line", "scan whole", "lex", "parse", "canonicalise"];
+
+pub const KINDS: [Kind; 8] = [
+    Kind { name: "realistic", sizes: &[1, 16, 64], calls: &WITH_CALLS, start: LIBRARIES, block: realistic },
+    Kind { name: "comments", sizes: &[16, 64], calls: &WITH_CALLS, start: LIBRARIES, block: comments },
+    Kind { name: "strings", sizes: &[16, 64], calls: &WITH_CALLS, start: LIBRARIES, block: strings },
+    Kind { name: "numbers", sizes: &[16, 64], calls: &WITH_CALLS, start: LIBRARIES, block: numbers },
+    Kind { name: "long names", sizes: &[16, 64], calls: &WITH_CALLS, start: LIBRARIES, block: long_names },
+    Kind { name: "accents", sizes: &[16, 64], calls: &WITH_CALLS, start: LIBRARIES, block: accents },
+    Kind { name: "no calls", sizes: &[1, 16, 64], calls: &["check"], start: "import bench;\n\n", block: no_calls },
+    Kind { name: "500 names", sizes: &[64], calls: &["check"], start: "import bench;\n\n", block: many_names },
 ];
 
 pub struct Kind {
     pub name: &'static str,
+    /// In KB
+    pub sizes: &'static [usize],
+    /// What is timed on such scripts
+    pub calls: &'static [&'static str],
+    start: &'static str,
     block: fn(&mut Rng, &mut String),
 }
 
@@ -20,7 +33,7 @@ impl Kind {
     /// A script of exactly `size` bytes: imports, then blocks as long as they fit, then a comment that fills the rest
     pub fn script(&self, size: usize) -> Vec<u8> {
         let mut rng = Rng(size as u64);
-        let mut out = String::from("import ipv4;\nimport dns;\nimport tls;\n\n");
+        let mut out = String::from(self.start);
         loop {
             let before = out.len();
             (self.block)(&mut rng, &mut out);
@@ -179,4 +192,64 @@ fn accents(rng: &mut Rng, out: &mut String) {
     ];
     put!(out, "# {}\n# {}\n", rng.pick(&REMARKS), rng.pick(&REMARKS));
     put!(out, "let a{} = {}/{}; // {}\n", rng.below(900), quad(rng), rng.below(65536), rng.pick(&REMARKS));
+}
+
+// Scripts to check: they have no calls, and no errors
+
+/// How many groups of three `let`s a script has so far
+fn groups(out: &str) -> u64 {
+    out.matches("\nlet ").count() as u64 / 3
+}
+
+/// A group's name, which is that of its address with its port
+fn named(group: u64) -> String {
+    const STEMS: [&str; 8] = ["client", "server", "web", "dns", "proxy", "mail", "backup_server", "sensor"];
+    format!("{}{group}", STEMS[group as usize % STEMS.len()])
+}
+
+/// An address, a port, and both as one
+fn group(rng: &mut Rng, out: &mut String) {
+    let name = named(groups(out));
+    put!(out, "let {name}_host = {};\n", quad(rng));
+    match rng.below(4) {
+        0 => put!(out, "let {name}_port = bench::HTTP;\n"),
+        1 => put!(out, "let {name}_port = 0x{:x};\n", rng.below(65536)),
+        _ => put!(out, "let {name}_port = {};\n", rng.below(65536)),
+    }
+    put!(out, "let {name} = {name}_host/{name}_port;\n");
+}
+
+/// What scripts look like where nothing is called: addresses, ports and messages, by name and as they are
+fn no_calls(rng: &mut Rng, out: &mut String) {
+    let known = groups(out);
+    if known == 0 || rng.below(5) < 2 {
+        put!(out, "# {}\n", rng.pick(&REMARKS));
+        group(rng, out);
+        out.push('\n');
+        return;
+    }
+    // mostly one of the last
+    let near = if rng.below(4) == 0 { known } else { known.min(8) };
+    let name = named(known - 1 - rng.below(near));
+    put!(out, "{name}; // {}\n", rng.pick(&REMARKS));
+    put!(out, "\"GET /{name}.html HTTP/1.1|0d 0a|\"\n");
+    for _ in 0..1 + rng.below(3) {
+        put!(out, "    \"{}|0d 0a|\"\n", rng.pick(&HEADERS));
+    }
+    put!(out, "    \"|0d 0a|\";\n");
+    match rng.below(3) {
+        0 => put!(out, "bench::LOOP/{name}_port;\n\n"),
+        1 => put!(out, "{name}_host/{};\n\n", 1024 + rng.below(60000)),
+        _ => put!(out, "{}:{};\n\n", quad(rng), 1024 + rng.below(60000)),
+    }
+}
+
+/// Nearly as many names as may be bound, then uses of any of them
+fn many_names(rng: &mut Rng, out: &mut String) {
+    const GROUPS: u64 = 167;
+    if groups(out) < GROUPS {
+        return group(rng, out);
+    }
+    let (a, b) = (named(rng.below(GROUPS)), named(rng.below(GROUPS)));
+    put!(out, "{a}; # {}\n{a}_host/{b}_port;\n", rng.pick(&REMARKS));
 }

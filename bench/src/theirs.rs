@@ -1,9 +1,12 @@
-//! resynth's own scanner, lexer and parser on the same sources.
+//! resynth's own scanner, lexer, parser and checker on the same sources.
 
 use std::collections::VecDeque;
 
 use resynth::ast::{Expr, ExprKind, Stmt};
+use resynth::check::{Diagnostic, DiagnosticKind};
 use resynth::lex::{LexemeKind, Lexer, Scanner, Tok, Token};
+use resynth::stdlib::STDLIB;
+use resynth::{Held, hold};
 
 /// How many lexemes a line has
 pub fn scan(line: &str) -> usize {
@@ -21,6 +24,22 @@ pub fn lex(source: &str) -> VecDeque<Token> {
 
 pub fn parse(source: &str) -> Vec<Stmt> {
     resynth::parse::parse(lex(source)).expect("the script parses")
+}
+
+/// What the checker holds after its loop, and what it found, in room that was known beforehand as ours is
+pub fn check(source: &str, room: usize) -> (Held, Vec<Diagnostic>) {
+    let mut found = Vec::with_capacity(room);
+    let held = hold(&STDLIB, parse(source), |diag| found.push(diag));
+    (held, found)
+}
+
+/// The line and column of a finding, and 1 for an error, 2 for a warning
+pub fn finding(diag: &Diagnostic) -> (u64, u64, u64) {
+    let severity = match diag.kind {
+        DiagnosticKind::Error(_) => 1,
+        DiagnosticKind::Warning(_) => 2,
+    };
+    (diag.loc.line() as u64, diag.loc.col() as u64, severity)
 }
 
 /// The end of each lexeme, and whether it is a token

@@ -7,55 +7,86 @@
 #include <stdlib.h>
 #include <string.h>
 
-/* ---- one shape for the four calls ---- */
+/* ---- one shape for the five calls ---- */
 
-enum { SCAN, LEX, PARSE, CANONICALISE, ENTRIES };
+enum { SCAN, LEX, PARSE, CANONICALISE, CHECK_SOURCE, ENTRIES };
 
-static const char *const names[ENTRIES] = {"scan", "lex", "parse", "canonicalise"};
-static const size_t row_words[ENTRIES] = {TERKINOHA_LEXEME_WORDS, TERKINOHA_TOKEN_WORDS, TERKINOHA_TOKEN_WORDS,
-                                          TERKINOHA_TOKEN_WORDS};
-/* a unit of the second area: a node, or a byte of text */
-static const size_t second_unit[ENTRIES] = {1, 1, TERKINOHA_NODE_WORDS * sizeof(uint64_t), 1};
+/* What a call fills: lexemes or tokens, nodes or canonical text, findings, statements. */
+enum { ROWS, SECOND, FINDINGS, STATEMENTS, AREAS };
+
+static const char *const names[ENTRIES] = {"scan", "lex", "parse", "canonicalise", "check"};
+
+/* How many areas each call fills, and how many bytes a row there has, or a byte of text. */
+static const int areas[ENTRIES] = {1, 1, 2, 2, 4};
+static const size_t units[ENTRIES][AREAS] = {
+    {sizeof(terkinoha_lexeme), 1, 1, 1},
+    {sizeof(terkinoha_token), 1, 1, 1},
+    {sizeof(terkinoha_token), sizeof(terkinoha_node), 1, 1},
+    {sizeof(terkinoha_token), 1, 1, 1},
+    {sizeof(terkinoha_token), sizeof(terkinoha_node), sizeof(terkinoha_diagnostic), sizeof(terkinoha_statement)},
+};
 
 struct outcome {
     terkinoha_verdict verdict;
-    uint64_t rows;   /* lexemes or tokens */
-    uint64_t second; /* nodes or bytes of text; 0 for a call that has no such thing */
+    uint64_t counts[AREAS]; /* 0 for an area that the call does not have */
+    uint64_t errors;        /* of the findings */
 };
 
 struct lent {
-    struct area source, rows, second;
+    struct area source, filled[AREAS];
 };
 
 static struct outcome outcome_of(terkinoha_verdict verdict, uint64_t rows, uint64_t second)
 {
-    struct outcome outcome = {verdict, rows, second};
+    struct outcome outcome = {verdict, {rows, second, 0, 0}, 0};
+    return outcome;
+}
+
+static size_t words(struct area area)
+{
+    return area.size / sizeof(uint64_t);
+}
+
+static struct outcome check_words(struct lent lent)
+{
+    const struct area *to = lent.filled;
+    terkinoha_token *tokens = (terkinoha_token *)area_lend(to[ROWS]);
+    terkinoha_node *nodes = (terkinoha_node *)area_lend(to[SECOND]);
+    terkinoha_diagnostic *found = (terkinoha_diagnostic *)area_lend(to[FINDINGS]);
+    terkinoha_statement *statements = (terkinoha_statement *)area_lend(to[STATEMENTS]);
+    terkinoha_checked a = terkinoha_check_words(area_lend(lent.source), lent.source.size, tokens, words(to[ROWS]),
+                                                nodes, words(to[SECOND]), found, words(to[FINDINGS]), statements,
+                                                words(to[STATEMENTS]));
+    struct outcome outcome = {a.verdict, {a.tokens, a.nodes, a.errors + a.warnings, a.statements}, a.errors};
     return outcome;
 }
 
 static struct outcome call(int entry, struct lent lent)
 {
     const void *source = area_lend(lent.source);
-    size_t size = lent.source.size, words = lent.rows.size / sizeof(uint64_t);
-    terkinoha_token *tokens = (terkinoha_token *)area_lend(lent.rows);
+    size_t size = lent.source.size, row_words = words(lent.filled[ROWS]);
+    terkinoha_token *tokens = (terkinoha_token *)area_lend(lent.filled[ROWS]);
     if (entry == SCAN) {
-        terkinoha_lexeme *lexemes = (terkinoha_lexeme *)area_lend(lent.rows);
-        terkinoha_scanned a = terkinoha_scan_words(source, size, lexemes, words);
+        terkinoha_lexeme *lexemes = (terkinoha_lexeme *)area_lend(lent.filled[ROWS]);
+        terkinoha_scanned a = terkinoha_scan_words(source, size, lexemes, row_words);
         return outcome_of(a.verdict, a.lexemes, 0);
     }
     if (entry == LEX) {
-        terkinoha_lexed a = terkinoha_lex_words(source, size, tokens, words);
+        terkinoha_lexed a = terkinoha_lex_words(source, size, tokens, row_words);
         return outcome_of(a.verdict, a.tokens, 0);
     }
     if (entry == PARSE) {
-        terkinoha_node *nodes = (terkinoha_node *)area_lend(lent.second);
-        size_t node_words = lent.second.size / sizeof(uint64_t);
-        terkinoha_parsed a = terkinoha_parse_words(source, size, tokens, words, nodes, node_words);
+        terkinoha_node *nodes = (terkinoha_node *)area_lend(lent.filled[SECOND]);
+        terkinoha_parsed a = terkinoha_parse_words(source, size, tokens, row_words, nodes, words(lent.filled[SECOND]));
         return outcome_of(a.verdict, a.tokens, a.nodes);
     }
-    char *text = (char *)area_lend(lent.second);
-    terkinoha_canonised a = terkinoha_canonicalise_words(source, size, tokens, words, text, lent.second.size);
-    return outcome_of(a.verdict, a.tokens, a.bytes);
+    if (entry == CANONICALISE) {
+        char *text = (char *)area_lend(lent.filled[SECOND]);
+        size_t room = lent.filled[SECOND].size;
+        terkinoha_canonised a = terkinoha_canonicalise_words(source, size, tokens, row_words, text, room);
+        return outcome_of(a.verdict, a.tokens, a.bytes);
+    }
+    return check_words(lent);
 }
 
 /* ---- what every answer is held to ---- */
@@ -66,38 +97,46 @@ static int same_verdict(terkinoha_verdict v, uint64_t number, uint64_t kind, uin
     return v.number == number && v.kind == kind && v.line == line && v.column == column && v.character == character;
 }
 
-/* Which numbers an entry gives, as bits. */
-static const unsigned gives[ENTRIES] = {0x17, 0x1F, 0xFF, 0x41F};
+/* Which numbers an entry gives, and which have a place, as bits. */
+static const unsigned gives[ENTRIES] = {0x17, 0x1F, 0xFF, 0x41F, 0xBFF};
+static const unsigned placed = 0x3AC;
 
 /* A place where the number has one, a kind where it has kinds, and nothing else. */
 static void check_verdict(int entry, terkinoha_verdict v)
 {
-    int placed = v.number == TERKINOHA_NOT_UTF8 || v.number == TERKINOHA_LEXICAL || v.number == TERKINOHA_SYNTAX ||
-                 v.number == TERKINOHA_TOO_DEEP;
     uint64_t kinds = v.number == TERKINOHA_LEXICAL ? 6 : v.number == TERKINOHA_SYNTAX ? 2 : 0;
     CHECK(v.number < 16 && (gives[entry] >> v.number & 1));
-    CHECK(placed ? v.line >= 1 && v.column >= 1 : v.line == 0 && v.column == 0);
+    CHECK(placed >> v.number & 1 ? v.line >= 1 && v.column >= 1 : v.line == 0 && v.column == 0);
     CHECK(kinds == 0 ? v.kind == 0 : 1 <= v.kind && v.kind <= kinds);
     CHECK(v.character == 0 ||
           (v.number == TERKINOHA_LEXICAL && v.kind == TERKINOHA_ERROR_UNEXPECTED_CHAR && v.character <= 0x10FFFF));
 }
 
-/* Zero past the counts, or from end to end on a refusal; nothing else touched. */
+/* How many rows, or bytes of text, are there to read: of findings as many as fit, of all else as many as counted. */
+static uint64_t kept(int entry, struct lent lent, struct outcome outcome, int i)
+{
+    uint64_t room = lent.filled[i].size / units[entry][i];
+    return i == FINDINGS && room < outcome.counts[i] ? room : outcome.counts[i];
+}
+
+/* Zero past what is there to read, so from end to end on a refusal; nothing else touched. */
 static void check_areas(int entry, struct lent lent, struct outcome outcome)
 {
-    size_t row = row_words[entry] * sizeof(uint64_t);
-    CHECK(outcome.rows <= lent.rows.size / row);
-    CHECK(outcome.second <= lent.second.size / second_unit[entry]);
-    CHECK(outcome.verdict.number == 0 || (outcome.rows == 0 && outcome.second == 0));
-    CHECK(area_zero(lent.rows, outcome.rows * row));
-    CHECK(entry == SCAN || entry == LEX || area_zero(lent.second, outcome.second * second_unit[entry]));
-    CHECK(area_kept(lent.source) && area_kept(lent.rows) && area_kept(lent.second));
+    for (int i = 0; i < areas[entry]; i++) {
+        uint64_t count = kept(entry, lent, outcome, i);
+        CHECK(outcome.verdict.number == 0 || outcome.counts[i] == 0);
+        CHECK(count <= lent.filled[i].size / units[entry][i]);
+        CHECK(area_zero(lent.filled[i], count * units[entry][i]));
+        CHECK(area_kept(lent.filled[i]));
+    }
+    CHECK(area_kept(lent.source));
+    CHECK(outcome.errors <= outcome.counts[FINDINGS] && (outcome.errors == 0 || outcome.counts[STATEMENTS] == 0));
 }
 
 /* Spans that are not empty join to the line. */
 static void check_lexemes(struct lent lent, uint64_t count)
 {
-    const terkinoha_lexeme *rows = (const terkinoha_lexeme *)(const void *)lent.rows.at;
+    const terkinoha_lexeme *rows = (const terkinoha_lexeme *)(const void *)lent.filled[ROWS].at;
     uint64_t at = 0;
     for (uint64_t i = 0; i < count; i++) {
         CHECK(rows[i].start == at && rows[i].start < rows[i].end);
@@ -111,7 +150,7 @@ static void check_lexemes(struct lent lent, uint64_t count)
 /* Tokens stand in order, each where its place says; the last and no other is `Eof`. */
 static void check_tokens(struct lent lent, uint64_t count)
 {
-    const terkinoha_token *rows = (const terkinoha_token *)(const void *)lent.rows.at;
+    const terkinoha_token *rows = (const terkinoha_token *)(const void *)lent.filled[ROWS].at;
     uint64_t at = 0, line = 1, line_start = 0;
     for (uint64_t i = 0; i < count; i++) {
         CHECK(rows[i].kind >= TERKINOHA_EOF && rows[i].kind <= TERKINOHA_DEC_LITERAL);
@@ -158,7 +197,7 @@ static int names_smaller(const terkinoha_node *node, uint64_t row)
 /* Children stand before their parents, and every node but a statement has one parent. */
 static void check_nodes(struct lent lent, uint64_t tokens, uint64_t count)
 {
-    const terkinoha_node *rows = (const terkinoha_node *)(const void *)lent.second.at;
+    const terkinoha_node *rows = (const terkinoha_node *)(const void *)lent.filled[SECOND].at;
     uint64_t waiting = 0; /* nodes that a parent must still take */
     for (uint64_t i = 0; i < count; i++) {
         int statement = rows[i].kind >= TERKINOHA_NODE_IMPORT;
@@ -172,35 +211,177 @@ static void check_nodes(struct lent lent, uint64_t tokens, uint64_t count)
     CHECK(waiting == 0 && count <= tokens);
 }
 
+/* ---- findings and statements ---- */
+
+/* The token at a place. */
+static const terkinoha_token *token_at(struct lent lent, uint64_t count, uint64_t line, uint64_t column)
+{
+    const terkinoha_token *rows = (const terkinoha_token *)(const void *)lent.filled[ROWS].at;
+    uint64_t low = 0, high = count; /* they stand in order */
+    while (low < high) {
+        uint64_t middle = low + (high - low) / 2;
+        int before = rows[middle].line < line || (rows[middle].line == line && rows[middle].column < column);
+        low = before ? middle + 1 : low;
+        high = before ? high : middle;
+    }
+    return low < count && rows[low].line == line && rows[low].column == column ? &rows[low] : NULL;
+}
+
+static int is_part_of_table(uint64_t start, uint64_t end)
+{
+    return start < end && end <= sizeof TERKINOHA_TABLE_TEXT - 1;
+}
+
+/* A finding shows a name of the source, a type, which is a function's with its name, or neither. */
+static int shows_name(const terkinoha_diagnostic *d, const terkinoha_token *token)
+{
+    return d->text == TERKINOHA_TEXT_SOURCE && token->kind == TERKINOHA_IDENTIFIER && d->start == token->start &&
+           d->end == token->end && d->type == 0 && d->third == 0;
+}
+
+static int shows_type(const terkinoha_diagnostic *d)
+{
+    if (d->type == TERKINOHA_TYPE_FUNCTION)
+        return d->text == TERKINOHA_TEXT_TABLE && is_part_of_table(d->start, d->end);
+    return d->text == TERKINOHA_TEXT_NONE && d->start == 0 && d->end == 0 &&
+           ((TERKINOHA_TYPE_BOOL <= d->type && d->type <= TERKINOHA_TYPE_BYTES) || d->type == TERKINOHA_TYPE_INTEGER);
+}
+
+static int shows_nothing(const terkinoha_diagnostic *d)
+{
+    return d->text == TERKINOHA_TEXT_NONE && d->start == 0 && d->end == 0 && d->type == 0;
+}
+
+static int is_integral(uint64_t type)
+{
+    return type <= TERKINOHA_TYPE_U64 || type == TERKINOHA_TYPE_INTEGER;
+}
+
+static int fields(const terkinoha_diagnostic *d, uint64_t first, uint64_t second, uint64_t third)
+{
+    return d->first == first && d->second == second && d->third == third;
+}
+
+/* What the header says of a kind. */
+static int is_finding(const terkinoha_diagnostic *d, const terkinoha_token *token)
+{
+    switch (d->kind) {
+    case TERKINOHA_FINDING_UNKNOWN_NAME:
+    case TERKINOHA_FINDING_UNKNOWN_MODULE:
+    case TERKINOHA_FINDING_NOT_IMPORTED:
+    case TERKINOHA_FINDING_NOT_A_MODULE:
+    case TERKINOHA_FINDING_NOT_A_VALUE:
+    case TERKINOHA_FINDING_MULTIPLE_IMPORTS: return shows_name(d, token) && fields(d, 0, 0, 0);
+    case TERKINOHA_FINDING_UNKNOWN_ITEM: return shows_name(d, token) && is_part_of_table(d->first, d->second);
+    case TERKINOHA_FINDING_ALREADY_BOUND:
+        return shows_name(d, token) && d->first >= 1 && d->second >= 1 &&
+               (d->first < d->line || (d->first == d->line && d->second < d->column));
+    case TERKINOHA_FINDING_NO_MEMBERS: return shows_type(d) && fields(d, 0, 0, 0);
+    case TERKINOHA_FINDING_OPERAND_TYPE:
+        return shows_type(d) && (d->first == 1 ? fields(d, 1, TERKINOHA_TYPE_IP4, 1) && d->type != TERKINOHA_TYPE_IP4
+                                               : fields(d, 2, TERKINOHA_TYPE_U16, 1) && !is_integral(d->type));
+    case TERKINOHA_FINDING_INTEGRAL_TOO_LARGE: return shows_nothing(d) && fields(d, 0, 0, 0);
+    case TERKINOHA_FINDING_DISCARDED_VALUE:
+        return shows_type(d) && d->type != TERKINOHA_TYPE_INTEGER && fields(d, 0, 0, 0);
+    case TERKINOHA_FINDING_TRUNCATED:
+        return shows_type(d) && d->type == TERKINOHA_TYPE_U16 && (d->first > 65535 || d->second != 0) && d->third == 0;
+    default: return 0;
+    }
+}
+
+/* Each stands at a token and is what its kind says; where all are kept, so many are errors. */
+static void check_findings(struct lent lent, struct outcome outcome)
+{
+    const terkinoha_diagnostic *rows = (const terkinoha_diagnostic *)(const void *)lent.filled[FINDINGS].at;
+    uint64_t errors = 0, count = kept(CHECK_SOURCE, lent, outcome, FINDINGS);
+    for (uint64_t i = 0; i < count; i++) {
+        const terkinoha_token *token = token_at(lent, outcome.counts[ROWS], rows[i].line, rows[i].column);
+        CHECK(token != NULL && is_finding(&rows[i], token));
+        int error = rows[i].kind <= TERKINOHA_FINDING_INTEGRAL_TOO_LARGE;
+        CHECK(rows[i].severity == (uint64_t)(error ? TERKINOHA_SEVERITY_ERROR : TERKINOHA_SEVERITY_WARNING));
+        errors += (uint64_t)error;
+    }
+    CHECK(count < outcome.counts[FINDINGS] ? errors <= outcome.errors : errors == outcome.errors);
+    CHECK(outcome.counts[FINDINGS] <= outcome.counts[ROWS]); /* the room that the header says keeps them all */
+}
+
+/* A value that its type has. */
+static int is_value(struct lent lent, uint64_t tokens, const terkinoha_statement *s)
+{
+    const terkinoha_token *rows = (const terkinoha_token *)(const void *)lent.filled[ROWS].at;
+    int in_table = s->text == TERKINOHA_TEXT_TABLE && is_part_of_table(s->low, s->high);
+    switch (s->type) {
+    case TERKINOHA_TYPE_BOOL: return s->text == 0 && s->low <= 1 && s->high == 0;
+    case TERKINOHA_TYPE_U8: return s->text == 0 && s->low <= UINT8_MAX && s->high == 0;
+    case TERKINOHA_TYPE_U16: return s->text == 0 && s->low <= UINT16_MAX && s->high == 0;
+    case TERKINOHA_TYPE_U32:
+    case TERKINOHA_TYPE_IP4: return s->text == 0 && s->low <= UINT32_MAX && s->high == 0;
+    case TERKINOHA_TYPE_U64: return s->text == 0 && s->high == 0;
+    case TERKINOHA_TYPE_SOCK4: return s->text == 0 && s->low <= UINT32_MAX && s->high <= UINT16_MAX;
+    case TERKINOHA_TYPE_BYTES:
+        return in_table || (s->text == TERKINOHA_TEXT_SOURCE && s->low < tokens && s->high == 0 &&
+                            rows[s->low].kind == TERKINOHA_STRING_LITERAL);
+    case TERKINOHA_TYPE_FUNCTION: return in_table;
+    default: return 0;
+    }
+}
+
+/* Each discards a value. Where all findings are kept, there is one for each statement, with its place and type. */
+static void check_statements(struct lent lent, struct outcome outcome)
+{
+    const terkinoha_statement *rows = (const terkinoha_statement *)(const void *)lent.filled[STATEMENTS].at;
+    const terkinoha_diagnostic *found = (const terkinoha_diagnostic *)(const void *)lent.filled[FINDINGS].at;
+    uint64_t at = 0, all = kept(CHECK_SOURCE, lent, outcome, FINDINGS);
+    for (uint64_t i = 0; i < outcome.counts[STATEMENTS]; i++) {
+        CHECK(rows[i].kind == TERKINOHA_STATEMENT_DISCARD && is_value(lent, outcome.counts[ROWS], &rows[i]));
+        while (at < all && found[at].kind != TERKINOHA_FINDING_DISCARDED_VALUE)
+            at++;
+        CHECK(at < all ? found[at].line == rows[i].line && found[at].column == rows[i].column &&
+                             found[at].type == rows[i].type
+                       : all < outcome.counts[FINDINGS]);
+        at++;
+    }
+    CHECK(outcome.counts[STATEMENTS] <= outcome.counts[ROWS]);
+}
+
 static void check_found(int entry, struct lent lent, struct outcome outcome)
 {
     if (outcome.verdict.number != TERKINOHA_DONE)
         return;
     CHECK(same_verdict(outcome.verdict, 0, 0, 0, 0, 0));
     if (entry == SCAN)
-        check_lexemes(lent, outcome.rows);
+        check_lexemes(lent, outcome.counts[ROWS]);
     else
-        check_tokens(lent, outcome.rows);
-    if (entry == PARSE)
-        check_nodes(lent, outcome.rows, outcome.second);
+        check_tokens(lent, outcome.counts[ROWS]);
+    if (entry == PARSE || entry == CHECK_SOURCE)
+        check_nodes(lent, outcome.counts[ROWS], outcome.counts[SECOND]);
+    if (entry == CHECK_SOURCE) {
+        check_findings(lent, outcome);
+        check_statements(lent, outcome);
+    }
 }
 
-/* ---- one call with rooms of so many words and bytes ---- */
+/* ---- one call with rooms of so many bytes ---- */
 
-static struct lent lend(const void *source, size_t size, size_t row_bytes, size_t second_bytes, int side)
+struct rooms {
+    size_t bytes[AREAS];
+};
+
+static struct lent lend(int entry, const void *source, size_t size, struct rooms rooms, int side)
 {
     struct lent lent;
+    memset(&lent, 0, sizeof lent);
     lent.source = area_of(source, size, side);
-    lent.rows = area_new(row_bytes, side);
-    lent.second = area_new(second_bytes, side);
+    for (int i = 0; i < areas[entry]; i++)
+        lent.filled[i] = area_new(rooms.bytes[i], side);
     return lent;
 }
 
-static void give_back(struct lent lent)
+static void give_back(int entry, struct lent lent)
 {
     area_free(lent.source);
-    area_free(lent.rows);
-    area_free(lent.second);
+    for (int i = 0; i < areas[entry]; i++)
+        area_free(lent.filled[i]);
 }
 
 static struct outcome tried(int entry, struct lent lent)
@@ -219,69 +400,94 @@ static struct outcome tried(int entry, struct lent lent)
 struct first {
     struct outcome outcome;
     struct lent lent;
+    struct rooms wanted; /* how many bytes its rows take; of tokens and nodes also where it is refused after them */
 };
 
-static size_t enough(int entry, size_t size)
+/* As many bytes as always suffice for a source: of statements and findings as many rows as of tokens. */
+static struct rooms enough(int entry, size_t size)
 {
-    return row_words[entry] * sizeof(uint64_t) * (size + 1);
+    struct rooms rooms = {{0, 0, 0, 0}};
+    for (int i = 0; i < areas[entry]; i++)
+        rooms.bytes[i] = units[entry][i] * (size + 1);
+    if (entry == CANONICALISE)
+        rooms.bytes[SECOND] = TERKINOHA_MOST_BYTES;
+    return rooms;
 }
 
-static size_t enough_second(int entry, size_t size)
+/* What a refused source would want of the rooms that go before: the tokens and nodes that other calls find. */
+static struct rooms wanted_before(int entry, const void *source, size_t size)
 {
-    return entry == PARSE ? second_unit[PARSE] * (size + 1) : entry == CANONICALISE ? TERKINOHA_MOST_BYTES : 0;
+    struct rooms wanted = {{0, 0, 0, 0}}, rooms = enough(PARSE, size);
+    if (entry == SCAN || size > TERKINOHA_MOST_BYTES)
+        return wanted;
+    terkinoha_token *tokens = (terkinoha_token *)malloc(rooms.bytes[ROWS]);
+    terkinoha_node *nodes = (terkinoha_node *)malloc(rooms.bytes[SECOND]);
+    CHECK(tokens != NULL && nodes != NULL);
+    wanted.bytes[ROWS] = terkinoha_lex(source, size, tokens, size + 1).tokens * sizeof *tokens;
+    wanted.bytes[SECOND] = terkinoha_parse(source, size, tokens, size + 1, nodes, size + 1).nodes * sizeof *nodes;
+    free(nodes);
+    free(tokens);
+    return wanted;
 }
 
 /* Whatever a call with enough room says of a source, it is not that there is none. */
 static struct first first_call(int entry, const void *source, size_t size, int side)
 {
     struct first first;
-    first.lent = lend(source, size, enough(entry, size), enough_second(entry, size), side);
+    first.lent = lend(entry, source, size, enough(entry, size), side);
     first.outcome = tried(entry, first.lent);
     CHECK(first.outcome.verdict.number != TERKINOHA_TOKEN_ROOM);
     CHECK(first.outcome.verdict.number != TERKINOHA_NODE_ROOM);
+    CHECK(first.outcome.verdict.number != TERKINOHA_STATEMENT_ROOM);
+    if (first.outcome.verdict.number != TERKINOHA_DONE)
+        first.wanted = wanted_before(entry, source, size);
+    else
+        for (int i = 0; i < AREAS; i++)
+            first.wanted.bytes[i] = first.outcome.counts[i] * units[entry][i];
     return first;
 }
 
-/* The rows and the second area's units are what the first call found. */
+/* The number that a source with some rooms has, if with enough room it has another: each in its turn. */
+static uint64_t expected(int entry, struct first first, struct rooms rooms)
+{
+    const size_t *wanted = first.wanted.bytes;
+    uint64_t number = first.outcome.verdict.number;
+    int trees = entry == PARSE || entry == CHECK_SOURCE;
+    if (number != TERKINOHA_DONE && number <= TERKINOHA_LEXICAL)
+        return number;
+    if (rooms.bytes[ROWS] < wanted[ROWS])
+        return TERKINOHA_TOKEN_ROOM;
+    if (number == TERKINOHA_SYNTAX || number == TERKINOHA_TOO_DEEP)
+        return number;
+    if (trees && rooms.bytes[SECOND] < wanted[SECOND])
+        return TERKINOHA_NODE_ROOM;
+    if (number != TERKINOHA_DONE)
+        return number;
+    if (entry == CANONICALISE && rooms.bytes[SECOND] < wanted[SECOND])
+        return TERKINOHA_TEXT_ROOM;
+    return rooms.bytes[STATEMENTS] < wanted[STATEMENTS] ? TERKINOHA_STATEMENT_ROOM : TERKINOHA_DONE;
+}
+
+/* The counts are the first call's in full; what is there to read is what it found. */
 static void check_same(int entry, struct first first, struct lent lent, struct outcome outcome)
 {
-    size_t rows = outcome.rows * row_words[entry] * sizeof(uint64_t), second = outcome.second * second_unit[entry];
-    CHECK(memcmp(&outcome.verdict, &first.outcome.verdict, sizeof outcome.verdict) == 0);
-    CHECK(outcome.rows == first.outcome.rows && outcome.second == first.outcome.second);
-    CHECK(memcmp(lent.rows.at, first.lent.rows.at, rows) == 0);
-    CHECK(memcmp(lent.second.at, first.lent.second.at, second) == 0);
+    CHECK(memcmp(&outcome, &first.outcome, sizeof outcome) == 0);
+    for (int i = 0; i < areas[entry]; i++) {
+        size_t size = kept(entry, lent, outcome, i) * units[entry][i];
+        CHECK(memcmp(lent.filled[i].at, first.lent.filled[i].at, size) == 0);
+    }
 }
 
-/* A room of `rows` bytes for rows and `second` bytes: as much as was found, so the same; or less, so
- * a refusal for room, unless the source is refused for something that goes first.
- */
-static void try_room(int entry, struct first first, size_t rows, size_t second, int side)
+static void try_room(int entry, struct first first, struct rooms rooms, int side)
 {
-    struct lent lent = lend(first.lent.source.at, first.lent.source.size, rows, second, side);
+    struct lent lent = lend(entry, first.lent.source.at, first.lent.source.size, rooms, side);
     struct outcome outcome = tried(entry, lent);
-    size_t rows_wanted = first.outcome.rows * row_words[entry] * sizeof(uint64_t);
-    uint64_t number = first.outcome.verdict.number;
-    uint64_t refusal = entry == PARSE ? TERKINOHA_NODE_ROOM : TERKINOHA_TEXT_ROOM;
-    if (rows < rows_wanted)
-        refusal = TERKINOHA_TOKEN_ROOM;
-    int goes_first = number != 0 && number <= TERKINOHA_LEXICAL;
-    if (goes_first || (number == 0 && rows_wanted <= rows && first.outcome.second * second_unit[entry] <= second))
+    uint64_t number = expected(entry, first, rooms);
+    if (number == first.outcome.verdict.number)
         check_same(entry, first, lent, outcome);
-    else if (number == 0)
-        CHECK(same_verdict(outcome.verdict, refusal, 0, 0, 0, 0));
-    give_back(lent);
-}
-
-/* A tree is refused at a token whatever the room for nodes is, and for room where there is none for its tokens. */
-static void try_syntax(struct first first, int side)
-{
-    const struct area source = first.lent.source;
-    struct lent no_nodes = lend(source.at, source.size, enough(PARSE, source.size), 0, side);
-    check_same(PARSE, first, no_nodes, tried(PARSE, no_nodes));
-    give_back(no_nodes);
-    struct lent no_tokens = lend(source.at, source.size, 0, enough_second(PARSE, source.size), side);
-    CHECK(same_verdict(tried(PARSE, no_tokens).verdict, TERKINOHA_TOKEN_ROOM, 0, 0, 0, 0));
-    give_back(no_tokens);
+    else
+        CHECK(same_verdict(outcome.verdict, number, 0, 0, 0, 0));
+    give_back(entry, lent);
 }
 
 static size_t less(size_t size, size_t by)
@@ -289,27 +495,32 @@ static size_t less(size_t size, size_t by)
     return size < by ? 0 : size - by;
 }
 
-/* Rooms 0, 1, exact, one short, and some words over, in each area. */
+/* One area with no room, room for one row, for one row or one word less than is found, and for some words over; the
+ * others just as large as what is found there.
+ */
+static void try_area(int entry, struct first first, int i, int side)
+{
+    size_t unit = units[entry][i], word = unit == 1 ? 1 : sizeof(uint64_t), exact = first.wanted.bytes[i];
+    const size_t sizes[] = {0, unit, less(exact, unit), less(exact, word), exact + unit - word};
+    for (size_t j = 0; j < sizeof sizes / sizeof *sizes; j++) {
+        struct rooms rooms = first.wanted;
+        rooms.bytes[i] = sizes[j];
+        if (sizes[j] != exact)
+            try_room(entry, first, rooms, side);
+    }
+}
+
 static void try_rooms(int entry, const void *source, size_t size, int side)
 {
     struct first first = first_call(entry, source, size, side);
-    size_t row = row_words[entry] * sizeof(uint64_t), unit = second_unit[entry];
-    size_t rows = first.outcome.rows * row, second = first.outcome.second * unit;
-    size_t word = entry == PARSE ? sizeof(uint64_t) : 1;
-    try_room(entry, first, 0, 0, side);
-    try_room(entry, first, row, unit, side);
-    try_room(entry, first, rows, second, side);
-    try_room(entry, first, less(rows, row), second, side);
-    try_room(entry, first, less(rows, sizeof(uint64_t)), second, side);
-    try_room(entry, first, rows + row - sizeof(uint64_t), second + unit - word, side);
-    if (entry == PARSE || entry == CANONICALISE) {
-        try_room(entry, first, rows, less(second, unit), side);
-        try_room(entry, first, rows, less(second, word), side);
-        try_room(entry, first, rows, 0, side);
-    }
-    if (first.outcome.verdict.number == TERKINOHA_SYNTAX || first.outcome.verdict.number == TERKINOHA_TOO_DEEP)
-        try_syntax(first, side);
-    give_back(first.lent);
+    struct rooms none = {{0, 0, 0, 0}}, one;
+    memcpy(one.bytes, units[entry], sizeof one.bytes);
+    try_room(entry, first, none, side);
+    try_room(entry, first, one, side);
+    try_room(entry, first, first.wanted, side);
+    for (int i = 0; i < areas[entry]; i++)
+        try_area(entry, first, i, side);
+    give_back(entry, first.lent);
 }
 
 static void try_source(const void *source, size_t size)
@@ -322,14 +533,24 @@ static void try_source(const void *source, size_t size)
 /* An empty area by a pointer that may not be followed is as good as NULL. */
 static void try_empty(void)
 {
-    struct lent lent = lend("", 0, 0, 0, AT_END);
+    struct rooms none = {{0, 0, 0, 0}};
+    struct lent lent = lend(CHECK_SOURCE, "", 0, none, AT_END);
     lent_trying("empty areas", lent.source.at, 0);
-    terkinoha_token *rows = (terkinoha_token *)(void *)lent.rows.at;
+    terkinoha_token *rows = (terkinoha_token *)(void *)lent.filled[ROWS].at;
     terkinoha_lexed lexed = terkinoha_lex(lent.source.at, 0, rows, 0);
     CHECK(same_verdict(lexed.verdict, TERKINOHA_TOKEN_ROOM, 0, 0, 0, 0) && lexed.tokens == 0);
     terkinoha_scanned scanned = terkinoha_scan(lent.source.at, 0, NULL, 0);
     CHECK(same_verdict(scanned.verdict, TERKINOHA_DONE, 0, 0, 0, 0) && scanned.lexemes == 0);
-    give_back(lent);
+    terkinoha_token eof;
+    terkinoha_checked checked =
+        terkinoha_check(lent.source.at, 0, &eof, 1, (terkinoha_node *)(void *)lent.filled[SECOND].at, 0,
+                        (terkinoha_diagnostic *)(void *)lent.filled[FINDINGS].at, 0,
+                        (terkinoha_statement *)(void *)lent.filled[STATEMENTS].at, 0);
+    CHECK(same_verdict(checked.verdict, TERKINOHA_DONE, 0, 0, 0, 0) && checked.tokens == 1);
+    CHECK(checked.nodes + checked.errors + checked.warnings + checked.statements == 0);
+    checked = terkinoha_check(NULL, 0, NULL, 0, NULL, 0, NULL, 0, NULL, 0);
+    CHECK(same_verdict(checked.verdict, TERKINOHA_TOKEN_ROOM, 0, 0, 0, 0) && checked.tokens == 0);
+    give_back(CHECK_SOURCE, lent);
 }
 
 /* ---- sources ---- */
@@ -349,6 +570,24 @@ static void try_sizes(void)
         }
 }
 
+/* As many statements as the largest source has: all of them warnings, or all of them errors. */
+static void try_most_statements(void)
+{
+    for (size_t i = 0; i < TERKINOHA_MOST_BYTES; i++)
+        bytes[i] = i % 2 == 0 ? '1' : ';';
+    try_rooms(CHECK_SOURCE, bytes, TERKINOHA_MOST_BYTES, AT_END);
+    bytes[0] = 'a';
+    try_rooms(CHECK_SOURCE, bytes, TERKINOHA_MOST_BYTES, AT_START);
+}
+
+#define PICK(from) from[random_below(sizeof(from) / sizeof *(from))]
+
+static size_t put(size_t at, const char *piece)
+{
+    memcpy(bytes + at, piece, strlen(piece));
+    return at + strlen(piece);
+}
+
 /* A script of `size` bytes at most: pieces of the language, some of them damaged. */
 static size_t script(size_t size)
 {
@@ -358,23 +597,53 @@ static size_t script(size_t size)
         "bench::deep::ZERO", "let y = 1.2.3.4/80;\n", "f(a, b: 2,);\n", "\xc2\xa0", "\xe2\x82\xac",
         "170141183460469231731687303715884105727", "00", "@", "\"\n", "1.2.3.4:80"};
     size_t at = 0;
-    while (at + 40 < size) {
-        const char *piece = pieces[random_below(sizeof pieces / sizeof *pieces)];
-        memcpy(bytes + at, piece, strlen(piece));
-        at += strlen(piece);
+    while (at + 40 < size)
+        at = put(at, PICK(pieces));
+    return at;
+}
+
+/* A script that parses: statements of which checking finds something to say; a call in some. */
+static size_t statements(size_t size)
+{
+    static const char *const starts[] = {"let a = ", "let b = ", "let c = ", "let dd = ", "let e=", "", "", " ", "\n"};
+    static const char *const values[] = {
+        "a", "b", "c", "dd", "e", "f", "1", "0x100", "65536", "18446744073709551616", "true", "\"x\"", "\"x\"\n\"y\"",
+        "1.2.3.4", "1.2.3.4:80", "bench", "nope::x", "bench::HTTP", "bench::LOOP", "bench::BIG", "bench::ON",
+        "bench::BANNER", "bench::ping", "bench::deep", "bench::deep::ZERO", "bench::deep::ONE", "bench::HTTP::x",
+        "bench::none::x", "1.2.3.4/80", "bench::LOOP/bench::BIG"};
+    static const char *const steps[] = {".m", "/80", "/70000", "/a", "/b/c", "/true", "/bench::ping", "/\"x\""};
+    static const char *const imports[] = {"import bench;\n", "import bench;", "import nope;\n", "import a;\n"};
+    int calls = random_below(8) == 0;
+    size_t at = random_below(4) == 0 ? 0 : put(0, "import bench;\n");
+    while (at + 60 < size) {
+        if (random_below(6) == 0) {
+            at = put(at, PICK(imports));
+            continue;
+        }
+        at = put(put(at, PICK(starts)), PICK(values));
+        if (random_below(3) == 0)
+            at = put(at, PICK(steps));
+        if (calls && random_below(20) == 0)
+            at = put(at, "(1)");
+        at = put(at, random_below(3) == 0 ? "; # note\n" : ";");
     }
     return at;
 }
 
-static const char good_script[] = "import bench;\nlet a = 1.2.3.4/80; # web\nf(a, b: \"x\" \"y\",).m(g(1, 0x1f));\n"
-                                  "let p = bench::deep::ZERO;\n1.2.3.4:80;\n\"\xc3\xa9\"\n\"z\";\n";
+/* Two that are good: one parses, one checks with no error. */
+static const char *const good_scripts[] = {
+    "import bench;\nlet a = 1.2.3.4/80; # web\nf(a, b: \"x\" \"y\",).m(g(1, 0x1f));\n"
+    "let p = bench::deep::ZERO;\n1.2.3.4:80;\n\"\xc3\xa9\"\n\"z\";\n",
+    "import bench;\nlet a = 1.2.3.4;\nlet p = 70000; # cut\na/p; a/bench::HTTP;\nbench::ping;\n\"x\" \"y\";\n"
+    "let q = bench::deep::ZERO;\n1.2.3.4:80;\nq;\ntrue;\nbench::BANNER;\n65536;\n"};
 
-/* A good script with a byte changed, left out or put in. */
+/* One of them with a byte changed, left out or put in. */
 static size_t damaged(void)
 {
-    size_t size = sizeof good_script - 1, at = random_below(size);
+    const char *good = PICK(good_scripts);
+    size_t size = strlen(good), at = random_below(size);
     unsigned char byte = (unsigned char)random_below(256);
-    memcpy(bytes, good_script, size);
+    memcpy(bytes, good, size);
     switch (random_below(3)) {
     case 0:
         bytes[at] = byte;
@@ -409,9 +678,12 @@ int main(int argc, char **argv)
     lent_start();
     try_empty();
     try_sizes();
-    try_source(good_script, sizeof good_script - 1);
+    try_most_statements();
+    for (size_t i = 0; i < sizeof good_scripts / sizeof *good_scripts; i++)
+        try_source(good_scripts[i], strlen(good_scripts[i]));
     for (int i = 0; i < count; i++) {
         try_source(bytes, script(random_below(400)));
+        try_source(bytes, statements(random_below(600)));
         try_source(bytes, damaged());
         try_source(bytes, noise(random_below(40)));
         try_source(bytes, ascii_noise(random_below(120)));

@@ -85,13 +85,17 @@ void area_free(struct area area)
     }
 }
 
+/* Whether some bytes are all the same one: the first is, and each is as the one before it. */
+static int all(const unsigned char *bytes, size_t size, unsigned char byte)
+{
+    return size == 0 || (bytes[0] == byte && memcmp(bytes, bytes + 1, size - 1) == 0);
+}
+
 int area_kept(struct area area)
 {
-    const unsigned char *end = area.map + PAGE + area.open;
-    for (const unsigned char *b = area.map + PAGE; b < end; b++)
-        if ((b < area.at || area.at + area.size <= b) && *b != GARBAGE)
-            return 0;
-    return 1;
+    size_t before = (size_t)(area.at - area.map) - PAGE;
+    return all(area.map + PAGE, before, GARBAGE) &&
+           all(area.at + area.size, area.open - before - area.size, GARBAGE);
 }
 
 size_t area_unused(struct area area)
@@ -104,10 +108,7 @@ size_t area_unused(struct area area)
 
 int area_zero(struct area area, size_t from)
 {
-    for (size_t i = from; i < area.size; i++)
-        if (area.at[i] != 0)
-            return 0;
-    return 1;
+    return area.size <= from || all(area.at + from, area.size - from, 0);
 }
 
 void *area_lend(struct area area)

@@ -4,11 +4,13 @@
 #include <stdio.h>
 #include <string.h>
 
-#define MOST 400
+#define MOST 4096
 
 static terkinoha_lexeme lexemes[MOST];
 static terkinoha_token tokens[MOST];
 static terkinoha_node nodes[MOST];
+static terkinoha_diagnostic found[MOST];
+static terkinoha_statement statements[MOST];
 static char text[MOST];
 
 static int same(terkinoha_verdict v, uint64_t number, uint64_t kind, uint64_t line, uint64_t column)
@@ -221,6 +223,275 @@ static void try_canonisings(void)
     }
 }
 
+/* ---- check ---- */
+
+struct rooms {
+    size_t tokens, nodes, found, statements;
+};
+
+#define ENOUGH {MOST, MOST, MOST, MOST}
+
+static const struct rooms enough = ENOUGH;
+
+static terkinoha_checked check(const char *source, struct rooms rooms)
+{
+    lent_trying("check", source, strlen(source));
+    return terkinoha_check(source, strlen(source), tokens, rooms.tokens, nodes, rooms.nodes, found, rooms.found,
+                           statements, rooms.statements);
+}
+
+static int counts(terkinoha_checked a, uint64_t errors, uint64_t warnings, uint64_t held)
+{
+    return a.errors == errors && a.warnings == warnings && a.statements == held;
+}
+
+static int done(terkinoha_checked a, uint64_t errors, uint64_t warnings, uint64_t held)
+{
+    return same(a.verdict, TERKINOHA_DONE, 0, 0, 0) && counts(a, errors, warnings, held);
+}
+
+static int refused(terkinoha_checked a, uint64_t number, uint64_t line, uint64_t column)
+{
+    return same(a.verdict, number, 0, line, column) && a.tokens == 0 && a.nodes == 0 && counts(a, 0, 0, 0) &&
+           tokens[0].kind == 0 && nodes[0].kind == 0 && found[0].kind == 0 && statements[0].kind == 0;
+}
+
+struct checking {
+    const char *source;
+    uint64_t errors, warnings;
+    uint64_t rows[2][4]; /* of each finding its line, column, kind and type */
+    uint64_t value[3];   /* of the only statement its type and value */
+};
+
+#define NONE {0, 0, 0, 0}
+#define DISCARDED TERKINOHA_FINDING_DISCARDED_VALUE
+#define QUAD 0x01020304 /* 1.2.3.4 */
+
+static const struct checking checkings[] = {
+    {"", 0, 0, {NONE, NONE}, {0, 0, 0}},
+    {"255;", 0, 1, {{1, 1, DISCARDED, TERKINOHA_TYPE_U8}, NONE}, {TERKINOHA_TYPE_U8, 255, 0}},
+    {"256;", 0, 1, {{1, 1, DISCARDED, TERKINOHA_TYPE_U16}, NONE}, {TERKINOHA_TYPE_U16, 256, 0}},
+    {"65535;", 0, 1, {{1, 1, DISCARDED, TERKINOHA_TYPE_U16}, NONE}, {TERKINOHA_TYPE_U16, 65535, 0}},
+    {"65536;", 0, 1, {{1, 1, DISCARDED, TERKINOHA_TYPE_U32}, NONE}, {TERKINOHA_TYPE_U32, 65536, 0}},
+    {"18446744073709551615;", 0, 1, {{1, 1, DISCARDED, TERKINOHA_TYPE_U64}, NONE}, {TERKINOHA_TYPE_U64, UINT64_MAX, 0}},
+    {"18446744073709551616;", 1, 0, {{1, 1, TERKINOHA_FINDING_INTEGRAL_TOO_LARGE, 0}, NONE}, {0, 0, 0}},
+    {"let x = 18446744073709551616;", 0, 0, {NONE, NONE}, {0, 0, 0}}, /* a let keeps it */
+    {"let x = 18446744073709551616;\nx;", 1, 0, {{2, 1, TERKINOHA_FINDING_INTEGRAL_TOO_LARGE, 0}, NONE}, {0, 0, 0}},
+    {"1.2.3.4/18446744073709551696;",
+     0,
+     2,
+     {{1, 9, TERKINOHA_FINDING_TRUNCATED, TERKINOHA_TYPE_U16}, {1, 1, DISCARDED, TERKINOHA_TYPE_SOCK4}},
+     {TERKINOHA_TYPE_SOCK4, QUAD, 80}},
+    {"import bench;\n1.2.3.4/bench::BIG;",
+     0,
+     2,
+     {{2, 9, TERKINOHA_FINDING_TRUNCATED, TERKINOHA_TYPE_U16}, {2, 1, DISCARDED, TERKINOHA_TYPE_SOCK4}},
+     {TERKINOHA_TYPE_SOCK4, QUAD, 4464}},
+    {"1.2.3.4/65535;", 0, 1, {{1, 1, DISCARDED, TERKINOHA_TYPE_SOCK4}, NONE}, {TERKINOHA_TYPE_SOCK4, QUAD, 65535}},
+    {"1.2.3.4/true;", 0, 1, {{1, 1, DISCARDED, TERKINOHA_TYPE_SOCK4}, NONE}, {TERKINOHA_TYPE_SOCK4, QUAD, 1}},
+    {"1.2.3.4//80\n;", 0, 1, {{1, 1, DISCARDED, TERKINOHA_TYPE_IP4}, NONE}, {TERKINOHA_TYPE_IP4, QUAD, 0}},
+    {"let x = x;", 1, 0, {{1, 9, TERKINOHA_FINDING_UNKNOWN_NAME, 0}, NONE}, {0, 0, 0}},
+    {"let x = x;\nx;\nlet y = x/1;\ny;", 1, 0, {{1, 9, TERKINOHA_FINDING_UNKNOWN_NAME, 0}, NONE}, {0, 0, 0}},
+    {"let a = 1;\nlet a = b;", 1, 0, {{2, 5, TERKINOHA_FINDING_ALREADY_BOUND, 0}, NONE}, {0, 0, 0}},
+    {"b/c;", 1, 0, {{1, 1, TERKINOHA_FINDING_UNKNOWN_NAME, 0}, NONE}, {0, 0, 0}}, /* the left is judged first */
+    {"1.2.3.4/65536/c;",
+     1,
+     1,
+     {{1, 9, TERKINOHA_FINDING_TRUNCATED, TERKINOHA_TYPE_U16},
+      {1, 1, TERKINOHA_FINDING_OPERAND_TYPE, TERKINOHA_TYPE_SOCK4}},
+     {0, 0, 0}},
+    {"\"\xc3\xa9\"; x;", /* a column counts bytes */
+     1,
+     1,
+     {{1, 1, DISCARDED, TERKINOHA_TYPE_BYTES}, {1, 7, TERKINOHA_FINDING_UNKNOWN_NAME, 0}},
+     {0, 0, 0}},
+    {"import nope;\nimport nope;\nnope::x;", /* a failed import is silent later */
+     1,
+     1,
+     {{1, 8, TERKINOHA_FINDING_UNKNOWN_MODULE, 0}, {2, 8, TERKINOHA_FINDING_MULTIPLE_IMPORTS, 0}},
+     {0, 0, 0}},
+};
+
+static void try_checkings(void)
+{
+    for (size_t i = 0; i < sizeof checkings / sizeof *checkings; i++) {
+        const struct checking *c = &checkings[i];
+        uint64_t held = c->value[0] != 0;
+        CHECK(done(check(c->source, enough), c->errors, c->warnings, held));
+        for (size_t j = 0; j < 2; j++) {
+            const uint64_t *row = c->rows[j];
+            CHECK(found[j].line == row[0] && found[j].column == row[1]);
+            CHECK(found[j].kind == row[2] && found[j].type == row[3]);
+        }
+        CHECK(statements[0].kind == held && statements[0].type == c->value[0]);
+        CHECK(statements[0].low == c->value[1] && statements[0].high == c->value[2]);
+    }
+}
+
+/* The check program's sample. */
+static void try_finding_rows(void)
+{
+    static const char source[] = "let p = 65536;\nlet a = 1.2.3.4/p;\na;\nb;\nlet c = b;\nc;\n";
+    static const uint64_t rows[][TERKINOHA_DIAGNOSTIC_WORDS] = {
+        {2, 17, 2, TERKINOHA_FINDING_TRUNCATED, 0, 0, 0, TERKINOHA_TYPE_U16, 65536, 0, 0},
+        {3, 1, 2, TERKINOHA_FINDING_DISCARDED_VALUE, 0, 0, 0, TERKINOHA_TYPE_SOCK4, 0, 0, 0},
+        {4, 1, 1, TERKINOHA_FINDING_UNKNOWN_NAME, 1, 37, 38, 0, 0, 0, 0},
+        {5, 9, 1, TERKINOHA_FINDING_UNKNOWN_NAME, 1, 48, 49, 0, 0, 0, 0},
+        {0, 0, 0, 0, 0, 0, 0, 0, 0, 0, 0},
+    };
+    struct rooms rooms = {2048, 2048, 128, 512};
+    terkinoha_checked a = check(source, rooms);
+    CHECK(done(a, 2, 2, 0) && a.tokens == 24 && a.nodes == 14);
+    CHECK(memcmp(found, rows, sizeof rows) == 0);
+}
+
+/* All kinds of findings. */
+static void try_kinds(void)
+{
+    static const char source[] = "import bench;\n"
+                                 "import bench;\n"
+                                 "import nope;\n"
+                                 "let a = b;\n"
+                                 "let a = 1;\n"
+                                 "other::x;\n"
+                                 "bench::x;\n"
+                                 "bench::deep::x;\n"
+                                 "bench::HTTP::x;\n"
+                                 "bench::deep;\n"
+                                 "bench::ping.m;\n"
+                                 "bench::ping/1;\n"
+                                 "1.2.3.4/\"x\";\n"
+                                 "18446744073709551616;\n"
+                                 "1.2.3.4/170141183460469231731687303715884105727;\n"
+                                 "bench::ping;\n";
+    static const uint64_t rows[][TERKINOHA_DIAGNOSTIC_WORDS] = {
+        {2, 8, 2, TERKINOHA_FINDING_MULTIPLE_IMPORTS, 1, 21, 26, 0, 0, 0, 0},
+        {3, 8, 1, TERKINOHA_FINDING_UNKNOWN_MODULE, 1, 35, 39, 0, 0, 0, 0},
+        {4, 9, 1, TERKINOHA_FINDING_UNKNOWN_NAME, 1, 49, 50, 0, 0, 0, 0},
+        {5, 5, 1, TERKINOHA_FINDING_ALREADY_BOUND, 1, 56, 57, 0, 4, 5, 0},
+        {6, 1, 1, TERKINOHA_FINDING_NOT_IMPORTED, 1, 63, 68, 0, 0, 0, 0},
+        {7, 8, 1, TERKINOHA_FINDING_UNKNOWN_ITEM, 1, 80, 81, 0, 0, 5, 0},
+        {8, 14, 1, TERKINOHA_FINDING_UNKNOWN_ITEM, 1, 96, 97, 0, 30, 34, 0},
+        {9, 8, 1, TERKINOHA_FINDING_NOT_A_MODULE, 1, 106, 110, 0, 0, 0, 0},
+        {10, 8, 1, TERKINOHA_FINDING_NOT_A_VALUE, 1, 122, 126, 0, 0, 0, 0},
+        {11, 13, 1, TERKINOHA_FINDING_NO_MEMBERS, 2, 26, 30, TERKINOHA_TYPE_FUNCTION, 0, 0, 0},
+        {12, 1, 1, TERKINOHA_FINDING_OPERAND_TYPE, 2, 26, 30, TERKINOHA_TYPE_FUNCTION, 1, TERKINOHA_TYPE_IP4, 1},
+        {13, 9, 1, TERKINOHA_FINDING_OPERAND_TYPE, 0, 0, 0, TERKINOHA_TYPE_BYTES, 2, TERKINOHA_TYPE_U16, 1},
+        {14, 1, 1, TERKINOHA_FINDING_INTEGRAL_TOO_LARGE, 0, 0, 0, 0, 0, 0, 0},
+        {15, 9, 2, TERKINOHA_FINDING_TRUNCATED, 0, 0, 0, TERKINOHA_TYPE_U16, UINT64_MAX, UINT64_MAX >> 1, 0},
+        {15, 1, 2, TERKINOHA_FINDING_DISCARDED_VALUE, 0, 0, 0, TERKINOHA_TYPE_SOCK4, 0, 0, 0},
+        {16, 1, 2, TERKINOHA_FINDING_DISCARDED_VALUE, 2, 26, 30, TERKINOHA_TYPE_FUNCTION, 0, 0, 0},
+        {0, 0, 0, 0, 0, 0, 0, 0, 0, 0, 0},
+    };
+    CHECK(done(check(source, enough), 12, 4, 0));
+    CHECK(memcmp(found, rows, sizeof rows) == 0);
+}
+
+/* All types of values. */
+static void try_statement_rows(void)
+{
+    static const char source[] = "import bench;\nbench::HTTP;\nbench::LOOP;\nbench::BIG;\nbench::ON;\nbench::BANNER;\n"
+                                 "bench::ping;\nbench::deep::ZERO;\n\"a\"\n\"b\";\n1.2.3.4:80;\n5000000000;\n";
+    static const uint64_t rows[][TERKINOHA_STATEMENT_WORDS] = {
+        {2, 1, 1, TERKINOHA_TYPE_U16, 0, 80, 0},
+        {3, 1, 1, TERKINOHA_TYPE_IP4, 0, 0x7F000001, 0},
+        {4, 1, 1, TERKINOHA_TYPE_U32, 0, 70000, 0},
+        {5, 1, 1, TERKINOHA_TYPE_BOOL, 0, 1, 0},
+        {6, 1, 1, TERKINOHA_TYPE_BYTES, 2, 24, 26},
+        {7, 1, 1, TERKINOHA_TYPE_FUNCTION, 2, 26, 30},
+        {8, 1, 1, TERKINOHA_TYPE_U8, 0, 0, 0},
+        {9, 1, 1, TERKINOHA_TYPE_BYTES, 1, 33, 0},
+        {11, 1, 1, TERKINOHA_TYPE_SOCK4, 0, 0x01020304, 80},
+        {12, 1, 1, TERKINOHA_TYPE_U64, 0, 5000000000, 0},
+        {0, 0, 0, 0, 0, 0, 0},
+    };
+    CHECK(done(check(source, enough), 0, 10, 10));
+    CHECK(memcmp(statements, rows, sizeof rows) == 0);
+    CHECK(tokens[33].kind == TERKINOHA_STRING_LITERAL && tokens[33].low == 2);
+    CHECK(memcmp(TERKINOHA_TABLE_TEXT + 24, "ok", 2) == 0 && memcmp(TERKINOHA_TABLE_TEXT + 26, "ping", 4) == 0);
+}
+
+/* Smaller numbers go first, and findings are none. */
+static void try_refusals(void)
+{
+    static const struct {
+        const char *source;
+        struct rooms rooms;
+        uint64_t number, line, column;
+    } refusals[] = {
+        {"x.m;\nf(a).b(c);", ENOUGH, TERKINOHA_CALLS, 2, 2},
+        {"f(g(1));", ENOUGH, TERKINOHA_CALLS, 1, 2}, /* the first `(`, and not that of the inner call */
+        {"a; f();", {MOST, MOST, MOST, 0}, TERKINOHA_CALLS, 1, 5},
+        {"f();", {5, 3, 0, 0}, TERKINOHA_CALLS, 1, 2},
+        {"f();", {5, 2, MOST, MOST}, TERKINOHA_NODE_ROOM, 0, 0},
+        {"f();", {4, 3, MOST, MOST}, TERKINOHA_TOKEN_ROOM, 0, 0},
+        {"1; 2;", {5, 4, 0, 1}, TERKINOHA_STATEMENT_ROOM, 0, 0},
+        {"1; 2;", {5, 3, MOST, 0}, TERKINOHA_NODE_ROOM, 0, 0},
+        {"1;", {3, 2, MOST, 0}, TERKINOHA_STATEMENT_ROOM, 0, 0},
+    };
+    for (size_t i = 0; i < sizeof refusals / sizeof *refusals; i++)
+        CHECK(refused(check(refusals[i].source, refusals[i].rooms), refusals[i].number, refusals[i].line,
+                      refusals[i].column));
+    CHECK(same(check("1.2.3.4:65536;", enough).verdict, TERKINOHA_SYNTAX, TERKINOHA_SYNTAX_INT_OUT_OF_RANGE, 1, 9));
+    CHECK(same(check("1.2.3.4:0x50;", enough).verdict, TERKINOHA_SYNTAX, TERKINOHA_SYNTAX_UNEXPECTED_TOKEN, 1, 9));
+}
+
+/* Just enough room; statements want none where there is an error, and findings never want any. */
+static void try_just_enough(void)
+{
+    struct rooms both = {5, 4, 0, 2}, none = {5, 4, 1, 0};
+    CHECK(done(check("1; 2;", both), 0, 2, 2) && statements[1].low == 2);
+    CHECK(done(check("a; 2;", none), 1, 1, 0) && found[0].kind == TERKINOHA_FINDING_UNKNOWN_NAME);
+    none.found = 0;
+    CHECK(done(check("a; 2;", none), 1, 1, 0));
+}
+
+/* ---- names, as many as may be ---- */
+
+static char many[65536];
+
+/* Adds `count` lines, each a format with its number. */
+static void add(const char *format, unsigned from, unsigned count)
+{
+    char *at = many + strlen(many);
+    for (unsigned i = from; i < from + count; i++)
+        at += snprintf(at, 64, format, i);
+}
+
+static terkinoha_checked check_many(void)
+{
+    return check(many, enough);
+}
+
+/* `most` names are good, however often one is bound again; one more is refused at its place. */
+static void try_names(const char *format, unsigned most, uint64_t column, uint64_t errors, uint64_t warnings_of_again)
+{
+    many[0] = '\0';
+    add(format, 0, most);
+    CHECK(done(check_many(), errors, 0, 0));
+    add(format, 0, 1);
+    CHECK(done(check_many(), errors + 1 - warnings_of_again, warnings_of_again, 0));
+    add(format, most, 2);
+    CHECK(refused(check_many(), TERKINOHA_NAMES, most + 2, column));
+}
+
+static void try_all_names(void)
+{
+    struct rooms no_statements = {MOST, MOST, MOST, 0};
+    try_names("let a%u = 1;\n", TERKINOHA_MOST_NAMES, 5, 0, 0);
+    try_names("let a%u = b;\n", TERKINOHA_MOST_NAMES, 5, TERKINOHA_MOST_NAMES, 0); /* failed ones count */
+    try_names("import a%u;\n", TERKINOHA_MOST_IMPORTS, 8, TERKINOHA_MOST_IMPORTS, 1);
+
+    /* the earlier of the two, and before the room for statements */
+    many[0] = '\0';
+    add("1; let a%u = 1;\n", 0, TERKINOHA_MOST_NAMES);
+    add("import a%u;\n", 0, TERKINOHA_MOST_IMPORTS + 1);
+    add("let a%u = 1;\n", TERKINOHA_MOST_NAMES, 1);
+    CHECK(refused(check(many, no_statements), TERKINOHA_NAMES, TERKINOHA_MOST_NAMES + TERKINOHA_MOST_IMPORTS + 1, 8));
+    add("f(%u);\n", 0, 1); /* a call goes before */
+    CHECK(refused(check_many(), TERKINOHA_CALLS, TERKINOHA_MOST_NAMES + TERKINOHA_MOST_IMPORTS + 3, 2));
+}
+
 /* ---- texts ---- */
 
 static terkinoha_verdict verdict_of(uint64_t number, uint64_t kind)
@@ -237,10 +508,15 @@ static void try_texts(void)
     CHECK(strcmp(terkinoha_verdict_text(verdict_of(3, 2)), terkinoha_error_text(2)) == 0);
     CHECK(strcmp(terkinoha_verdict_text(verdict_of(5, 1)), "unexpected token") == 0);
     CHECK(strcmp(terkinoha_verdict_text(verdict_of(5, 2)), "integer literal out of range") == 0);
+    CHECK(strcmp(terkinoha_verdict_text(verdict_of(8, 0)), "a call, which cannot be checked") == 0);
     CHECK(strcmp(terkinoha_verdict_text(verdict_of(UINT64_MAX, 0)), "unknown refusal") == 0);
     CHECK(strcmp(terkinoha_error_text(0), "unknown error") == 0);
     CHECK(strcmp(terkinoha_kind_text(19), "unknown token") == 0);
     CHECK(strcmp(terkinoha_node_text(14), "unknown node") == 0);
+    CHECK(strcmp(terkinoha_finding_text(3), "unknown finding") == 0);
+    CHECK(strcmp(terkinoha_finding_text(25), "integer is cut to fit") == 0);
+    CHECK(strcmp(terkinoha_type_text(15), "unknown type") == 0);
+    CHECK(strcmp(terkinoha_type_text(16), "integer") == 0);
 }
 
 int main(void)
@@ -255,6 +531,13 @@ int main(void)
     try_depth("a", ".b", TERKINOHA_MOST_STEPS);
     try_depth("a", "/b", TERKINOHA_MOST_STEPS);
     try_canonisings();
+    try_checkings();
+    try_finding_rows();
+    try_kinds();
+    try_statement_rows();
+    try_refusals();
+    try_just_enough();
+    try_all_names();
     try_texts();
     printf("samples: as written down\n");
     return 0;

@@ -16,20 +16,32 @@
 /* All that one call leaves. */
 struct left {
     terkinoha_verdict verdict;
-    uint64_t counts[2];
+    uint64_t counts[5];
     terkinoha_lexeme lexemes[ROOM];
     terkinoha_token tokens[ROOM];
     terkinoha_node nodes[ROOM];
+    terkinoha_diagnostic found[ROOM];
+    terkinoha_statement statements[ROOM];
     char text[TEXT_ROOM];
 };
 
-enum { SCAN, LEX, PARSE, CANONICALISE, ENTRIES };
+enum { SCAN, LEX, PARSE, CANONICALISE, CHECK_SOURCE, ENTRIES };
 
 static void kept(struct left *left, terkinoha_verdict verdict, uint64_t count, uint64_t second_count)
 {
     left->verdict = verdict;
     left->counts[0] = count;
     left->counts[1] = second_count;
+}
+
+static void check(const char *source, size_t room, struct left *left)
+{
+    terkinoha_checked a = terkinoha_check(source, strlen(source), left->tokens, room, left->nodes, room, left->found,
+                                          room, left->statements, room);
+    kept(left, a.verdict, a.tokens, a.nodes);
+    left->counts[2] = a.errors;
+    left->counts[3] = a.warnings;
+    left->counts[4] = a.statements;
 }
 
 /* One call. What it lends is full of garbage at first. */
@@ -46,9 +58,11 @@ static void call(int entry, const char *source, size_t room, struct left *left)
     } else if (entry == PARSE) {
         terkinoha_parsed a = terkinoha_parse(source, size, left->tokens, room, left->nodes, room);
         kept(left, a.verdict, a.tokens, a.nodes);
-    } else {
+    } else if (entry == CANONICALISE) {
         terkinoha_canonised a = terkinoha_canonicalise(source, size, left->tokens, room, left->text, TEXT_ROOM);
         kept(left, a.verdict, a.tokens, a.bytes);
+    } else {
+        check(source, room, left);
     }
 }
 
@@ -61,10 +75,14 @@ static int same(const struct left *a, const struct left *b)
 
 static const char script[] = "import bench;\nlet a = 1.2.3.4/80;\nf(a, \"x\" \"y\");\n";
 static const char nothing[] = "# nothing to find\n";
+static const char findings[] = "let a = 1.2.3.4/70000;\na;\nb;\nlet c = b;\nc.d;\nbench::HTTP;\n";
+
+static const char *const sources[] = {script, nothing, findings, "let a = 1.2.3.4;\na/80;\n"};
+enum { SOURCES = sizeof sources / sizeof *sources };
 
 /* What may have happened before: sources that each number refuses, ignored, and tables that are full. */
-static const char *const before[] = {script,  nothing,          "@",          "\xff",    "\"",
-                                     "f(,);", "1.2.3.4:65536;", "a.b.c.d.e;", "1 2 3 4"};
+static const char *const before[] = {script,  nothing,          findings,     "@",       "\xff",  "\"",
+                                     "f(,);", "1.2.3.4:65536;", "a.b.c.d.e;", "1 2 3 4", "1;2;3;"};
 
 static void spoil(int entry, size_t room)
 {
@@ -75,17 +93,16 @@ static void spoil(int entry, size_t room)
 
 static void try_after(void)
 {
-    static struct left first[ENTRIES][2], now;
-    static const char *const sources[2] = {script, nothing};
+    static struct left first[ENTRIES][SOURCES], now;
     lent_trying("first calls", script, sizeof script - 1);
     for (int entry = SCAN; entry < ENTRIES; entry++)
-        for (int i = 0; i < 2; i++)
+        for (int i = 0; i < SOURCES; i++)
             call(entry, sources[i], ROOM, &first[entry][i]);
 
     for (int entry = SCAN; entry < ENTRIES; entry++)
         for (int spoiler = SCAN; spoiler < ENTRIES; spoiler++)
             for (size_t room = 0; room < 8; room++)
-                for (int i = 0; i < 2; i++) {
+                for (int i = 0; i < SOURCES; i++) {
                     lent_trying("a call after others", sources[i], strlen(sources[i]));
                     spoil(spoiler, room);
                     call(entry, sources[i], ROOM, &now);
@@ -114,6 +131,35 @@ static void try_story(void)
     CHECK(tokens[0].kind == TERKINOHA_IDENTIFIER && tokens[1].kind == TERKINOHA_SEMI_COLON);
     CHECK(tokens[2].kind == TERKINOHA_EOF);
     CHECK(tokens[3].kind == 0 && tokens[17].kind == 0);
+}
+
+/* The same with what checking finds: the customer's own words were "nothing found". */
+static void try_findings_story(void)
+{
+    static struct left left;
+    static terkinoha_diagnostic two[2];
+    lent_trying("the story of a check", findings, sizeof findings - 1);
+    call(CHECK_SOURCE, findings, ROOM, &left);
+    CHECK(left.verdict.number == TERKINOHA_DONE && left.counts[2] == 3 && left.counts[3] == 2);
+
+    check("a; b; f();", ROOM, &left); /* refused; its number is not looked at */
+    for (int i = 0; i < ROOM; i++)
+        CHECK(left.found[i].kind == 0 && left.statements[i].kind == 0);
+    CHECK(left.counts[2] == 0 && left.counts[3] == 0); /* of an answer that says so */
+
+    /* the table is full: rows are lost, and no counts */
+    terkinoha_checked full = terkinoha_check(findings, sizeof findings - 1, left.tokens, ROOM, left.nodes, ROOM, two, 2,
+                                             left.statements, ROOM);
+    CHECK(full.verdict.number == TERKINOHA_DONE && full.errors == 3 && full.warnings == 2);
+    CHECK(two[0].kind == TERKINOHA_FINDING_TRUNCATED && two[1].kind == TERKINOHA_FINDING_DISCARDED_VALUE);
+
+    /* then a script with one finding, and one with none, each in the tables that the last left */
+    check("let a = b;", ROOM, &left);
+    CHECK(left.verdict.number == TERKINOHA_DONE && left.counts[2] == 1 && left.counts[3] == 0);
+    CHECK(left.found[0].kind == TERKINOHA_FINDING_UNKNOWN_NAME && left.found[1].kind == 0);
+    check("let b = 1;", ROOM, &left);
+    CHECK(left.verdict.number == TERKINOHA_DONE && left.counts[2] == 0 && left.counts[3] == 0);
+    CHECK(left.found[0].kind == 0);
 }
 
 /* ---- at the same time ---- */
@@ -161,39 +207,73 @@ static void try_threads(const char *one, const char *other)
 
 /* ---- on a stack of its own ---- */
 
-static void *parse_deep(void *given)
+static terkinoha_token tokens[4096];
+static terkinoha_node nodes[4096];
+static terkinoha_diagnostic found[4096];
+static terkinoha_statement statements[4096];
+
+static void *parse_all(void *given)
 {
-    static terkinoha_token tokens[1024];
-    static terkinoha_node nodes[1024];
     const char *source = (const char *)given;
-    terkinoha_parsed parsed = terkinoha_parse(source, strlen(source), tokens, 1024, nodes, 1024);
+    terkinoha_parsed parsed = terkinoha_parse(source, strlen(source), tokens, 4096, nodes, 4096);
     return parsed.verdict.number == TERKINOHA_DONE ? NULL : given;
 }
 
-/* As many lists as may be open at once, each in an expression with other steps. The header says that a call needs
- * less than 32 KiB. How much was taken of a stack that was garbage is counted, with what the thread itself takes: how
- * small a stack may be made differs between machines.
- */
-static void try_stack(void)
+static void *check_all(void *given)
 {
-    static char source[2048];
+    const char *source = (const char *)given;
+    terkinoha_checked checked =
+        terkinoha_check(source, strlen(source), tokens, 4096, nodes, 4096, found, 4096, statements, 4096);
+    return checked.verdict.number == TERKINOHA_DONE ? NULL : given;
+}
+
+/* How much a call takes of a stack that was garbage, with what the thread itself takes: how small a stack may be made
+ * differs between machines. The header says how much a call needs.
+ */
+static size_t stack_of(void *(*run)(void *), char *source)
+{
     struct area stack = area_new((size_t)1 << 20, AT_START);
     pthread_attr_t own;
     pthread_t thread;
     void *wrong = NULL;
+    lent_trying("a stack of one's own", source, strlen(source));
+    CHECK(pthread_attr_init(&own) == 0 && pthread_attr_setstack(&own, stack.at, stack.size) == 0);
+    CHECK(pthread_create(&thread, &own, run, source) == 0);
+    CHECK(pthread_join(thread, &wrong) == 0 && wrong == NULL);
+    size_t taken = stack.size - area_unused(stack);
+    CHECK(area_kept(stack));
+    pthread_attr_destroy(&own);
+    area_free(stack);
+    return taken;
+}
+
+/* As many lists as may be open at once, each in an expression with other steps. */
+static void try_stack_of_lists(void)
+{
+    static char source[2048];
     for (int i = 0; i < TERKINOHA_MOST_LISTS; i++)
         strcat(source, "a.b/c::d(e, f: ");
     strcat(source, "1");
     for (int i = 0; i < TERKINOHA_MOST_LISTS; i++)
         strcat(source, ",)");
     strcat(source, ";");
-    lent_trying("a stack of one's own", source, strlen(source));
-    CHECK(pthread_attr_init(&own) == 0 && pthread_attr_setstack(&own, stack.at, stack.size) == 0);
-    CHECK(pthread_create(&thread, &own, parse_deep, source) == 0);
-    CHECK(pthread_join(thread, &wrong) == 0 && wrong == NULL);
-    CHECK(stack.size - area_unused(stack) < 32 * 1024 && area_kept(stack));
-    pthread_attr_destroy(&own);
-    area_free(stack);
+    CHECK(stack_of(parse_all, source) < 32 * 1024);
+}
+
+/* As many names as may be bound and imported, and as many steps as an expression may have, each inside the next. */
+static void try_stack_of_steps(void)
+{
+    static char source[32768];
+    char *at = source;
+    for (int i = 0; i < TERKINOHA_MOST_IMPORTS; i++)
+        at += sprintf(at, "import i%d;\n", i);
+    for (int i = 0; i < TERKINOHA_MOST_NAMES; i++)
+        at += sprintf(at, "let a%d = 1.2.3.4;\n", i);
+    at += sprintf(at, "a%d", TERKINOHA_MOST_NAMES - 1);
+    for (int i = 0; i < TERKINOHA_MOST_STEPS; i++)
+        at += sprintf(at, "/70000");
+    strcpy(at, ";\nnope::x;\n1;\nimport i0;\n");
+    CHECK(stack_of(check_all, source) < 128 * 1024);
 }
 
 int main(int argc, char **argv)
@@ -203,10 +283,13 @@ int main(int argc, char **argv)
     lent_start();
     try_after();
     try_story();
+    try_findings_story();
     try_threads(script, script);
     try_threads(script, "f(,);");
     try_threads(nothing, "let b = g(0x1F, c: \"z\").m;");
-    try_stack();
+    try_threads(findings, "let a = 1.2.3.4;\na/80;\n");
+    try_stack_of_lists();
+    try_stack_of_steps();
     printf("story: each answer is that of a first call, alone and beside another thread\n");
     return 0;
 }
