@@ -1,7 +1,7 @@
 -- The rows of a table that holds all tokens of a source, and which bytes of its text each stands for.
-use Prim.Native.Nat.{ℕ, zero, suc, _+_, _*_, _/_, _≤_, _<_}
+use Prim.Native.Nat.{ℕ, suc, _+_, _*_, _/_, _≤_, _<_}
 use mathlib.Core.Path.{_≡_, refl, ap, _∙_}
-use mathlib.Core.List.{List, [], _∷_, List·Memᴰ, List·Memᴰ·head, List·Memᴰ·tail}
+use mathlib.Core.List.{List, [], _∷_, List·Memᴰ}
 use mathlib.Core.Option.{none}
 use native.Mathlib.Omega.{arith}
 use lib.ListN.{length, getD, length-append, List·getD-append}
@@ -10,19 +10,11 @@ use Rattle.table.proofs.Laws.{length-tabled, tabled-own, tabled-word, tabled-pa
 use Rattle.language.specs.Tables.{tokenRow, tokenWidth, contentKind, contentLow, contentHigh}
 use Rattle.language.specs.Tokens.{Token, items, tokensFrom, eofToken, tokens, between}
 use Rattle.language.specs.Canonical.{spell}
-use Rattle.language.proofs.TokenClaims.{places-right, names-held, bodies-held}
+use Rattle.language.proofs.TokenClaims.{places-right, not-end, name-kind, names-held, bodies-held}
+use Rattle.language.proofs.TokensAt.{mem-at, row-width}
 use Rattle.language.proofs.Done.{LexesIn}
 use Rattle.canon.specs.Writing.{rowText, RowFits, Lexes}
-use Rattle.canon.proofs.Contents.{content-text, token-spelt}
-
-member : (ts : List Token) (i : ℕ) (d : Token) → i < length ts → List·Memᴰ (getD ts i d) ts
-member [] i d h = absurd (omega arith)
-member (t ∷ ts) zero d h = List·Memᴰ·head refl
-member (t ∷ ts) (suc i) d h = List·Memᴰ·tail (member ts i d (omega arith))
-
-row-width : (t : Token) → length (tokenRow t) ≡ tokenWidth
-unfolding tokenRow
-row-width t = refl
+use Rattle.canon.proofs.Contents.{content-text}
 
 -- a table of n words that has room for them, as lexing leaves it
 pub holds : (s : List ℕ) (n : ℕ) {toks : List ℕ} {count : ℕ} → LexesIn s (n / tokenWidth)
@@ -79,7 +71,7 @@ module _ (s toks : List ℕ) (count : ℕ) (h : Lexes s toks count) where
     unfolding tokenRow
     row-is =
         record {
-          listed = member (tokens s) i (eofToken s) (omega (arith, h .counted));
+          listed = mem-at (tokens s) i (eofToken s) (omega (arith, h .counted));
           kind = word-at 0 (omega arith) (omega arith);
           start = word-at 3 (omega arith) refl;
           end = word-at 4 (omega arith) refl;
@@ -94,7 +86,7 @@ module _ (s toks : List ℕ) (count : ℕ) (h : Lexes s toks count) where
 
       is-before : List·Memᴰ x (before s)
       unfolding tokens
-      is-before = rw (List·getD-append (before s) (eofToken s ∷ []) (eofToken s) i l) (member (before s) i (eofToken s) l)
+      is-before = rw (List·getD-append (before s) (eofToken s ∷ []) (eofToken s) i l) (mem-at (before s) i (eofToken s) l)
 
       -- what the calls ask for
       pub fits : RowFits s toks row
@@ -109,5 +101,5 @@ module _ (s toks : List ℕ) (count : ℕ) (h : Lexes s toks count) where
           let span : between s (getD toks (row + 3) 0) (getD toks (row + 4) 0) ≡ between s (x .start) (x .end) =
           rw (w .start, w .end) in
           rw (span, w .kind, w .low, w .high)
-          (content-text (x .content) (between s (x .start) (x .end)) (token-spelt s x is-before)
+          (content-text (x .content) (between s (x .start) (x .end)) (not-end s x is-before) (name-kind s x (w .listed))
           (λ bs e. names-held s x bs (w .listed) e) (λ b bs e. bodies-held s x b bs (w .listed) e))

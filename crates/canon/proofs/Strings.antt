@@ -1,17 +1,13 @@
 -- The literals of a string, written one by one as the scanner finds them.
-use Prim.Native.Nat.{ℕ, suc, _+_, _*_, _-_, _≤_, _<_}
+use Prim.Native.Nat.{ℕ, _+_, _*_, _-_, _≤_, _<_}
 use mathlib.Core.Path.{_≡_, refl, sym, ap, _∙_}
 use mathlib.Core.List.{List, [], _∷_, _++_, append-assoc, append-nil}
-use mathlib.Core.Logic.{inl, inr}
-use native.Mathlib.Decide.{decLe}
-use native.Mathlib.Numerals.{add-one}
 use native.Mathlib.Omega.{arith}
 use borrow.Author.Tests.{eq-eqb, ne-eqb}
 use types.Run.{OneOf}
 use denote.Enum.Declared.{tagOf}
-use lib.ListN.{length, getD, drop, length-take, length-drop}
-use lib.Seq.{drop-cons, take-take, length-take-le}
-use Rattle.language.specs.Lexemes.{Kind, trivia, str, tok, error, scanFrom, lexeme}
+use lib.ListN.{length, drop, length-take}
+use Rattle.language.specs.Lexemes.{Kind, scanFrom, lexeme}
 use Rattle.language.specs.Tokens.{unquoted, between, bodyOf, bodiesOf, bodiesIn}
 use Rattle.language.specs.Canonical.{quoted, spellBodies}
 use Rattle.scan.specs.declared.Lexeme.{Lexeme}
@@ -19,10 +15,10 @@ use Rattle.scan.specs.declared.LexemeKind.the-variants as kind-is
 use Rattle.scan.specs.declared.Scanner.{Scanner}
 use Rattle.scan.specs.declared.Step.the-variants.{Found, Done}
 use Rattle.scan.specs.Scanning as scanning
-use Rattle.scan.specs.Scanning.{kindAs, stepAt}
+use Rattle.scan.specs.Scanning.{stepAt}
 use Rattle.scan.proofs.LexemeKind as kind
-use Rattle.scan.proofs.Parts.{some-body, no-body}
 use Rattle.lex.proofs.Feeding.{turn, at-end}
+use Rattle.lex.proofs.Bodies.{part-size, unquoted-is, is-literal, no-literal}
 use Rattle.canon.specs.Writing.{Writes, literalsText, literalText}
 use Rattle.canon.proofs.Writing.{none, _then_, bytes-are}
 
@@ -47,39 +43,8 @@ unquoted-short : (b : List ℕ) → length (unquoted b) ≤ length b - 2
 unquoted-short b = omega (arith, length-take (length b - 2) (drop 1 b))
 
 module _ (s : List ℕ) (at e : ℕ) (h : e ≤ length s) where
-  part-size : length (between s at e) ≡ e - at
-  part-size = length-take-le (e - at) (drop at s) (omega (arith, length-drop at s))
-
-  unquoted-is : unquoted (between s at e) ≡ scanning.bodyOf s at e
-  unquoted-is =
-      elim (decLe (at + 2) e) [
-        | no k ↦ let z : e - at - 2 ≡ 0 = omega arith in rw (part-size, z) (no-body s at e (omega arith))
-        | yes k ↦
-            let m = e - (at + 1) in
-            let r = drop (suc at) s in
-            let d : drop at s ≡ getD s at 0 ∷ r = drop-cons s at 0 (omega arith) in
-            let n : e - at ≡ suc m = omega arith in
-            let p : suc m - 2 ≡ e - 1 - (at + 1) = omega arith in
-            rw (part-size, n, p, d) (take-take (e - 1 - (at + 1)) m r (omega arith) ∙ rw (← add-one at) (some-body s at e h (omega arith)))
-      ]
-
   body-short : length (scanning.bodyOf s at e) ≤ e - at - 2
-  body-short = omega (arith, ap length unquoted-is, unquoted-short (between s at e), part-size)
-
--- the code's kind of a literal, and of what is none
-is-literal : (k : Kind) (bs : List ℕ) → kind-is.Str ≡ kindAs k → bodyOf k bs ≡ unquoted bs ∷ []
-is-literal str bs e = refl
-is-literal trivia bs e = cc
-is-literal (tok t) bs e = cc
-is-literal (error x) bs e = cc
-
-no-literal : (k : Kind) (bs : List ℕ) → OneOf (0 ∷ 2 ∷ 3 ∷ []) (tagOf kind.the-type (kindAs k)) → bodyOf k bs ≡ []
-no-literal trivia bs o = refl
-no-literal (tok t) bs o = refl
-no-literal (error x) bs o = refl
-no-literal str bs (inl o) = absurd (omega (arith, o))
-no-literal str bs (inr (inl o)) = absurd (omega (arith, o))
-no-literal str bs (inr (inr o)) = absurd (omega (arith, o))
+  body-short = omega (arith, ap length (unquoted-is s at e h), unquoted-short (between s at e), part-size s at e h)
 
 -- ---- the loop
 
@@ -141,7 +106,7 @@ module _ (part t : List ℕ) (at : ℕ) where
             → Telling part t at v to (next .pos)
         told h {v} {to} w =
             let p = turn part pos l next e in
-            let b : bodyOf x bytes ≡ unquoted bytes ∷ [] = is-literal x bytes (sym h ∙ p .kind) in
+            let b : bodyOf x bytes ≡ unquoted bytes ∷ [] = rw (is-literal x (sym h ∙ p .kind)) in
             let past : pos + lexeme (drop pos part) .size ≡ next .pos = sym (p .past) in
             let a : unquoted bytes ≡ scanning.bodyOf part pos (next .pos) = rw past (unquoted-is part pos (next .pos) (p .within)) in
             let c : r ≡ scanning.bodyOf part pos (next .pos) = d ∙ rw (p .begins, p .ends) in

@@ -10,7 +10,7 @@ use lib.Seq.{drop-cons, drop-length}
 use Rattle.table.specs.Table.{flat}
 use Rattle.language.specs.Sentences.{Node, nodeRow}
 use Rattle.language.specs.Numbers.{sooner, firstCall}
-use Rattle.parse.proofs.Answers.{never}
+use Rattle.language.proofs.Tests.{never}
 use Rattle.judging.specs.Judging.{word}
 use Rattle.checker.specs.declared.Call.{Call}
 use Rattle.checker.specs.declared.Call.the-variants.{At, Nowhere}

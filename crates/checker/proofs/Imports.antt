@@ -3,7 +3,7 @@ use mathlib.Core.Path.{_≡_, refl, sym, ap, subst, _∙_}
 use mathlib.Core.Bool.{Bool, true, false}
 use mathlib.Core.List.{List, [], _∷_, _++_}
 use mathlib.Core.Option.{Option, none, some}
-use Prim.Native.Nat.{ℕ, zero, suc, _+_, _*_, _≤_, _<_}
+use Prim.Native.Nat.{ℕ, _+_, _≤_, _<_}
 use native.Mathlib.Omega.{arith}
 use borrow.Author.Tests.{lt-ltb, le-ltb}
 use lib.Dec.{ltb}
@@ -16,23 +16,20 @@ use Rattle.language.specs.Tokens.{Content, contents, between}
 use Rattle.language.specs.Sentences.{import′}
 use Rattle.language.specs.Values.{lookup}
 use Rattle.language.specs.Judgements as judgements
-use Rattle.language.specs.Judgements.{Diag, diag, Held, Known, known, Import, What, multipleImports, unknownModule, mostImports, errorsIn, warningsIn, goes, full, imported, findImport, nameAt, stmt}
+use Rattle.language.specs.Judgements.{diag, Known, known, Import, What, multipleImports, unknownModule, mostImports, errorsIn, warningsIn, goes, full, imported, findImport, nameAt, stmt}
 use Rattle.language.specs.Findings.{diagRow, stmtRow}
 use Rattle.language.specs.Numbers.{tokenOf}
+use Rattle.language.proofs.Tests.{never}
 use Rattle.judging.specs.declared.Token.{Token}
-use Rattle.judging.specs.declared.Value.{Value}
 use Rattle.judging.specs.declared.Fault.{Fault}
 use Rattle.judging.specs.declared.Counts.{Counts}
-use Rattle.judging.specs.Judging.{tokenAs, namedAs, faultAs, faultRow, putRows, plusWarnings, namesIn, place, importsIn, boundIn, orNone, knownIn, Knows, Ready, Lexed}
+use Rattle.judging.specs.Judging.{tokenAs, namedAs, faultAs, faultRow, putRows, plusWarnings, namesIn, place, importsIn, boundIn, orNone, knownIn, Knows, Ready}
 use Rattle.judging.proofs.Rows.{no-rows, one-row}
 use Rattle.judging.proofs.Names.{import-found, import-lost, found-module}
 use Rattle.checker.specs.declared.Turn.the-variants.{Went, Full}
 use Rattle.checker.specs.Checking.{plusError, plusImport, entryRow, Grows, Steps, TurnOf, Turns}
 use Rattle.checker.proofs.Statements.{fault-row}
 use Rattle.checker.proofs.Stores.{store-import, imports-long}
-
-never : {A : Type 0} → _≡_ {A = ℕ} 0 1 → A
-never e = absurd (omega (arith, e))
 
 -- ---- what one finding adds
 

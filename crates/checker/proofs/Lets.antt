@@ -1,36 +1,31 @@
 -- Each way through a `let` after its value was judged.
 use mathlib.Core.Path.{_≡_, refl, sym, ap, subst, _∙_}
-use mathlib.Core.Bool.{Bool, true, false}
-use mathlib.Core.List.{List, [], _∷_, _++_}
+use mathlib.Core.List.{List, []}
 use mathlib.Core.Option.{Option, none, some}
-use mathlib.Core.Logic.{_⊎_, inl, inr}
-use Prim.Native.Nat.{ℕ, zero, suc, _+_, _*_, _≤_, _<_}
+use Prim.Native.Nat.{ℕ, suc, _+_, _≤_, _<_}
 use native.Mathlib.Omega.{arith}
 use native.Mathlib.Decide.{decLe}
 use lib.ListN.{length, set, length-set}
 use Rattle.table.specs.Table.{putRow}
 use Rattle.language.specs.Tokens as tokens
 use Rattle.language.specs.Tokens.{Content, contents, between}
-use Rattle.language.specs.Sentences.{Expr}
 use Rattle.language.specs.Values as values
 use Rattle.language.specs.Judgements as judgements
-use Rattle.language.specs.Judgements.{Known, known, Binding, Diag, What, val, err, poisoned, errorsIn, bind, bound, judge, nameAt}
+use Rattle.language.specs.Judgements.{Known, Diag, val, err, poisoned, errorsIn, bind, bound, judge, nameAt}
 use Rattle.judging.specs.declared.Value.{Value}
 use Rattle.judging.specs.declared.Counts.{Counts}
 use Rattle.judging.specs.declared.Fault.{Fault}
 use Rattle.judging.specs.declared.Judgement.{Judgement}
 use Rattle.judging.specs.declared.Judged.the-variants.{Val, Err, Poisoned}
-use Rattle.judging.specs.Judging.{valueAs, faultRow, judgedAs, putRows, plusWarnings, Agrees, nameWord, opened, Canon, boundIn, importsIn, knownIn, Knows, Ready}
+use Rattle.judging.specs.Judging.{valueAs, faultRow, judgedAs, putRows, plusWarnings, nameWord, opened, Canon, boundIn, importsIn, knownIn, Knows, Ready}
 use Rattle.judging.proofs.Values.{opened-as, canon-of}
 use Rattle.language.specs.Findings.{diagRow}
 use Rattle.language.specs.Numbers.{tokenOf}
-use Rattle.checker.specs.declared.Turn.the-variants.{Went, Full}
-use Rattle.checker.specs.Checking.{plusName, plusError, entryRow, Grows, Steps, TurnOf, Binds}
-use Rattle.checker.proofs.Statements.{told-err, told-none, Failing, Clean, clean}
+use Rattle.language.proofs.Tests.{never}
+use Rattle.checker.specs.declared.Turn.the-variants.{Went}
+use Rattle.checker.specs.Checking.{plusName, plusError, entryRow, Grows, TurnOf, Binds}
+use Rattle.checker.proofs.Statements.{told-err, told-none, Failing, clean}
 use Rattle.checker.proofs.Stores.{store-name, old-entry, new-entry}
-
-never : {A : Type 0} → _≡_ {A = ℕ} 0 1 → A
-never e = absurd (omega (arith, e))
 
 module _ (s toks : List ℕ) (b i : List (List ℕ)) (n t : ℕ) (k : Known) (c : Counts) (kn : Knows s b i c k) (rd : Ready s toks b i c) (start end : ℕ)
     (name : between s start end ≡ nameAt (contents (tokens.tokens s)) t) (l : c .used < 512) (long : 512 ≤ length b) (v : Value) (b′ : List (List ℕ))

@@ -12,21 +12,21 @@ use lib.ListN.{length, take, length-append}
 use Rattle.table.specs.Table.{flat}
 use Rattle.table.proofs.Laws.{length-tabled, tabled-own, tabled-rows}
 use Rattle.language.specs.Tables.{tokenRow}
-use Rattle.language.specs.Tokens.{Token, contents, tokens}
+use Rattle.language.specs.Tokens.{contents, tokens}
 use Rattle.language.specs.Sentences as sentences
 use Rattle.language.specs.Sentences.{Stmt, import′, let′, expr′, Out, ok, program, stmtNodes, nodesFrom, nodes, nodeRow}
 use Rattle.language.specs.Numbers as numbers
 use Rattle.language.specs.Numbers.{verdict, lexAnswer, parsed, parsedAs, parseAnswer, parsedNodes, parseTokens, parseNodes, statementsOf}
 use Rattle.parse.specs.declared.ParseAnswer.{ParseAnswer}
 use Rattle.parse.specs.Entry.{ParseSource}
-use Rattle.parse.proofs.Entry.{in-room, all-lexed}
-use Rattle.parse.proofs.Refusals.{refused-number}
-use Rattle.parse.proofs.TokenRows.{some-token}
-use Rattle.parse.proofs.Nodes.{expr-long}
+use Rattle.parse.proofs.Entry.{not-zero, in-room, all-lexed}
+use Rattle.language.proofs.SentenceRefusals.{refused-number}
+use Rattle.language.proofs.TokensAt.{row-width, some-token}
+use Rattle.language.proofs.NodeClaims.{expr-long, row-long}
 use Rattle.judging.specs.Judging.{Lexed}
 use Rattle.checker.specs.Checking.{StmtsAt, stmtSize, stmtsSize, RowFits, noCounts}
 use Rattle.checker.specs.Entry.{Parses}
-use Rattle.checker.proofs.Trees.{row-long, all-stmts}
+use Rattle.checker.proofs.Trees.{all-stmts}
 
 -- ---- the answer
 
@@ -60,7 +60,7 @@ module _ (s : List ℕ) (m n : ℕ) (z : parseAnswer s m n .verdict .number ≡ 
       by : (o : Out (List Stmt)) → program (contents (tokens s)) ≡ o
           → (ss : List Stmt) × (at : ℕ) × (x : ℕ) × (program (contents (tokens s)) ≡ ok ss at x) × (length (nodes ss) ≤ n)
       by (ok ss at x) e = (ss, at, x, e, nodes-within (length (nodes ss)) (number-as e))
-      by (sentences.no k j at) e = absurd (omega (arith, refused-number (contents (tokens s)) e, number-as e))
+      by (sentences.no k j at) e = absurd (not-zero (refused-number (contents (tokens s)) k j at e) (number-as e))
 
   pub answer-is : parseAnswer s m n ≡ parsed (verdict 0 0 0) (length (tokens s)) (length (parsedNodes (program (contents (tokens s)))))
   answer-is =
@@ -69,11 +69,8 @@ module _ (s : List ℕ) (m n : ℕ) (z : parseAnswer s m n .verdict .number ≡ 
 
 -- ---- rows
 
-token-long : (t : Token) → length (tokenRow t) ≡ 7
-unfolding tokenRow
-token-long t = refl
-
-stmt-long : (k : ℕ) (s : Stmt) → length (stmtNodes k s) ≡ stmtSize s
+-- a statement has as many rows as its size
+pub stmt-long : (k : ℕ) (s : Stmt) → length (stmtNodes k s) ≡ stmtSize s
 stmt-long k (import′ t) = refl
 stmt-long k (let′ t e) = simp length-append (omega (arith, expr-long k e))
 stmt-long k (expr′ e) = simp length-append (omega (arith, expr-long k e))
@@ -105,7 +102,7 @@ module _ {s toks tree : List ℕ} {count rows : ℕ} (p : Parses s toks tree cou
   pub lexed-part : Lexed s (take (7 * count) toks)
   lexed-part =
       record {
-        rows = rw (p .table, p .counted) (tabled-rows tokenRow 7 token-long (length toks) (tokens s) (tokens-in s (length toks / 7) (length tree / 5) done));
+        rows = rw (p .table, p .counted) (tabled-rows tokenRow 7 row-width (length toks) (tokens s) (tokens-in s (length toks / 7) (length tree / 5) done));
       }
 
   pub node-part : take (5 * rows) tree ≡ flat nodeRow (parsedNodes (program (contents (tokens s))))

@@ -17,6 +17,7 @@ use Rattle.language.specs.Judgements as judgements
 use Rattle.language.specs.Judgements.{Diag, Held, Known, Import, Binding, val, err, poisoned, narrowed, goes, full, onward, mostNames, mostImports, findImport, find, imported, importStmt, bound, letStmt, discarded, told, judge, nameAt, stmt, run, judgeAll}
 use Rattle.language.specs.Findings.{diagRow, stmtRow}
 use Rattle.language.specs.Numbers.{tokenOf}
+use Rattle.language.proofs.Tests.{never}
 use Rattle.judging.specs.declared.Counts.{Counts}
 use Rattle.judging.specs.Judging.{putRows, Lexed, Ready, Knows, knownIn, boundIn, importsIn}
 use Rattle.judging.proofs.Rows.{more-rows}
@@ -24,11 +25,9 @@ use Rattle.judging.proofs.Judging as judging
 use Rattle.checker.specs.declared.Turn.{Turn}
 use Rattle.checker.specs.declared.Turn.the-variants.{Went, Full}
 use Rattle.checker.specs.Checking.{Grows, Steps, TurnOf, StmtsAt, at-end, no-stmt, an-import, a-let, an-expr, stmtSize, stmtsSize, RowFits, RowTurns, passes, takes, noCounts, ComesTo, Comes}
-use Rattle.checker.proofs.Statements.{errors-append, warnings-append, tallied}
+use Rattle.checker.proofs.Statements.{warnings-append, tallied}
+use Rattle.language.proofs.JudgementClaims.{errors-append}
 use Rattle.checker.proofs.Imports.{grows-none}
-
-never : {A : Type 0} → _≡_ {A = ℕ} 0 1 → A
-never e = absurd (omega (arith, e))
 
 -- ---- a statement finds as much as it has rows at the most, and holds one statement at the most
 

@@ -3,9 +3,9 @@ use mathlib.Core.Path.{_≡_, refl, sym, ap, subst, _∙_}
 use mathlib.Core.Bool.{Bool, true, false}
 use mathlib.Core.List.{List, [], _∷_, _++_}
 use mathlib.Core.Option.{Option, none, some}
-use Prim.Native.Nat.{ℕ, zero, suc, _+_, _*_, _/_, _%_, _^_, _≤_, _<_}
+use Prim.Native.Nat.{ℕ, zero, suc, _+_, _*_, _/_, _%_, _^_, _<_}
 use native.Mathlib.Omega.{arith}
-use lib.ListN.{length, length-append}
+use lib.ListN.{length}
 use Rattle.table.specs.Table.{putRow}
 use Rattle.language.specs.Choice.{if′}
 use Rattle.language.specs.Integers.{IntType, u8, u16, u32, u64, bits, smallest, isTruncated}
@@ -16,9 +16,11 @@ use Rattle.language.specs.Sentences.{Expr, literal, sock4, local, path, member,
 use Rattle.language.specs.Values as values
 use Rattle.language.specs.Values.{isInteger, isBool, isSized, isIp4, isSock4, isString, isText, isFunction, tyInt, typeOf, entryAt, lookup}
 use Rattle.language.specs.Judgements as judgements
-use Rattle.language.specs.Judgements.{Diag, diag, Held, held, Known, What, isError, discardedValue, integralTooLarge, truncated, noMembers, judgement, val, err, poisoned, andThen, leftOf, rightOf, lastItem, innerItem, walk, below, boundTo, nameAt, find, findImport, Import, Binding, unknownItem, integerOf, ip4Of, narrowed, errorsIn, warningsIn, goes, discarded, told, judge}
+use Rattle.language.specs.Judgements.{Diag, diag, Held, held, Known, What, isError, discardedValue, integralTooLarge, truncated, judgement, val, err, poisoned, andThen, leftOf, rightOf, lastItem, innerItem, walk, below, boundTo, nameAt, find, findImport, Import, Binding, unknownItem, integerOf, ip4Of, narrowed, errorsIn, warningsIn, discarded, told, judge}
+use Rattle.language.proofs.JudgementClaims.{errors-append}
 use Rattle.language.specs.Findings.{valueKind, valueLow, valueHigh, intKind, tyKind, diagRow, stmtRow}
 use Rattle.language.specs.Numbers.{tokenOf}
+use Rattle.language.proofs.Tests.{never}
 use Rattle.language.proofs.Integers.{smallest-holds}
 use Rattle.wide.specs.declared.Size.{Size}
 use Rattle.wide.specs.declared.Size.the-variants.{U8, U16, U32, U64, TooLarge}
@@ -36,9 +38,6 @@ use Rattle.judging.proofs.Judging.{right-none, right-some, left-none, left-some
 use Rattle.checker.specs.declared.Narrowed.{Narrowed}
 use Rattle.checker.specs.declared.Narrowed.the-variants as narrow
 use Rattle.checker.specs.Checking.{plusError, plusStatement, bareAs, shownAs, heldRow, narrowedAs, HeldRow, Narrow, Room, StmtFits, Grows, SameNames, GoesOf, Tells, Exprs}
-
-never : {A : Type 0} → _≡_ {A = ℕ} 0 1 → A
-never e = absurd (omega (arith, e))
 
 -- ---- narrowing
 
@@ -222,11 +221,6 @@ module _ {v : Value} (u : values.Value) (e : v ≡ valueAs u) where
   shown-other p q o = rw e (other-shown u (λ z. p (kind-is ∙ z)) (λ z. q (kind-is ∙ z)) (λ z. o (kind-is ∙ z)))
 
 -- ---- findings: errors and warnings
-
-pub errors-append : (xs ys : List Diag) → errorsIn (xs ++ ys) ≡ errorsIn xs + errorsIn ys
-unfolding errorsIn
-errors-append [] ys = omega arith
-errors-append (x ∷ xs) ys = omega (arith, errors-append xs ys)
 
 pub warnings-append : (xs ys : List Diag) → warningsIn (xs ++ ys) ≡ warningsIn xs + warningsIn ys
 unfolding warningsIn

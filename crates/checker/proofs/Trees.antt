@@ -1,54 +1,20 @@
 -- The rows of a program's nodes stand for its trees and its statements.
 use mathlib.Core.Path.{_≡_, refl, sym, ap, subst, _∙_}
-use mathlib.Core.List.{List, [], _∷_, _++_, append-assoc}
+use mathlib.Core.List.{List, [], _∷_, _++_}
 use Prim.Native.Nat.{ℕ, zero, suc, _+_, _-_, _*_, _≤_, _<_}
 use native.Mathlib.Omega.{arith}
 use lib.ListN.{length, getD, length-append, List·getD-append}
 use lib.Seq.{getD-append-add}
 use Rattle.table.specs.Table.{flat}
-use Rattle.table.proofs.Laws.{length-flat}
-use Rattle.language.specs.Sentences.{Expr, literal, sock4, local, path, member, call, slash′, Args, none-given, given, named, Stmt, import′, let′, expr′, firstOf, Node, node, nameNodes, exprSize, argsSize, lastOf, exprNodes, argNodes, stmtNodes, nodesFrom, nodes, nodeRow}
+use Rattle.table.proofs.Laws.{length-flat, flat-word}
+use Rattle.language.specs.Sentences.{Expr, literal, sock4, local, path, member, call, slash′, Args, none-given, given, named, Stmt, import′, let′, expr′, firstOf, Node, node, nameNodes, exprSize, argsSize, lastOf, exprNodes, argNodes, nodesFrom, nodes, nodeRow}
+use Rattle.language.proofs.NodeClaims.{names-long, expr-long, args-long, some-node, row-long}
 use Rattle.judging.specs.Judging.{word, RepAt, is-literal, is-sock4, is-local, is-path, is-member, is-slash, is-call}
-use Rattle.judging.proofs.Rows.{flat-word}
 use Rattle.checker.specs.Checking.{StmtsAt, at-end, no-stmt, an-import, a-let, an-expr}
 
 -- past the end
 abbrev pub nowhere : Node
 nowhere = node 0 0 0 0 0
-
-pub row-long : (n : Node) → length (nodeRow n) ≡ 5
-unfolding nodeRow
-row-long n = refl
-
--- ---- how many nodes there are
-
-names-long : (t n : ℕ) → length (nameNodes t n) ≡ n
-names-long t zero = refl
-names-long t (suc n) = length-append (nameNodes t n) (node 1 (t + 2 * suc n) 0 0 0 ∷ []) ∙ omega (arith, names-long t n)
-
-mutual
-  expr-long : (k : ℕ) (e : Expr) → length (exprNodes k e) ≡ exprSize e
-  expr-long k (literal t) = refl
-  expr-long k (sock4 t) = refl
-  expr-long k (local t) = refl
-  expr-long k (path t n) = length-append (nameNodes t n) _ ∙ omega (arith, names-long t n)
-  expr-long k (member e t) = length-append (exprNodes k e) _ ∙ omega (arith, expr-long k e)
-  expr-long k (slash′ a b) = simp length-append (omega (arith, expr-long k a, expr-long (k + exprSize a) b))
-  expr-long k (call e t g) = simp length-append (omega (arith, expr-long k e, args-long (k + exprSize e) g))
-
-  args-long : (k : ℕ) (g : Args) → length (argNodes k g) ≡ argsSize g
-  args-long k none-given = refl
-  args-long k (given g e) = simp length-append (omega (arith, args-long k g, expr-long (k + argsSize g) e))
-  args-long k (named g t e) = simp length-append (omega (arith, args-long k g, expr-long (k + argsSize g) e))
-
-some-node : (e : Expr) → 1 ≤ exprSize e
-some-node (literal t) = omega arith
-some-node (sock4 t) = omega arith
-some-node (local t) = omega arith
-some-node (path t n) = omega arith
-some-node (member e t) = omega arith
-some-node (slash′ a b) = omega arith
-some-node (call e t g) = omega arith
 
 -- ---- a part of the nodes, from the one numbered k on
 
@@ -84,7 +50,7 @@ module _ (ns : List Node) where
   row-in i h = omega (arith, rows-long)
 
   pub row-word : (i j : ℕ) → i < length ns → j < 5 → word ws i j ≡ getD (nodeRow (getD ns i nowhere)) j 0
-  row-word i j h l = flat-word nodeRow 5 row-long (omega arith) ns i j h l nowhere
+  row-word i j h l = flat-word nodeRow 5 row-long ns i j h l nowhere
 
   -- the words of a node
   pub record IsRow (i : ℕ) (n : Node) : Type 0 where

@@ -21,7 +21,8 @@ use Rattle.lex.specs.Lexing.{nth, bodyAt}
 use Rattle.lex.proofs.Bodies.{some-part}
 use Rattle.canon.specs.Writing.{kindText, rowText, Lexes}
 use Rattle.joined.specs.Canonical.{SameRow, SameRows}
-use Rattle.canon.proofs.Contents.{ends-line, gap-is, name-kind, string-kind}
+use Rattle.canon.proofs.Contents.{ends-line, gap-is, string-kind}
+use Rattle.language.proofs.TokenClaims.{name-kind}
 use Rattle.canon.proofs.Rows.{before, counted, tokenAt, RowIs, row-past, row-is, row-text}
 
 -- ---- bodies

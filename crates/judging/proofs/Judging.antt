@@ -1,24 +1,25 @@
 -- Rows of trees, and each way through judging one, as the code takes it.
 use mathlib.Core.Path.{_≡_, refl, sym, ap, subst, _∙_}
 use mathlib.Core.Bool.{Bool, true, false}
-use mathlib.Core.List.{List, [], _∷_, _++_, append-nil}
+use mathlib.Core.List.{List, [], _∷_}
 use mathlib.Core.Option.{Option, none, some}
-use Prim.Native.Nat.{ℕ, zero, suc, _+_, _*_, _/_, _%_, _≤_, _<_}
+use Prim.Native.Nat.{ℕ, _+_, _*_, _/_, _%_, _≤_, _<_}
 use native.Mathlib.Omega.{arith}
-use lib.ListN.{length, getD, length-append}
+use lib.ListN.{length, length-append}
 use Rattle.table.specs.Table.{putRow}
 use Rattle.language.specs.Choice.{if′}
 use Rattle.language.specs.Integers.{u16, low16, isTruncated}
 use Rattle.language.specs.Tables as tables
 use Rattle.language.specs.Tokens as tokens
 use Rattle.language.specs.Tokens.{Content, contents}
-use Rattle.language.specs.Sentences.{Expr, literal, sock4, local, path, member, call, slash′, Args, firstOf, exprSize}
+use Rattle.language.specs.Sentences.{Expr, literal, sock4, local, path, member, call, slash′, firstOf, exprSize}
 use Rattle.language.specs.Values as values
-use Rattle.language.specs.Values.{Ty, tyInt, tyIp4, typeOf}
+use Rattle.language.specs.Values.{tyInt, tyIp4, typeOf}
 use Rattle.language.specs.Judgements as judgements
-use Rattle.language.specs.Judgements.{What, Diag, diag, val, err, poisoned, judgement, Known, andThen, goesOn, leftOf, rightOf, cut, left, right, noMembers, operandType, truncated, integerOf, ip4Of, boundTo, below, find, findImport, nameAt, literalAt, judge}
-use Rattle.language.specs.Findings.{diagRow, valueLow, valueHigh}
+use Rattle.language.specs.Judgements.{What, Diag, diag, val, err, poisoned, judgement, Known, andThen, goesOn, leftOf, rightOf, cut, left, right, noMembers, operandType, truncated, integerOf, ip4Of, literalAt, judge}
+use Rattle.language.specs.Findings.{diagRow}
 use Rattle.language.specs.Numbers.{tokenOf}
+use Rattle.language.proofs.Tests.{never}
 use Rattle.judging.specs.declared.Token.{Token}
 use Rattle.judging.specs.declared.Value.{Value}
 use Rattle.judging.specs.declared.Fault.{Fault}
@@ -26,10 +27,10 @@ use Rattle.judging.specs.declared.Counts.{Counts}
 use Rattle.judging.specs.declared.Judged.{Judged}
 use Rattle.judging.specs.declared.Judged.the-variants.{Val, Err, Poisoned}
 use Rattle.judging.specs.declared.Judgement.{Judgement}
-use Rattle.judging.specs.Judging.{tokenAs, valueAs, sock4As, faultAs, typedAs, truncatedAs, faultRow, judgedAs, putRows, isIntegral, boundIn, importsIn, knownIn, Knows, Ready, LocalIs, PathIs, plusWarnings, Agrees, LeafIs, Members, Operand, Narrows, Integral, word, RepAt, is-literal, is-sock4, is-local, is-path, is-member, is-slash, is-call, Fits, SlashFits}
+use Rattle.judging.specs.Judging.{tokenAs, valueAs, sock4As, faultAs, typedAs, truncatedAs, faultRow, judgedAs, isIntegral, knownIn, Knows, Ready, LocalIs, PathIs, plusWarnings, Agrees, LeafIs, Members, Operand, Narrows, Integral, word, RepAt, is-literal, is-sock4, is-local, is-path, is-member, is-slash, is-call, Fits, SlashFits}
 use Rattle.judging.proofs.Rows.{no-rows, one-row, more-rows}
-use Rattle.judging.proofs.TokenRows.{content-of}
-use Rattle.judging.proofs.Values.{numberAs, integer-is, integer-not, ip4-is, ip4-not}
+use Rattle.language.proofs.TokensAt.{content-of}
+use Rattle.judging.proofs.Values.{integer-is, integer-not, ip4-is, ip4-not}
 
 -- ---- rows
 
@@ -131,9 +132,6 @@ module _ {ws : List ℕ} where
   slash-parts (is-slash f k z n m u v) = (z, m, v)
 
 -- ---- what a code's answer says of a judgement
-
-never : {A : Type 0} → _≡_ {A = ℕ} 0 1 → A
-never e = absurd (omega (arith, e))
 
 module _ (s : List ℕ) where
   as-val : (o : judgements.Judged) {w : Value} → judgedAs s o ≡ Val w → (u : values.Value) × (o ≡ val u) × (w ≡ valueAs u)

@@ -1,6 +1,5 @@
 -- The laws that the proofs of the functions cite.
 pub mod Rows
-pub mod NameTokens
 pub mod TokenRows
 pub mod Values
 pub mod Names

@@ -1,31 +1,31 @@
 -- Tables of names: the search, what is found, and paths through the constant table.
-use mathlib.Core.Path.{_≡_, refl, sym, ap, subst, _∙_}
-use mathlib.Core.Bool.{Bool, true, false, _&&_}
-use mathlib.Core.List.{List, [], _∷_, _++_}
+use mathlib.Core.Path.{_≡_, refl, sym, ap, _∙_}
+use mathlib.Core.Bool.{Bool, true, false, _&&_, and-false}
+use mathlib.Core.List.{List, [], _∷_}
 use mathlib.Core.Option.{Option, none, some}
-use Prim.Native.Nat.{ℕ, zero, suc, _+_, _-_, _*_, _≤_, _<_}
+use Prim.Native.Nat.{ℕ, zero, suc, _+_, _-_, _≤_, _<_}
 use native.Mathlib.Omega.{arith}
 use native.Mathlib.Decide.{decLe}
-use borrow.Author.Tests.{eq-eqb, ne-eqb}
+use borrow.Author.Tests.{ne-eqb}
 use lib.Dec.{eqb}
-use lib.ListN.{length, getD}
+use lib.ListN.{length}
 use Rattle.constants.specs.Constants.{tableRows, kindOf, lowOf, highOf, orZero, entryWord}
 use Rattle.constants.proofs.Entries.{words}
 use Rattle.language.specs.Choice.{if′}
 use Rattle.language.specs.Lexemes.{same}
 use Rattle.language.specs.Tokens as tokens
-use Rattle.language.specs.Tokens.{Content, eof, contents, between}
+use Rattle.language.specs.Tokens.{Content, contents}
 use Rattle.language.specs.Values as values
 use Rattle.language.specs.Values.{Entry, entries, entryAt, entryName, tableText, lookupFrom, lookup}
-use Rattle.language.specs.Judgements.{err, val, poisoned, unknownName, unknownItem, notAModule, notAValue, notImported, Binding, Import, find, findImport, nameAt, boundTo, below, walk, lastItem, innerItem}
+use Rattle.language.specs.Judgements.{err, poisoned, unknownItem, notAModule, notAValue, notImported, Binding, find, findImport, nameAt, boundTo, below, walk, lastItem, innerItem}
 use Rattle.language.specs.Judgements as judgements
-use Rattle.language.specs.Findings.{valueKind, valueLow, valueHigh}
+use Rattle.language.specs.Findings.{valueKind}
 use Rattle.language.specs.Numbers.{tokenOf}
 use Rattle.judging.specs.declared.Token.{Token}
 use Rattle.judging.specs.declared.Judged.{Judged}
-use Rattle.judging.specs.declared.Judged.the-variants.{Val, Err, Poisoned}
-use Rattle.judging.specs.Judging.{tokenAs, Lexed, opened, Canon, heldAs, judgedAs, namedAs, faultAs, nameWord, nameOf, namesIn, bindingAt, boundIn, orNone, importAt, importsIn, place}
-use Rattle.judging.proofs.TokenRows.{content-of, past-token, rows-long}
+use Rattle.judging.specs.declared.Judged.the-variants.{Val, Err}
+use Rattle.judging.specs.Judging.{tokenAs, opened, Canon, heldAs, judgedAs, namedAs, faultAs, nameWord, nameOf, namesIn, bindingAt, boundIn, orNone, importAt, importsIn, place}
+use Rattle.language.proofs.TokensAt.{content-of, past-token}
 use Rattle.judging.proofs.Values.{some-kind}
 
 -- ---- the search
@@ -125,10 +125,6 @@ module _ (s : List ℕ) (ts : List Content) (t : ℕ) where
     local-lost h k q = q ∙ rw (k, bound-lost s ws v used i e h)
 
 -- ---- paths
-
-and-false : (b : Bool) → (b && false) ≡ false
-and-false true = refl
-and-false false = refl
 
 -- no entry has an empty name
 no-empty : (m : ℕ) → lookup m [] ≡ none

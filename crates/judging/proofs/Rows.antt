@@ -1,27 +1,16 @@
 -- Words of rows that stand one after the other, and rows that are stored.
 use mathlib.Core.Path.{_≡_, refl, sym, ap, _∙_}
 use mathlib.Core.List.{List, [], _∷_, _++_, append-nil, append-assoc}
-use Prim.Native.Nat.{ℕ, zero, suc, _+_, _-_, _*_, _/_, _≤_, _<_}
-use native.Mathlib.Nat.{le-div-iff-mul-le}
+use Prim.Native.Nat.{ℕ, suc, _+_, _-_, _*_, _≤_, _<_}
 use native.Mathlib.Omega.{arith}
-use lib.ListN.{length, getD, take, drop, length-append, length-drop}
+use lib.ListN.{length, take, drop, length-append, length-drop}
 use lib.Seq.{sets-eq, take-all, drop-length, drop-drop}
 use borrow.Rule.Slice.PartMut.{midOf, postOf, putMid, post-is}
-use Rattle.table.specs.Table.{padTo, flat, tabled, putRow}
-use Rattle.table.proofs.Laws.{pad-split, length-flat, tabled-all, tabled-word, tabled-none, put-fits, put-full, put-next}
+use Rattle.table.specs.Table.{padTo, tabled, putRow}
+use Rattle.table.proofs.Laws.{tabled-none, put-fits, put-next}
 use Rattle.judging.specs.Judging.{putRows}
 
 module _ {A : Type 0} (row : A → List ℕ) (width : ℕ) (each : (x : A) → length (row x) ≡ width) (pos : 0 < width) where
-  flat-table : (xs : List A) → tabled row width (length xs * width) xs ≡ flat row xs
-  flat-table xs =
-      let same : length xs * width ≡ length (flat row xs) + 0 = omega (arith, length-flat row width each xs) in
-      tabled-all row width (length xs * width) xs (le-div-iff-mul-le pos .1 (omega arith))
-      ∙ rw same (pad-split 0 (flat row xs) ∙ append-nil (flat row xs))
-
-  pub flat-word : (xs : List A) (i j : ℕ) → i < length xs → j < width → (d : A) → getD (flat row xs) (width * i + j) 0 ≡ getD (row (getD xs i d)) j 0
-  flat-word xs i j h l d =
-      rw (← flat-table xs) (tabled-word row width each (length xs * width) xs (le-div-iff-mul-le pos .1 (omega arith)) i j h l d)
-
   -- ---- rows stored from one on
 
   module _ (n : ℕ) where

@@ -1,23 +1,21 @@
 -- Values as three words: what a kind says of a value, and findings that show it.
 use mathlib.Core.Path.{_≡_, refl, sym, ap, _∙_}
-use mathlib.Core.Bool.{Bool, true, false, _&&_, _||_}
+use mathlib.Core.Bool.{true, false, _&&_, _||_}
 use mathlib.Core.Option.{Option, none, some}
-use mathlib.Core.List.{List, [], _∷_}
-use Prim.Native.Nat.{ℕ, zero, suc, _+_, _*_, _/_, _%_, _≤_, _<_}
+use mathlib.Core.List.{List}
+use Prim.Native.Nat.{ℕ, _+_, _*_, _/_, _%_}
 use native.Mathlib.Omega.{arith}
 use borrow.Author.Tests.{eq-eqb, ne-eqb}
 use lib.Dec.{eqb, leb}
-use lib.ListN.{length, getD}
 use Rattle.constants.specs.Constants.{tableRows, kindOf, lowOf, highOf, entryWord}
 use Rattle.constants.proofs.Entries.{words}
-use Rattle.language.specs.Choice.{if′}
-use Rattle.language.specs.Integers.{IntType, u8, u16, u32, u64}
-use Rattle.language.specs.Lexemes.{Tok, lParen, rParen, dot, doubleColon, colon, semiColon, equals, comma, slash, importKeyword, letKeyword, identifier, booleanLiteral, ipv4Literal, hexLiteral, decLiteral}
+use Rattle.language.specs.Integers.{u8, u16, u32, u64}
+use Rattle.language.specs.Lexemes.{lParen, rParen, dot, doubleColon, colon, semiColon, equals, comma, slash, importKeyword, letKeyword, identifier, booleanLiteral, ipv4Literal, hexLiteral, decLiteral}
 use Rattle.language.specs.Tables as tables
 use Rattle.language.specs.Tables.{contentKind, contentLow, contentHigh, bit}
 use Rattle.language.specs.Tokens as tokens
 use Rattle.language.specs.Tokens.{Content, eof, plain, name, string, contents}
-use Rattle.language.specs.Values.{isInteger, isBool, isSized, isIp4, isSock4, isString, isText, isFunction, Ty, typeOf, entryAt}
+use Rattle.language.specs.Values.{isInteger, isBool, isSized, isIp4, isSock4, isString, isText, isFunction, Ty, typeOf}
 use Rattle.language.specs.Values as values
 use Rattle.language.specs.Judgements.{literalValue, literalAt, integerOf, ip4Of, Side, operandType}
 use Rattle.language.specs.Findings.{valueKind, valueLow, valueHigh, tyKind, sideKind}
@@ -25,10 +23,9 @@ use Rattle.language.specs.Numbers.{tokenOf}
 use Rattle.judging.specs.declared.Token.{Token}
 use Rattle.judging.specs.declared.Value.{Value}
 use Rattle.judging.specs.declared.Text.{Text}
-use Rattle.judging.specs.declared.Judged.{Judged}
-use Rattle.judging.specs.declared.Judged.the-variants.{Val, Err, Poisoned}
-use Rattle.judging.specs.Judging.{tokenAs, valueAs, opened, Canon, heldAs, isIntegral, textAs, typedAs, faultAs, sock4As, judgedAs}
-use Rattle.judging.proofs.TokenRows.{content-of}
+use Rattle.judging.specs.declared.Judged.the-variants.{Val, Poisoned}
+use Rattle.judging.specs.Judging.{tokenAs, valueAs, opened, Canon, heldAs, isIntegral, textAs, typedAs, faultAs, sock4As}
+use Rattle.language.proofs.TokensAt.{content-of}
 
 -- ---- three words read back
 

@@ -14,7 +14,7 @@ use Rattle.language.specs.Utf8.{charAt, leadOf, follow, Encoded}
 use Rattle.language.specs.Lexemes.{all, notNewline, isBlank, blankRun, lexeme}
 use Rattle.language.specs.Tokens.{Piece, gap, Item, firstWrong}
 use Rattle.language.specs.Canonical.{spell, endsLine, between′, after, canonical}
-use Rattle.language.proofs.Tests.{both, inside}
+use Rattle.language.proofs.Tests.{both, inside, never}
 use Rattle.language.proofs.LexemeSizes.{by-cases}
 use Rattle.language.proofs.SpellingRuns.{all-parts, up-to, implied}
 use Rattle.language.proofs.CanonicalUtf8.{encoded-append, ascii-encoded}
@@ -76,8 +76,7 @@ parts-of (i ∷ is) f e = go refl (f .0) (parts-of is (f .1))
     go k a-gap h = let d = h (rw k at e) in record { parts = d .parts; reads = past k (d .reads); good = d .good }
     go k (an-error x) h =
         let c = rw k at e in
-        let z : _≡_ {A = ℕ} 0 1 = cc in
-        absurd (omega arith)
+        never (cc)
     go k (a-part p j g) h =
         let d = h (after-part i is p (k ∙ j) e) in
         record { parts = p ∷ d .parts; reads = next p (k ∙ j) (d .reads); good = (g, d .good) }

@@ -9,7 +9,7 @@ use borrow.Author.Tests.{le-leb, ltb-true}
 use lib.Dec.{leb, ltb}
 use Rattle.language.specs.Utf8.{isScalar, encode, Encoded, nothing, another}
 use Rattle.language.specs.Lexemes.{all}
-use Rattle.language.proofs.Tests.{outside-test}
+use Rattle.language.proofs.Tests.{outside-test, never}
 use Rattle.language.proofs.LexemeSizes.{by-cases}
 use Rattle.language.proofs.SpellingRuns.{all-parts}
 
@@ -65,8 +65,8 @@ module _ (a : ℕ) (q : List ℕ) (l : a < 128) where
 
   -- text that holds it is encoded before it and after it
   cut-at : {t : List ℕ} → Encoded t → (p : List ℕ) → t ≡ p ++ a ∷ q → Encoded p × Encoded q
-  cut-at nothing [] x = let z : _≡_ {A = ℕ} 0 1 = cc in absurd (omega arith)
-  cut-at nothing (c ∷ p) x = let z : _≡_ {A = ℕ} 0 1 = cc in absurd (omega arith)
+  cut-at nothing [] x = never (cc)
+  cut-at nothing (c ∷ p) x = never (cc)
   cut-at (another {s} n h w) p x = go (encoding n) p x (λ r y. cut-at w r y)
     where
       go : (encode n ≡ n ∷ []) ⊎ High (encode n) → (p : List ℕ) → encode n ++ s ≡ p ++ a ∷ q

@@ -16,7 +16,7 @@ use Rattle.language.specs.Judgements.{What, unknownName, unknownItem, un
 use Rattle.language.specs.Findings.{tyText, whatKind, Detail, named, detail, stmtRow, stmtWidth}
 use Rattle.language.specs.Canonical.{text, Lexes}
 use Rattle.language.specs.Numbers.{Verdict, verdict, placed, Parsed, tokenPlace, parseAnswer, nowhere, at-token, SamePlace, SameParse, Checked, refusedCheck, firstCall, parsedNodes, statementsOf, checked, checkedWithin, judgedWithin, checkAnswer, tokenOf, checkNodes, checkDiags, checkStmts}
-use Rattle.language.specs.Checks.{SameCheck, SameDetail, SameHeld, bodiesAt, CheckedByContents, TextChecked}
+use Rattle.language.specs.Checks.{TokenShown, SameCheck, SameDetail, SameHeld, bodiesAt, CheckedByContents, TextChecked}
 use Rattle.language.proofs.Tests.{each-side, both-sides}
 use Rattle.language.proofs.Canonical.{round-trip}
 use Rattle.language.proofs.ParseClaims.{parsed-by-contents}
@@ -148,8 +148,11 @@ module _ (s u : List ℕ) where
 
   -- two tokens that show the same name
   module _ (t v : Token) (e : between s (t .start) (t .end) ≡ between u (v .start) (v .end)) where
-    same-named : (w : What) (a b : ℕ) → (whatKind w ≡ 8 → ⊥) → SameDetail s u w (named w t a b) (named w v a b)
-    same-named w a b n =
+    -- the words after the name are the same, or they are the place of one token
+    same-shown : (w : What) (a b c d : ℕ)
+        → ((x : ℕ) → w ≡ alreadyBound x → TokenShown s (named w t a b) x × TokenShown u (named w v c d) x)
+        → (((x : ℕ) → w ≡ alreadyBound x → ⊥) → (a ≡ c) × (b ≡ d)) → SameDetail s u w (named w t a b) (named w v c d)
+    same-shown w a b c d bound more =
         record {
           severity = refl;
           kind = refl;
@@ -158,29 +161,20 @@ module _ (s u : List ℕ) where
           start = λ n. absurd (n refl);
           end = λ n. absurd (n refl);
           type = refl;
-          bound = λ x q. absurd (n (ap whatKind q));
-          first = λ _. refl;
-          second = λ _. refl;
+          bound = bound;
+          first = λ n. more n .0;
+          second = λ n. more n .1;
           third = refl;
         }
+
+    same-named : (w : What) (a b : ℕ) → (whatKind w ≡ 8 → ⊥) → SameDetail s u w (named w t a b) (named w v a b)
+    same-named w a b n = same-shown w a b a b (λ x q. absurd (n (ap whatKind q))) (λ _. (refl, refl))
 
     same-bound : (x : ℕ)
         → SameDetail s u (alreadyBound x) (named (alreadyBound x) t (tokenOf s x .line) (tokenOf s x .column))
         (named (alreadyBound x) v (tokenOf u x .line) (tokenOf u x .column))
     same-bound x =
-        record {
-          severity = refl;
-          kind = refl;
-          text = refl;
-          name = λ _. e;
-          start = λ n. absurd (n refl);
-          end = λ n. absurd (n refl);
-          type = refl;
-          bound = λ y q. let z : x ≡ y = cc in rw z ((refl, refl), (refl, refl));
-          first = λ n. absurd (n x refl);
-          second = λ n. absurd (n x refl);
-          third = refl;
-        }
+        same-shown (alreadyBound x) _ _ _ _ (λ y q. let z : x ≡ y = cc in rw z ((refl, refl), (refl, refl))) (λ n. absurd (n x refl))
 
   module _ (e : contents (tokens s) ≡ contents (tokens u)) where
     abbrev cs : List Content

@@ -13,11 +13,10 @@ use lib.ListN.{length, getD, take, drop, length-append, length-drop, List·getD-
 use lib.Seq.{take-append-le, drop-append-le, getD-append-add}
 use Rattle.language.specs.Choice.{if′, within}
 use Rattle.language.specs.Utf8.{encode, Char, char, noChar, Lead, lead, leadOf, follow, begun, charAt}
-use Rattle.language.specs.Lexemes.{Tok, word, Kind, trivia, tok, error, unexpectedChar, Lexeme, lexemeOf, run, isBlank, blankRun, isDigit, isWord, isWordStart, isBody, notNewline, octet, joined, Quad, quad, notQuad, further, quadFrom, quadLexeme, integer, number, string, comment, punctuation, ascii, lexemeAt, lexeme, placed, scanFrom}
+use Rattle.language.specs.Lexemes.{Tok, word, Kind, trivia, tok, error, unexpectedChar, Lexeme, lexemeOf, run, isBlank, blankRun, isDigit, isWord, isWordStart, isBody, notNewline, octet, joined, Quad, quad, notQuad, further, quadFrom, quadLexeme, integer, number, string, comment, punctuation, ascii, lexemeAt, lexeme}
 use Rattle.language.proofs.Tests.{both-sides, inside}
 use Rattle.language.proofs.Utf8Rows.{character-at}
-use Rattle.language.proofs.LexemeSizes.{by-cases, size-fits}
-use Rattle.language.proofs.LexemeSpans.{scan-unfolds}
+use Rattle.language.proofs.LexemeSizes.{by-cases}
 
 -- z has a first byte, and it is not 10
 abbrev Goes : List ℕ → Type 0
@@ -414,20 +413,3 @@ before-newline (b ∷ s) r h = go (lexeme-cut b s (10 ∷ r))
 pub newline : (r : List ℕ) → lexeme (10 ∷ r) ≡ lexemeOf (error (unexpectedChar 10)) 1
 unfolding lexeme charAt leadOf follow isBlank ascii punctuation isWordStart isDigit
 newline r = refl
-
--- the lexemes of x ++ 10 ∷ r, with x at `at` and byte 10 at `to`: those of x, byte 10, and those of r
-abbrev pub LineScanned : ℕ → ℕ → List ℕ → List ℕ → Type 0
-LineScanned at to x r = scanFrom 0 at (x ++ 10 ∷ r) ≡ scanFrom 0 at x ++ placed to (lexeme (10 ∷ r)) ∷ scanFrom 0 (to + 1) r
-
-pub scan-line : (at to : ℕ) (x r : List ℕ) → at + length x ≡ to → LineScanned at to x r
-scan-line at to x r = go (suc (length x)) at x (omega arith)
-  where
-    go : (fuel at : ℕ) (x : List ℕ) → length x < fuel → at + length x ≡ to → LineScanned at to x r
-    go zero at x l e = absurd (omega arith)
-    go (suc fuel) at [] l e = let z : at ≡ to = omega arith in rw (z, scan-unfolds to .1 10 r, scan-unfolds to .0, newline r)
-    go (suc fuel) at (b ∷ x) l e =
-        let n = lexeme (b ∷ x) .size in
-        let h = size-fits b x in
-        let more = go fuel (at + n) (drop n (b ∷ x)) (rw length-drop (omega arith)) (rw length-drop (omega arith)) in
-        rw (scan-unfolds at .1 b (x ++ 10 ∷ r), scan-unfolds at .1 b x, before-newline (b ∷ x) r (omega arith))
-        (rw (drop-append-le n (b ∷ x) (10 ∷ r) (h .1), more))

@@ -15,6 +15,7 @@ use Rattle.language.specs.Judgements.{Outcome, judged, refused, errorsIn
 use Rattle.language.specs.Numbers.{mostBytes, Verdict, verdict, placed, lexical, tokenPlace, Scanned, scanned, scanAnswer, Lexed, lexed, lexAnswer, Parsed, parsedAs, parseAnswer, parsedNodes, Canonised, canonAnswer, Checked, refusedCheck, firstCall, statementsOf, checked, judgedWithin, checkAnswer}
 use Rattle.language.specs.Names.{FirstTooMany}
 use Rattle.language.specs.Exactly.{TooLong, NotUtf8, WrongLexeme, TokensExceed, Stops, NodesExceed, bare, stopping, done, lexing, sentences, judging, parse, Reason, unexpectedToken, intOutOfRange, oneTooMany, scanRows, lexRows, parseRows, canonRows, checkRows, ScanExactly, LexExactly, ParseExactly, CanonExactly, CheckExactly}
+use Rattle.language.proofs.Tests.{never}
 use Rattle.language.proofs.SentenceRefusals.{stops-for}
 use Rattle.language.proofs.Names.{names-refused}
 use Rattle.language.proofs.ExactlyRows.{absent, Met, here, later, rowOf, exactly, less, equal, tested, one-tested, both-tested, finds, after}
@@ -60,7 +61,7 @@ stops-once : {o : Out (List Stmt)} {n k at m l u : ℕ} → o ≡ no n k at → 
 stops-once e f = cc
 
 ends : {o : Out (List Stmt)} {ss : List Stmt} {at x n k u : ℕ} → o ≡ ok ss at x → o ≡ no n k u → ⊥
-ends e f = let z : _≡_ {A = ℕ} 0 1 = cc in absurd (omega arith)
+ends e f = never (cc)
 
 module _ (s : List ℕ) (room count : ℕ) where
   stopped : (n k at : ℕ) → Reason n k → parse s ≡ no n k at
@@ -107,7 +108,7 @@ judged-met : (s : List ℕ) (room t n : ℕ) (o : Outcome) → checked s ≡ o
     → Met (judgedWithin s room t n o .verdict) (drop 1 (judging s room) ++ done)
 judged-met s room t n (refused at) e = here (rowOf 9 (judging s room)) (record { token = at; found = refused-at s at .0 e }) refl refl
 judged-met s room t n (judged ds hs) e =
-    later (λ h. let f = refused-at s (h .token) .1 (h .found) in let z : _≡_ {A = ℕ} 0 1 = cc in omega arith)
+    later (λ h. let f = refused-at s (h .token) .1 (h .found) in never (cc))
     (rw e
     (both-tested (λ (a : Checked). a .verdict) 11 (eqb (errorsIn ds) 0) (ltb room (length hs)) (equal (errorsIn ds) 0)
     (less room (length hs)) refl all-done all-done))

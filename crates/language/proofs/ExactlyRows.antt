@@ -11,11 +11,11 @@ use lib.Dec.{ltb, eqb}
 use Rattle.language.specs.Choice.{if′}
 use Rattle.language.specs.Numbers.{Verdict, verdict}
 use Rattle.language.specs.Exactly.{Row, bare, done, Given, Told, Exactly}
-use Rattle.language.proofs.Tests.{both}
+use Rattle.language.proofs.Tests.{both, never}
 
 -- what is found is not nothing
 pub absent : {B : Type 0} {o : Option B} {b : B} → o ≡ none → o ≡ some b → ⊥
-absent e f = let z : _≡_ {A = ℕ} 0 1 = cc in absurd (omega arith)
+absent e f = never (cc)
 
 -- ---- the first row that holds
 

@@ -1,6 +1,6 @@
 -- What statements give: at most one error, at most one statement that is held.
-use Prim.Native.Nat.{ℕ, zero, suc, _+_, _≤_}
-use mathlib.Core.Path.{_≡_, refl, _∙_, sym, ap, subst}
+use Prim.Native.Nat.{ℕ, suc, _+_, _≤_}
+use mathlib.Core.Path.{_≡_, refl, ap, subst}
 use mathlib.Core.Bool.{true, false}
 use mathlib.Core.List.{List, [], _∷_, _++_}
 use mathlib.Core.Option.{Option, none, some}
@@ -8,12 +8,12 @@ use native.Mathlib.Omega.{arith}
 use lib.Dec.{ltb}
 use lib.ListN.{length, length-append}
 use Rattle.language.specs.Choice.{if′}
-use Rattle.language.specs.Integers.{IntType, u16, smallest, isTruncated}
+use Rattle.language.specs.Integers.{u16, isTruncated}
 use Rattle.language.specs.Tokens.{Content}
 use Rattle.language.specs.Tables.{bit}
 use Rattle.language.specs.Sentences.{Expr, literal, sock4, local, path, member, call, slash′, Stmt, import′, let′, expr′, firstOf}
 use Rattle.language.specs.Values.{Value, isInteger, isBool, isSized, isIp4, isSock4, isString, isText, isFunction, tyInt, lookup}
-use Rattle.language.specs.Judgements.{What, truncated, Diag, diag, isError, errorsIn, warningsIn, Judged, val, err, poisoned, Judgement, judgement, andThen, goesOn, Known, known, Import, Binding, Held, held, Turn, goes, full, Outcome, judged, refused, find, findImport, mostImports, mostNames, nameAt, leftOf, rightOf, ip4Of, integerOf, cut, narrowed, judge, imported, importStmt, bound, letStmt, discarded, told, stmt, onward, run, OneError, StatementsFew, AllCounted, BoundFirst}
+use Rattle.language.specs.Judgements.{truncated, Diag, diag, isError, errorsIn, warningsIn, Judged, val, err, poisoned, Judgement, andThen, goesOn, Known, known, Import, Binding, Held, Turn, goes, full, Outcome, judged, refused, find, findImport, mostImports, mostNames, nameAt, leftOf, rightOf, cut, narrowed, judge, imported, importStmt, bound, letStmt, discarded, told, stmt, onward, run, OneError, StatementsFew, AllCounted, BoundFirst}
 use Rattle.language.proofs.Tests.{each-side}
 
 pub all-counted : AllCounted
@@ -24,7 +24,7 @@ all-counted (d ∷ ds) = elim (isError (d .what)) as (λ b. if′ b 1 0 + errors
   | false ↦ omega (arith, all-counted ds)
 ]
 
-errors-append : (xs ys : List Diag) → errorsIn (xs ++ ys) ≡ errorsIn xs + errorsIn ys
+pub errors-append : (xs ys : List Diag) → errorsIn (xs ++ ys) ≡ errorsIn xs + errorsIn ys
 unfolding errorsIn
 errors-append [] ys = omega arith
 errors-append (x ∷ xs) ys = rw (errors-append xs ys) (omega arith)

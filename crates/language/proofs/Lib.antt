@@ -15,6 +15,7 @@ pub mod TokenPlaces
 pub mod TokenBodies
 pub mod TokenClaims
 pub mod TokenContents
+pub mod TokensAt
 pub mod CanonicalExamples
 pub mod SpellingRuns
 pub mod SpellingDigits

@@ -15,6 +15,7 @@ use Rattle.language.specs.Sentences.{Expr, Stmt, import′, let′, expr
 use Rattle.language.specs.Values.{Value, lookup}
 use Rattle.language.specs.Judgements.{Diag, Judged, val, err, poisoned, Known, known, Import, Binding, Held, Turn, goes, full, refused, find, findImport, mostImports, mostNames, nameAt, narrowed, judge, imported, importStmt, bind, bound, letStmt, discarded, told, stmt, onward, run}
 use Rattle.language.specs.Names.{letNames, importNames, TooMany, NamesRefused}
+use Rattle.language.proofs.Tests.{never}
 use Rattle.language.proofs.LexemeSizes.{by-cases}
 use Rattle.language.proofs.DistinctNames.{among, Kept, none-kept, repeated, added, filled}
 
@@ -235,7 +236,7 @@ module _ (ts : List Content) where
   refused-reached : {t : ℕ} (ss us : List Stmt) (n : ℕ) (k : Known) (ds : List Diag) (hs : List Held) → Knows us k
       → run ts ss n k ds hs ≡ refused t → Reached us ss t
   unfolding run After
-  refused-reached [] us n k ds hs h e = let z : _≡_ {A = ℕ} 0 1 = cc in absurd (omega arith)
+  refused-reached [] us n k ds hs h e = never (cc)
   refused-reached {t} (s ∷ ss) us n k ds hs h e =
       by (stmt ts n k s) (stmt-after us k h n s) e (λ k′ es gs. refused-reached ss (us ++ s ∷ []) (suc n) k′ es gs)
     where

@@ -1,5 +1,5 @@
 -- How many nodes trees have, and that the trees can be read back from them.
-use Prim.Native.Nat.{ℕ, zero, suc, _+_, _-_, _*_, _/_, _≤_}
+use Prim.Native.Nat.{ℕ, zero, suc, _+_, _-_, _*_, _/_, _≤_, _<_}
 use mathlib.Core.Path.{_≡_, refl, sym, ap, _∙_}
 use mathlib.Core.List.{List, [], _∷_, _++_, append-assoc, append-nil}
 use native.Mathlib.Omega.{arith}
@@ -44,6 +44,16 @@ all-long k (s ∷ ss) = simp length-append (omega (arith, stmt-long k s, all-lon
 
 pub nodes-counted : NodesCounted
 nodes-counted = (expr-long, args-long, stmt-long, all-long 0)
+
+-- a tree has a node
+pub some-node : (e : Expr) → 0 < exprSize e
+some-node (literal t) = omega arith
+some-node (sock4 t) = omega arith
+some-node (local t) = omega arith
+some-node (path t n) = omega arith
+some-node (member e t) = omega arith
+some-node (slash′ a b) = omega arith
+some-node (call e t g) = omega arith
 
 -- ---- reading back: each node takes its parts from those that are waiting, the last first
 
@@ -179,7 +189,7 @@ grouped-zeros (suc (suc (suc zero))) = refl
 grouped-zeros (suc (suc (suc (suc zero)))) = refl
 grouped-zeros (suc (suc (suc (suc (suc m))))) = grouped-zeros m
 
-row-long : (n : Node) → length (nodeRow n) ≡ nodeWidth
+pub row-long : (n : Node) → length (nodeRow n) ≡ nodeWidth
 unfolding nodeRow
 row-long n = refl
 

@@ -8,17 +8,7 @@ use lib.ListN.{length, length-append}
 use lib.Seq.{getD-at}
 use Rattle.language.specs.Sentences.{Expr, literal, sock4, local, path, member, call, slash′, Args, none-given, given, named, Stmt, import′, let′, expr′, Node, node, nameNodes, exprSize, argsSize, lastOf, exprNodes, argNodes, stmtNodes, nodesFrom, nodes, stmtSize, programSize}
 use Rattle.language.specs.Rows.{rowAt, Holds, holds-literal, holds-sock4, holds-local, holds-path, holds-member, holds-slash, holds-call, HoldsArgs, holds-none, holds-given, holds-named, HoldsStmt, holds-import, holds-let, holds-expr, RowsHold}
-use Rattle.language.proofs.NodeClaims.{names-long, expr-long, args-long, stmt-long}
-
--- a tree has a node
-some-node : (e : Expr) → 0 < exprSize e
-some-node (literal t) = omega arith
-some-node (sock4 t) = omega arith
-some-node (local t) = omega arith
-some-node (path t n) = omega arith
-some-node (member e t) = omega arith
-some-node (slash′ a b) = omega arith
-some-node (call e t g) = omega arith
+use Rattle.language.proofs.NodeClaims.{names-long, expr-long, args-long, stmt-long, some-node}
 
 module _ (ns : List Node) where
   -- the nodes have these from row k on

@@ -1,6 +1,8 @@
 -- Why parsing stops: an unexpected token, a port out of range, or a list or step too many.
+use mathlib.Core.Path.{_≡_, refl}
 use mathlib.Core.Bool.{Bool, true, false}
 use mathlib.Core.List.{List, [], _∷_, _++_}
+use mathlib.Core.Logic.{_⊎_, inl, inr}
 use Prim.Native.Nat.{ℕ, zero, suc, _+_}
 use lib.ListN.{length, getD}
 use Rattle.language.specs.Choice.{if′}
@@ -136,3 +138,12 @@ module _ (ts : List Content) where
 pub stops-for : StopsFor
 unfolding program
 stops-for ts n k at e = rw e at (stmts-sound ts (suc (length ts)) [] 0 .reason)
+
+-- so a refusal has the number 5 or 7
+pub refused-number : (ts : List Content) (n k at : ℕ) → program ts ≡ no n k at → (n ≡ 5) ⊎ (n ≡ 7)
+refused-number ts n k at e = by (stops-for ts n k at e)
+  where
+    by : {n k : ℕ} → Reason n k → (n ≡ 5) ⊎ (n ≡ 7)
+    by unexpectedToken = inl refl
+    by intOutOfRange = inl refl
+    by oneTooMany = inr refl

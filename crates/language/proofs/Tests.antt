@@ -9,6 +9,10 @@ use borrow.Author.Tests.{leb-true, le-leb, lt-leb}
 use lib.Dec.{leb}
 use Rattle.language.specs.Choice.{if′, within}
 
+-- what would make 0 and 1 equal cannot be
+pub never : {A : Type 0} → _≡_ {A = ℕ} 0 1 → A
+never e = absurd (omega (arith, e))
+
 -- what a test of both says
 pub both : (a b : Bool) → a && b ≡ true → (a ≡ true) × (b ≡ true)
 both true b e = (refl, e)

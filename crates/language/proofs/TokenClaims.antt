@@ -10,6 +10,7 @@ use lib.Seq.{take-at, drop-at, drop-drop}
 use Rattle.language.specs.Lexemes.{Tok, lParen, rParen, dot, doubleColon, colon, semiColon, equals, comma, slash, importKeyword, letKeyword, identifier, booleanLiteral, ipv4Literal, hexLiteral, decLiteral, unexpectedChar, Kind, trivia, str, tok, error, lexemeOf, lexeme}
 use Rattle.language.specs.Tables.{contentKind}
 use Rattle.language.specs.Tokens.{eof, plain, name, string, Token, contentOf, unquoted, Item, items, Pending, joined, pendingToken, flushed, itemToken, tokensFrom, tokens, eofToken, Place, placeOf, between, PlacesRight, Ordered, ordered-none, ordered-one, TokensInOrder, NamesHeld, bodyOf, bodiesIn, BodiesHeld}
+use Rattle.language.proofs.Tests.{never}
 use Rattle.language.proofs.CutLexemes.{newline}
 use Rattle.language.proofs.TokenBodies.{Held, held-none, held-more, bodies-of}
 use Rattle.language.proofs.TokenPlaces.{place, itemAt, Walk, walk-end, walk-newline, walk-item, source-walk}
@@ -69,6 +70,7 @@ module _ (source : List ℕ) where
     right : placeOf source (t .start) ≡ place (t .line) (t .column)
     some-byte : t .start < t .end
     in-room : t .end ≤ length source
+    going : t .content ≡ eof → ⊥
     kinded : contentKind (t .content) ≡ 13 → (bs : List ℕ) × (t .content ≡ name bs)
     named : (bs : List ℕ) → t .content ≡ name bs → between source (t .start) (t .end) ≡ bs
     bodied : (b : List ℕ) (bs : List (List ℕ)) → t .content ≡ string b bs → bodiesIn (between source (t .start) (t .end)) ≡ b ∷ bs
@@ -122,6 +124,7 @@ module _ (source : List ℕ) where
                 right = r;
                 some-byte = omega arith;
                 in-room = reads-on .in-room;
+                going = λ e. never (cc);
                 kinded = λ k. absurd (omega arith);
                 named = λ bs e. cc;
                 bodied = λ b bs e. rw span (cc (bodies-of w));
@@ -171,6 +174,7 @@ module _ (source : List ℕ) where
           right = r;
           some-byte = omega arith;
           in-room = reads-on at x s h q .in-room;
+          going = λ e. elim (content-cases t x) [ inl f ↦ never (cc) | inr f ↦ never (cc) ];
           kinded = λ k. (x, name-cases t x k);
           named = λ bs e. elim (content-cases t x) [ inl f ↦ rw (span at x s h q) (cc) | inr f ↦ cc ];
           bodied = λ b bs e. elim (content-cases t x) [ inl f ↦ cc | inr f ↦ cc ];
@@ -213,6 +217,10 @@ places-right s t m =
 pub tokens-in-order : TokensInOrder
 unfolding tokens
 tokens-in-order s = in-order s (all-told s)
+
+-- none before the last is `Eof`
+pub not-end : (s : List ℕ) (t : Token) → List·Memᴰ t (tokensFrom none (items s)) → t .content ≡ eof → ⊥
+not-end s t m = each-good s (all-told s) m .going
 
 -- a token is good, or it is the end
 good-or-end : (s : List ℕ) (t : Token) → List·Memᴰ t (tokens s) → Good s t ⊎ (t .content ≡ eof)

@@ -1,31 +1,24 @@
 -- The bytes of a name and the bodies of a string, by the index of their token: the contents decide them.
-use Prim.Native.Nat.{ℕ, zero, suc, _<_}
+use Prim.Native.Nat.{ℕ}
 use mathlib.Core.Path.{_≡_, refl, sym, ap, _∙_}
 use mathlib.Core.Bool.{true, false}
-use mathlib.Core.List.{List, [], _∷_, List·Memᴰ, List·Memᴰ·head, List·Memᴰ·tail}
+use mathlib.Core.List.{List, [], _∷_, List·Memᴰ}
 use native.Mathlib.Omega.{arith}
 use borrow.Author.Tests.{eqb-true}
 use lib.Dec.{eqb}
-use lib.ListN.{length, getD, List·getD-map}
-use Rattle.language.specs.Tokens.{Content, eof, name, string, Token, eofToken, tokens, contents, between}
+use lib.ListN.{getD}
+use Rattle.language.specs.Tokens.{Content, eof, name, string, eofToken, tokens, contents, between}
 use Rattle.language.specs.Tables.{contentKind}
 use Rattle.language.specs.Sentences.{is}
 use Rattle.language.specs.Judgements.{nameAt, nameIn}
 use Rattle.language.specs.Numbers.{tokenOf}
 use Rattle.language.specs.Checks.{bodiesAt}
 use Rattle.language.proofs.TokenContents.{as-many}
+use Rattle.language.proofs.TokensAt.{mem-at, content-of}
 use Rattle.language.proofs.TokenClaims.{names-held, bodies-held, name-kind}
 use Rattle.language.proofs.SentenceOutcomes.{before-end}
 
-mem-at : (ts : List Token) (i : ℕ) (d : Token) → i < length ts → List·Memᴰ (getD ts i d) ts
-mem-at [] i d h = absurd (omega arith)
-mem-at (t ∷ ts) zero d h = List·Memᴰ·head refl
-mem-at (t ∷ ts) (suc i) d h = List·Memᴰ·tail (mem-at ts i d (omega arith))
-
 module _ (s : List ℕ) (t : ℕ) where
-  content-of : getD (contents (tokens s)) t eof ≡ tokenOf s t .content
-  content-of = List·getD-map (λ (x : Token). x .content) (tokens s) t (eofToken s)
-
   -- a token of another kind than the end's is one of the source's
   inside : (c : Content) → eqb 1 (contentKind c) ≡ false → is (contents (tokens s)) t c ≡ true → List·Memᴰ (tokenOf s t) (tokens s)
   inside c k e = mem-at (tokens s) t (eofToken s) (omega (arith, as-many (tokens s), before-end (contents (tokens s)) c k e))
@@ -35,8 +28,8 @@ module _ (s : List ℕ) (t : ℕ) where
   name-shown e =
       let m = inside (name []) refl e in
       let k = eqb-true (contentKind (getD (contents (tokens s)) t eof)) 13 e in
-      let n = name-kind s (tokenOf s t) m (rw content-of at k) in
-      names-held s (tokenOf s t) (n .0) m (n .1) ∙ sym (ap nameIn (content-of ∙ n .1))
+      let n = name-kind s (tokenOf s t) m (rw (content-of s t) at k) in
+      names-held s (tokenOf s t) (n .0) m (n .1) ∙ sym (ap nameIn (content-of s t ∙ n .1))
 
   pub bodies-shown : (b : List ℕ) (bs : List (List ℕ)) → getD (contents (tokens s)) t eof ≡ string b bs → bodiesAt s t ≡ b ∷ bs
-  bodies-shown b bs e = bodies-held s (tokenOf s t) b bs (inside (string b bs) refl (rw e)) (sym content-of ∙ e)
+  bodies-shown b bs e = bodies-held s (tokenOf s t) b bs (inside (string b bs) refl (rw e)) (sym (content-of s t) ∙ e)

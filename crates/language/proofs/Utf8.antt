@@ -7,6 +7,7 @@ use mathlib.Core.Logic.{_⊎_, inl, inr}
 use native.Mathlib.Omega.{arith}
 use lib.ListN.{length, length-append}
 use Rattle.language.specs.Utf8.{encode, Char, char, noChar, charAt, badFrom, firstBad, Encoded, nothing, another, SameSequences, EncodingInjective, OneAtAPlace, NoProperPrefix, ReadsEncodings, GoodIsEncoded, BadIsFirst}
+use Rattle.language.proofs.Tests.{never}
 use Rattle.language.proofs.Utf8Rows.{not-empty, character-at, encoding-at, in-grammar, adds-none, of-grammar}
 
 -- ---- one character
@@ -110,7 +111,7 @@ ends s = let d = split (suc (length s)) s (omega arith) in go (d .front) (d .res
         inr (length p, ap firstBad e ∙ rest-bad p (b ∷ t) w (omega arith) k, (p, b ∷ t, e, w, refl, omega arith, k))
 
 not-both : {n : ℕ} → none ≡ some n → ⊥
-not-both e = let z : _≡_ {A = ℕ} 0 1 = cc in omega arith
+not-both e = never (cc)
 
 -- a list with no bad byte is encoded
 good-encoded : (s : List ℕ) → firstBad s ≡ none → Encoded s

@@ -1,7 +1,7 @@
 -- One character. The nine rows of RFC 3629, section 4, as a table: what is said of all rows is proved by one computation,
 -- and what a row reads is then the same argument for each.
 use Prim.Native.Nat.{ℕ, zero, suc, _+_, _-_, _*_, _/_, _%_, _≤_, _<_}
-use mathlib.Core.Path.{_≡_, refl, sym, ap, _∙_}
+use mathlib.Core.Path.{_≡_, refl, ap, _∙_}
 use mathlib.Core.Bool.{Bool, true, false, not, false≢true, or-true}
 use mathlib.Core.List.{List, [], _∷_, _++_, append-nil}
 use mathlib.Core.Option.{Option, none}
@@ -14,7 +14,7 @@ use lib.Dec.{leb}
 use lib.ListN.{length, length-append}
 use Rattle.language.specs.Choice.{if′, within}
 use Rattle.language.specs.Utf8.{isScalar, encode, Range, to, derives, derivesOne, isChar, Char, char, noChar, Lead, lead, leadOf, follow, begun, charAt}
-use Rattle.language.proofs.Tests.{both, either, inside, inside-test, outside, outside-test}
+use Rattle.language.proofs.Tests.{both, either, inside, inside-test, outside, outside-test, never}
 
 -- a first byte from `low` to `high`, then `tails` bytes, the next one from `next` to `last`: the numbers `first` to `final`
 record Row : Type 0 where
@@ -229,7 +229,7 @@ not-empty n h = rw (row-of n h .3) (omega arith)
 -- ---- the bytes after the first
 
 not-found : {n k : ℕ} → noChar ≡ char n k → ⊥
-not-found e = let z : _≡_ {A = ℕ} 0 1 = cc in omega arith
+not-found e = never (cc)
 
 -- a character is found past a test only where the test passes
 passed : (w : Bool) (c : Char) {n k : ℕ} → if′ w c noChar ≡ char n k → (w ≡ true) × (c ≡ char n k)

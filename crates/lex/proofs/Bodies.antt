@@ -1,23 +1,20 @@
 -- The bodies of the literals of a text, and the loop that looks for one.
-use Prim.Native.Nat.{ℕ, zero, suc, _+_, _-_, _≤_, _<_}
+use Prim.Native.Nat.{ℕ, suc, _+_, _-_, _≤_, _<_}
 use mathlib.Core.Path.{_≡_, refl, sym, _∙_}
 use mathlib.Core.List.{List, [], _∷_, _++_}
 use mathlib.Core.Logic.{inl, inr}
-use mathlib.Core.Option.{Option, none, some}
 use native.Mathlib.Decide.{decLe}
 use native.Mathlib.Numerals.{add-one}
 use native.Mathlib.Omega.{arith}
 use borrow.Author.Tests.{le-leb, lt-leb}
 use types.Run.{OneOf}
 use denote.Enum.Declared.{tagOf}
-use lib.Dec.{eqb, ltb}
-use lib.ListN.{length, getD, take, drop, length-drop}
+use lib.ListN.{length, getD, drop, length-drop}
 use lib.Seq.{drop-cons, take-take, length-take-le}
-use Rattle.language.specs.Utf8.{Char, char, noChar, charAt}
 use Rattle.language.specs.Lexemes as language
-use Rattle.language.specs.Lexemes.{Tok, Kind, trivia, str, tok, error, scanFrom, lexeme, Number, value, wrong, numbered, integer, readDigits, startsHex, startsZero, Quad, quad, notQuad, quadFrom, quadLexeme, number, string, punctuation, ascii, lexemeAt, isBlank, isDigit, isWord, isWordStart, isBody, run, hexLiteral, decLiteral}
+use Rattle.language.specs.Lexemes.{Kind, trivia, str, tok, error, scanFrom, lexeme}
 use Rattle.language.specs.Tokens.{unquoted, between, bodyOf, bodiesOf, bodiesIn}
-use Rattle.language.proofs.LexemeSizes.{by-cases}
+use Rattle.language.proofs.Tests.{never}
 use Rattle.scan.specs.declared.Lexeme.{Lexeme}
 use Rattle.scan.specs.declared.LexemeKind.the-variants as kind-is
 use Rattle.scan.specs.declared.Scanner.{Scanner}
@@ -25,90 +22,29 @@ use Rattle.scan.specs.declared.Step.the-variants.{Found, Done}
 use Rattle.scan.specs.Scanning as scanning
 use Rattle.scan.specs.Scanning.{kindAs, stepAt}
 use Rattle.scan.proofs.LexemeKind as kind
-use Rattle.scan.proofs.Parts.{some-body}
+use Rattle.scan.proofs.Parts.{some-body, no-body}
 use Rattle.lex.specs.Lexing.{nth, bodyAt}
 use Rattle.lex.proofs.Feeding.{turn, at-end}
 
-never : {A : Type 0} → _≡_ {A = ℕ} 0 1 → A
-never z = absurd (omega arith)
-
--- ---- a literal has both quotes
-
-abbrev quotes : Kind → ℕ
-quotes trivia = 0
-quotes str = 2
-quotes (tok t) = 0
-quotes (error e) = 0
-
-abbrev Quoted : language.Lexeme → Type 0
-Quoted l = quotes (l .kind) ≤ l .size
-
--- an integer is none
-number-plain : (f : ℕ → Tok) (n : Number) → quotes (numbered f n) ≡ 0
-number-plain f (value n) = refl
-number-plain f (wrong x) = refl
-
-integer-plain : (w : List ℕ) → quotes (integer w) ≡ 0
-unfolding integer
-integer-plain w =
-    let P : Kind → Type 0 = λ k. quotes k ≡ 0 in
-    by-cases P (startsHex w) (λ _. number-plain hexLiteral (readDigits 16 0 (drop 2 w)))
-    (λ _. by-cases P (startsZero w) (λ _. refl) (λ _. number-plain decLiteral (readDigits 10 0 w)))
-
--- nor is a quad
-quad-quoted : (n : ℕ) (a : Option ℕ) (more : ℕ) → Quoted (quadLexeme n a more)
-quad-quoted n (some a) zero = omega arith
-quad-quoted n (some a) (suc more) = omega arith
-quad-quoted n none more = omega arith
-
-number-quoted : (s : List ℕ) → Quoted (number s)
-unfolding number
-number-quoted s = go (quadFrom 3 (some 0) s) refl
-  where
-    go : (q : Quad) → quadFrom 3 (some 0) s ≡ q → Quoted (number s)
-    go (quad n a) e = rw (e, number) (quad-quoted n a (run isWord (drop n s)))
-    go notQuad e = rw (e, number) (omega (arith, integer-plain (take (run isWord s) s)))
-
-string-quoted : (s : List ℕ) → Quoted (string s)
-unfolding string
-string-quoted s = by-cases Quoted (eqb (getD s (run isBody s) 0) 34) (λ _. omega arith) (λ _. omega arith)
-
-ascii-quoted : (o : Option Tok) (b : ℕ) (s : List ℕ) → punctuation b ≡ o → Quoted (ascii b s)
-unfolding ascii
-ascii-quoted (some t) b s e = rw (e, ascii) (omega arith)
-ascii-quoted none b s e =
-    rw (e, ascii)
-    (by-cases Quoted (eqb b 35) (λ _. omega arith)
-    (λ _. by-cases Quoted (eqb b 47) (λ _. by-cases Quoted (eqb (getD s 0 0) 47) (λ _. omega arith) (λ _. omega arith))
-    (λ _. by-cases Quoted (eqb b 58) (λ _. by-cases Quoted (eqb (getD s 0 0) 58) (λ _. omega arith) (λ _. omega arith))
-    (λ _. by-cases Quoted (eqb b 34) (λ _. string-quoted s)
-    (λ _. by-cases Quoted (isWordStart b) (λ _. omega arith)
-    (λ _. by-cases Quoted (isDigit b) (λ _. number-quoted (b ∷ s)) (λ _. omega arith)))))))
-
-at-quoted : (c : Char) (b : ℕ) (s : List ℕ) → Quoted (lexemeAt c b s)
-at-quoted noChar b s = omega arith
-at-quoted (char c size) b s =
-    by-cases Quoted (isBlank c) (λ _. omega arith)
-    (λ _. by-cases Quoted (ltb c 128) (λ _. ascii-quoted (punctuation b) b s refl) (λ _. omega arith))
-
-quoted : (s : List ℕ) → Quoted (lexeme s)
-unfolding lexeme
-quoted [] = omega arith
-quoted (b ∷ s) = at-quoted (charAt (b ∷ s)) b s
-
 -- ---- the loop
 
--- what stands between the quotes of a literal
-unquoted-is : (s : List ℕ) (at e : ℕ) → e ≤ length s → at + 2 ≤ e → unquoted (between s at e) ≡ scanning.bodyOf s at e
-unquoted-is s at e h k =
-    let m = e - (at + 1) in
-    let r = drop (suc at) s in
-    let d : drop at s ≡ getD s at 0 ∷ r = drop-cons s at 0 (omega arith) in
-    let n : e - at ≡ suc m = omega arith in
-    let b : between s at e ≡ getD s at 0 ∷ take m r = rw (n, d) in
-    let l : length (take m r) ≡ m = length-take-le m r (omega (arith, length-drop (suc at) s)) in
-    let p : suc m - 2 ≡ e - 1 - (at + 1) = omega arith in
-    rw (b, l, p) (take-take (e - 1 - (at + 1)) m r (omega arith) ∙ rw (← add-one at) (some-body s at e h (omega arith)))
+-- what stands between the quotes
+module _ (s : List ℕ) (at e : ℕ) (h : e ≤ length s) where
+  pub part-size : length (between s at e) ≡ e - at
+  part-size = length-take-le (e - at) (drop at s) (omega (arith, length-drop at s))
+
+  pub unquoted-is : unquoted (between s at e) ≡ scanning.bodyOf s at e
+  unquoted-is =
+      elim (decLe (at + 2) e) [
+        | no k ↦ let z : e - at - 2 ≡ 0 = omega arith in rw (part-size, z) (no-body s at e (omega arith))
+        | yes k ↦
+            let m = e - (at + 1) in
+            let r = drop (suc at) s in
+            let d : drop at s ≡ getD s at 0 ∷ r = drop-cons s at 0 (omega arith) in
+            let n : e - at ≡ suc m = omega arith in
+            let p : suc m - 2 ≡ e - 1 - (at + 1) = omega arith in
+            rw (part-size, n, p, d) (take-take (e - 1 - (at + 1)) m r (omega arith) ∙ rw (← add-one at) (some-body s at e h (omega arith)))
+      ]
 
 -- the code's kind of a literal, and of what is none
 pub is-literal : (k : Kind) → kind-is.Str ≡ kindAs k → k ≡ str
@@ -117,7 +53,7 @@ is-literal trivia e = never (cc)
 is-literal (tok t) e = never (cc)
 is-literal (error x) e = never (cc)
 
-no-literal : (k : Kind) (bs : List ℕ) → OneOf (0 ∷ 2 ∷ 3 ∷ []) (tagOf kind.the-type (kindAs k)) → bodyOf k bs ≡ []
+pub no-literal : (k : Kind) (bs : List ℕ) → OneOf (0 ∷ 2 ∷ 3 ∷ []) (tagOf kind.the-type (kindAs k)) → bodyOf k bs ≡ []
 no-literal trivia bs o = refl
 no-literal (tok t) bs o = refl
 no-literal (error x) bs o = refl
@@ -170,9 +106,8 @@ module _ (text : List ℕ) (i left pos : ℕ) (k : Looking text i left pos) wher
       is-it {r} z d =
           let p = turn text pos l next e in
           let end = pos + lexeme (drop pos text) .size in
-          let two : 2 ≤ lexeme (drop pos text) .size = rw literal at (quoted (drop pos text)) in
           let w : r ≡ scanning.bodyOf text pos end = d ∙ rw (p .begins, p .ends, p .past) in
-          w ∙ sym (unquoted-is text pos end (omega (arith, p .within, p .past)) (omega arith)) ∙ rw z at its-body
+          w ∙ sym (unquoted-is text pos end (omega (arith, p .within, p .past))) ∙ rw z at its-body
 
       -- a literal, and it is not
       pub not-it : (left ≡ 0 → ⊥) → Looking text i (left - 1) (next .pos)

@@ -12,6 +12,7 @@ use Rattle.language.specs.Lexemes as language
 use Rattle.language.specs.Lexemes.{Kind, trivia, str, tok, error, placed, scanFrom, lexeme}
 use Rattle.language.specs.Tokens.{lineAt, Piece, wrong, Item, unquoted, pieceOf, itemOf, Wrong, orElse, firstWrong, between}
 use Rattle.language.specs.Numbers as numbers
+use Rattle.language.proofs.Tests.{never}
 use Rattle.language.proofs.LexemeSizes.{size-fits}
 use Rattle.language.proofs.LexemeSpans.{scan-unfolds}
 use Rattle.scan.specs.declared.LexErrorKind.{LexErrorKind}
@@ -29,9 +30,6 @@ use Rattle.lex.specs.declared.Fed.{Fed}
 use Rattle.lex.specs.declared.Fed.the-variants.{Goes, Stops}
 use Rattle.lex.specs.Lexing.{State, stepTo, feed, Holds, Stands, Strings, Tokens, lineItems, Feeds}
 use Rattle.lex.proofs.States.{feed-append, wrong-after}
-
-never : {A : Type 0} → _≡_ {A = ℕ} 0 1 → A
-never z = absurd (omega arith)
 
 -- ---- a step of the scanner
 

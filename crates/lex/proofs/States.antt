@@ -8,6 +8,7 @@ use native.Mathlib.Omega.{arith}
 use lib.ListN.{length, length-append}
 use lib.Seq.{length-sets}
 use Rattle.table.specs.Table.{tabled, putRow}
+use Rattle.language.proofs.TokensAt.{row-width}
 use Rattle.table.proofs.Laws.{put-fits, put-full, put-next, tabled-own}
 use Rattle.wide.specs.declared.Wide.{Wide}
 use Rattle.language.specs.Lexemes as language
@@ -50,10 +51,6 @@ pub wrong-after : (is js : List Item) → firstWrong is ≡ none → firstWrong 
 wrong-after is js e = wrong-append is js ∙ rw e
 
 -- ---- a row
-
-row-width : (k : Token) → length (tokenRow k) ≡ tokenWidth
-unfolding tokenRow
-row-width k = refl
 
 next-row : {t : List ℕ} (n : ℕ) (ks : List Token) (k : Token) → t ≡ tabled tokenRow tokenWidth n ks
     → putRow t (length ks) (tokenRow k) ≡ tabled tokenRow tokenWidth n (ks ++ k ∷ [])

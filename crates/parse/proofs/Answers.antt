@@ -5,15 +5,12 @@ use Prim.Native.Nat.{ℕ, _+_, _*_, _≤_}
 use native.Mathlib.Omega.{arith}
 use lib.ListN.{length}
 use Rattle.language.specs.Sentences.{Expr, Args, Stmt, Out, ok, no, Node, nodesFrom}
+use Rattle.language.proofs.Tests.{never}
 use Rattle.parse.specs.Parsing.{Holds, withStmt, Stands, Lists, MetExpr, MetArg, MetArgs, MetStmt, MetAll, Ahead, AheadList}
 use Rattle.parse.specs.declared.Parsed.{Parsed}
 use Rattle.parse.specs.declared.Parsed.the-variants.{Done, Refused}
 use Rattle.parse.specs.declared.Listed.{Listed}
 use Rattle.parse.specs.declared.Listed.the-variants as listed
-
--- two constructors are never equal
-pub never : {A : Type 0} → _≡_ {A = ℕ} 0 1 → A
-never e = absurd (omega (arith, e))
 
 -- ---- expressions
 
@@ -113,9 +110,6 @@ module _ {r : Parsed} {d len at count steps : ℕ} where
 
   pub ahead-place : {n k a : ℕ} → r ≡ Refused n k a → Ahead d len at count steps r → a ≤ len + 3
   ahead-place e h = rw e at (h .on)
-
-  pub ahead-ok : {next n s : ℕ} → r ≡ Done next n s → (at + d ≤ next) × (7 * next ≤ len) × (count + d ≤ n) × (n + 2 * at ≤ count + 2 * next) × (s ≤ steps) → Ahead d len at count steps r
-  ahead-ok e h = record { on = rw e h }
 
   pub ahead-no : {n k a : ℕ} → r ≡ Refused n k a → a ≤ len + 3 → Ahead d len at count steps r
   ahead-no e h = record { on = rw e h }

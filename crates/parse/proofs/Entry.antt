@@ -3,6 +3,7 @@ use mathlib.Core.Path.{_≡_, refl, sym, ap, _∙_}
 use mathlib.Core.Bool.{false}
 use mathlib.Core.List.{List, []}
 use mathlib.Core.Option.{Option, none, some}
+use mathlib.Core.Logic.{_⊎_, inl, inr}
 use Prim.Native.Nat.{ℕ, _*_, _/_, _≤_, _<_}
 use native.Mathlib.Omega.{arith}
 use native.Mathlib.Decide.{decLe}
@@ -18,6 +19,7 @@ use Rattle.language.specs.Sentences.{Stmt, Out, ok, program, nodes, nodeRow}
 use Rattle.language.specs.Sentences as sentences
 use Rattle.language.specs.Numbers as numbers
 use Rattle.language.specs.Numbers.{verdict, lexed, lexAnswer, lexTable, parsed, tokenPlace, parseAnswer, parseTokens, parseNodes}
+use Rattle.language.proofs.Tests.{never}
 use Rattle.utf8.specs.Decoding.{badOf}
 use Rattle.utf8.specs.declared.Bad.the-variants.{Nowhere}
 use Rattle.scan.specs.declared.Verdict.{Verdict}
@@ -30,8 +32,14 @@ use Rattle.parse.specs.declared.Parsed.the-variants.{Done, Refused}
 use Rattle.parse.specs.declared.ParseAnswer.{ParseAnswer}
 use Rattle.parse.specs.Parsing.{Rep, Holds, MetAll, verdictAt}
 use Rattle.parse.specs.Entry.{refusal, GivesUp, Lexes, ParseSource}
-use Rattle.parse.proofs.TokenRows.{some-token, few-tokens, part-rep, place-at}
-use Rattle.parse.proofs.Refusals.{refused-number}
+use Rattle.parse.proofs.TokenRows.{few-tokens, part-rep, place-at}
+use Rattle.language.proofs.TokensAt.{some-token}
+use Rattle.language.proofs.SentenceRefusals.{refused-number}
+
+-- the number of a refusal is not 0, which is "done"
+pub not-zero : {n : ℕ} → (n ≡ 5) ⊎ (n ≡ 7) → n ≡ 0 → ⊥
+not-zero (inl e) z = omega arith
+not-zero (inr e) z = omega arith
 
 -- ---- what lexing leaves where its number is 0
 
@@ -138,13 +146,13 @@ module _ (s : List ℕ) (t n : ℕ) where
 
 module _ {r : Parsed} {t : List ℕ} where
   all-refused : {o : Out (List Stmt)} {n k a : ℕ} → r ≡ Refused n k a → MetAll r t o → o ≡ sentences.no n k a
-  all-refused {o = ok ss at s} q h = let p = h .met .0 in let z : _≡_ {A = ℕ} 0 1 = cc in absurd (omega arith)
+  all-refused {o = ok ss at s} q h = let p = h .met .0 in never (cc)
   all-refused {o = sentences.no m j b} q h = let p = h .met in cc
 
   all-done : {o : Out (List Stmt)} {next n x : ℕ} → r ≡ Done next n x → MetAll r t o
       → (ss : List Stmt) × (y : ℕ) × (o ≡ ok ss next y) × (length (nodes ss) ≡ n) × Holds t (nodes ss)
   all-done {o = ok ss at y} q h = let p = h .met .0 in (ss, y, (cc), (cc), h .met .1)
-  all-done {o = sentences.no m k a} q h = let p = h .met in let z : _≡_ {A = ℕ} 0 1 = cc in absurd (omega arith)
+  all-done {o = sentences.no m k a} q h = let p = h .met in never (cc)
 
 module _ {s toks : List ℕ} {count : ℕ} (l : Lexes s toks count) where
   -- what the parser reads of them
@@ -173,9 +181,9 @@ module _ {s toks : List ℕ} {count : ℕ} (l : Lexes s toks count) where
         → w ≡ verdictAt toks count number kind at → GivesUp w (length toks) (length b) r x y → ParseSource s (length toks) n r x y
     at-place {number} {kind} {at} h q d g =
         let e = all-refused q m in
-        let c = refused-number (contents (tokens s)) e in
+        let c = refused-number (contents (tokens s)) number kind at e in
         gave-up s (length toks) n (record { number = number; kind = kind; line = tokenPlace s at .line; column = tokenPlace s at .column; character = 0 })
-        (answer-is (n / 5) e) (ne-eqb _ _ (λ (x : number ≡ 0). omega arith))
+        (answer-is (n / 5) e) (ne-eqb _ _ (not-zero c))
         (d ∙ place-at s (length toks) number kind (omega (arith, l .counted)) at (l .table) (l .counted)) (rw u at g)
 
     module _ {next k x : ℕ} (q : p ≡ Done next k x) where

@@ -5,5 +5,4 @@ pub mod Looks
 pub mod Steps
 pub mod Rows
 pub mod TokenRows
-pub mod Refusals
 pub mod Entry

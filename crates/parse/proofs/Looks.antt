@@ -13,7 +13,7 @@ use Rattle.language.specs.Tables.{contentKind}
 use Rattle.language.specs.Tokens.{Content, eof}
 use Rattle.language.specs.Sentences.{Port, port, tooLarge, notPort}
 use Rattle.parse.specs.Parsing.{kindAt, literalKind, portAs, portTokOf, portOfTok, portAt, isNamed, argKind, valueFrom, Rep}
-use Rattle.parse.proofs.Answers.{never}
+use Rattle.language.proofs.Tests.{never}
 use Rattle.parse.specs.declared.PortTok.{PortTok}
 use Rattle.parse.specs.declared.PortTok.the-variants.{DecLiteral, Other}
 use Rattle.parse.specs.declared.PortIs.the-variants.{Good, TooLarge, NotPort}

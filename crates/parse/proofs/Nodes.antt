@@ -2,20 +2,17 @@
 use mathlib.Core.Path.{_≡_, refl, sym, ap, _∙_}
 use mathlib.Core.Bool.{Bool, true, false}
 use mathlib.Core.List.{List, [], _∷_, _++_, append-assoc, append-nil}
-use Prim.Native.Nat.{ℕ, zero, suc, _+_, _-_, _*_}
+use Prim.Native.Nat.{ℕ, suc, _+_, _-_, _*_}
 use native.Mathlib.Numerals.{add-one}
 use native.Mathlib.Omega.{arith}
 use lib.ListN.{length, length-append}
 use Rattle.table.specs.Table.{tabled, putRow}
 use Rattle.table.proofs.Laws.{put-next, tabled-own}
-use Rattle.language.specs.Sentences.{Expr, literal, sock4, local, path, member, call, slash′, Args, none-given, given, named, Stmt, let′, expr′, firstOf, Node, node, nameNodes, exprSize, argsSize, lastOf, exprNodes, argNodes, stmtNodes, nodesFrom, nodeRow, nodeWidth}
+use Rattle.language.specs.Sentences.{Expr, path, member, call, slash′, Args, none-given, Stmt, let′, expr′, firstOf, Node, node, nameNodes, exprSize, argsSize, lastOf, exprNodes, stmtNodes, nodesFrom, nodeRow, nodeWidth}
+use Rattle.language.proofs.NodeClaims.{row-long, expr-long, args-long}
 use Rattle.parse.specs.Parsing.{argKind, valueFrom, withArg, Holds, Pushes, withExpr, withArgs, withStmt, Stands, Lists}
 
 -- ---- one node more
-
-row-long : (n : Node) → length (nodeRow n) ≡ nodeWidth
-unfolding nodeRow
-row-long n = refl
 
 -- a row stored at the count is one node more
 pub stored : (t t′ : List ℕ) (count k a b c d : ℕ) → t′ ≡ putRow t count (k ∷ a ∷ b ∷ c ∷ d ∷ []) → Pushes t t′ count (node k a b c d)
@@ -34,25 +31,6 @@ pub grown : {t t′ : List ℕ} {ms ns : List Node} {count : ℕ} {n : Node} →
 grown {ms = ms} p l h e = rw (← e) (simp length-append (omega arith), p .one ms l h)
 
 -- ---- how many nodes there are
-
-names-long : (t n : ℕ) → length (nameNodes t n) ≡ n
-names-long t zero = refl
-names-long t (suc n) = simp length-append (omega (arith, names-long t n))
-
-mutual
-  pub expr-long : (k : ℕ) (e : Expr) → length (exprNodes k e) ≡ exprSize e
-  expr-long k (literal t) = refl
-  expr-long k (sock4 t) = refl
-  expr-long k (local t) = refl
-  expr-long k (path t n) = simp length-append (omega (arith, names-long t n))
-  expr-long k (member e t) = simp length-append (omega (arith, expr-long k e))
-  expr-long k (slash′ a b) = simp length-append (omega (arith, expr-long k a, expr-long (k + exprSize a) b))
-  expr-long k (call e t g) = simp length-append (omega (arith, expr-long k e, args-long (k + exprSize e) g))
-
-  args-long : (k : ℕ) (g : Args) → length (argNodes k g) ≡ argsSize g
-  args-long k none-given = refl
-  args-long k (given g e) = simp length-append (omega (arith, args-long k g, expr-long (k + argsSize g) e))
-  args-long k (named g t e) = simp length-append (omega (arith, args-long k g, expr-long (k + argsSize g) e))
 
 with-expr : (ns : List Node) (e : Expr) → length (withExpr ns e) ≡ length ns + exprSize e
 with-expr ns e = simp length-append (omega (arith, expr-long (length ns) e))

@@ -1,24 +1,21 @@
 -- The rows of tokens stand for the contents of the tokens: what a caller of `program` has to show.
 use mathlib.Core.Path.{_≡_, refl, sym, ap, _∙_}
-use mathlib.Core.List.{List, [], _∷_, _++_}
-use Prim.Native.Nat.{ℕ, zero, suc, _+_, _*_, _/_, _%_, _≤_, _<_}
+use mathlib.Core.List.{List}
+use Prim.Native.Nat.{ℕ, _+_, _*_, _/_, _%_, _≤_, _<_}
 use native.Mathlib.Omega.{arith}
 use native.Mathlib.Decide.{decLe}
 use borrow.Author.Tests.{eq-eqb, ne-eqb, le-leb, lt-leb}
-use lib.ListN.{length, getD, length-append, List·getD-append, List·getD-eq-default}
-use lib.Seq.{getD-append-add}
+use lib.ListN.{length, getD, List·getD-map, List·getD-eq-default}
 use Rattle.table.specs.Table.{flat}
-use Rattle.table.proofs.Laws.{length-flat}
-use Rattle.language.specs.Lexemes.{Tok, lParen, rParen, dot, doubleColon, colon, semiColon, equals, comma, slash, importKeyword, letKeyword, identifier, booleanLiteral, ipv4Literal, hexLiteral, decLiteral}
+use Rattle.table.proofs.Laws.{length-flat, flat-word}
+use Rattle.language.specs.Lexemes.{lParen, rParen, dot, doubleColon, colon, semiColon, equals, comma, slash, importKeyword, letKeyword, identifier, booleanLiteral, ipv4Literal, hexLiteral, decLiteral}
 use Rattle.language.specs.Tables.{word, contentKind, contentLow, contentHigh, tokenRow}
 use Rattle.language.specs.Tokens.{Content, eof, plain, name, string, Token, contents}
-use Rattle.language.specs.Sentences.{Port, port, tooLarge, notPort, portOf}
+use Rattle.language.specs.Sentences.{portOf}
+use Rattle.language.proofs.TokenContents.{as-many}
+use Rattle.language.proofs.TokensAt.{row-width}
 use Rattle.parse.specs.Parsing.{kindAt, portTokOf, portOfTok, portAt, Rep}
 use Rattle.parse.proofs.Looks.{kind-in, kind-past}
-
-row-long : (t : Token) → length (tokenRow t) ≡ 7
-unfolding tokenRow
-row-long t = refl
 
 -- past the end
 abbrev end : Token
@@ -26,16 +23,10 @@ end = record { content = eof; line = 0; column = 0; start = 0; end = 0 }
 
 -- a word of a row
 word-at : (ts : List Token) (at j : ℕ) → j < 7 → at < length ts → getD (flat tokenRow ts) (7 * at + j) 0 ≡ getD (tokenRow (getD ts at end)) j 0
-word-at [] at j h lt = absurd (omega arith)
-word-at (t ∷ ts) zero j h lt = let e : 7 * 0 + j ≡ j = omega arith in rw e (List·getD-append (tokenRow t) (flat tokenRow ts) 0 j (omega (arith, row-long t)))
-word-at (t ∷ ts) (suc at) j h lt =
-    let e : 7 * suc at + j ≡ length (tokenRow t) + (7 * at + j) = omega (arith, row-long t) in
-    rw (e, getD-append-add) (word-at ts at j h (omega arith))
+word-at ts at j h lt = flat-word tokenRow 7 row-width ts at j lt h end
 
 content-at : (ts : List Token) (at : ℕ) → getD (contents ts) at eof ≡ getD ts at end .content
-content-at [] at = refl
-content-at (t ∷ ts) zero = refl
-content-at (t ∷ ts) (suc at) = content-at ts at
+content-at ts at = List·getD-map (λ (t : Token). t .content) ts at end
 
 -- a value of two words is a port where it fits in 16 bits
 port-value : (n : ℕ) → portOfTok (portTokOf 18 (n % word) (n / word)) ≡ portOf (plain (decLiteral n))
@@ -71,7 +62,7 @@ port-content (name bs) = refl
 port-content (string b bs) = refl
 
 rows-long : (ts : List Token) → length (flat tokenRow ts) ≡ 7 * length ts
-rows-long ts = length-flat tokenRow 7 row-long ts ∙ omega arith
+rows-long ts = length-flat tokenRow 7 row-width ts ∙ omega arith
 
 module _ (ts : List Token) (at : ℕ) where
   past-end : length (flat tokenRow ts) < 7 * at + 7 → getD (contents ts) at eof ≡ eof
@@ -96,8 +87,4 @@ module _ (ts : List Token) (at : ℕ) where
   ]
 
 pub represented : (ts : List Token) → Rep (flat tokenRow ts) (contents ts)
-represented ts = record { long = long ts; kinds = kind-row ts; ports = port-row ts }
-  where
-    long : (ts : List Token) → length (flat tokenRow ts) ≡ 7 * length (contents ts)
-    long [] = refl
-    long (t ∷ ts) = simp length-append (omega (arith, row-long t, long ts))
+represented ts = record { long = rows-long ts ∙ ap (λ (n : ℕ). 7 * n) (as-many ts); kinds = kind-row ts; ports = port-row ts }

@@ -6,14 +6,15 @@ use Prim.Native.Nat.{ℕ, suc, _+_, _-_, _*_, _/_, _≤_, _<_}
 use native.Mathlib.Omega.{arith}
 use native.Mathlib.Decide.{decLe}
 use borrow.Author.Tests.{lt-ltb, le-ltb}
-use lib.ListN.{length, getD, take, length-append, List·getD-eq-default}
-use lib.Seq.{length-take-le, getD-at}
+use lib.ListN.{length, getD, take}
+use lib.Seq.{length-take-le}
 use Rattle.table.specs.Table.{tabled}
 use Rattle.table.proofs.Laws.{tabled-word, tabled-rows}
 use Rattle.language.specs.Tables.{tokenRow}
 use Rattle.language.specs.Tokens.{Token, contents, items, tokensFrom, eofToken, tokens, Ordered, ordered-one}
 use Rattle.language.specs.Numbers.{tokenPlace}
 use Rattle.language.proofs.TokenClaims.{places-right, tokens-in-order}
+use Rattle.language.proofs.TokensAt.{row-width, long-tokens, some-token, last-token, past-token}
 use Rattle.scan.specs.declared.Verdict.{Verdict}
 use Rattle.parse.specs.Parsing.{Rep, rowVerdict, verdictAt}
 use Rattle.parse.proofs.Rows.{represented}
@@ -34,36 +35,17 @@ few-from n (t ∷ ts) us o each h =
     omega (arith, i .0, g .0, r)
 
 module _ (s : List ℕ) where
-  front : List Token
-  front = tokensFrom none (items s)
-
-  -- `Eof` after the others
-  long-tokens : length (tokens s) ≡ length front + 1
-  unfolding tokens front
-  long-tokens = length-append front (eofToken s ∷ [])
-
-  pub some-token : 1 ≤ length (tokens s)
-  some-token = omega (arith, long-tokens)
-
   pub few-tokens : length (tokens s) ≤ length s + 1
-  unfolding tokens front
+  unfolding tokens
   few-tokens =
-      let each : (t : Token) → List·Memᴰ t front → (t .start < t .end) × (t .end ≤ length s) = λ t m. (places-right s t m .2, places-right s t m .3) in
-      omega (arith, long-tokens, few-from (length s) front (eofToken s ∷ []) (tokens-in-order s) each (omega arith))
-
-  last-token : getD (tokens s) (length (tokens s) - 1) (eofToken s) ≡ eofToken s
-  unfolding tokens front
-  last-token = getD-at front (eofToken s) [] (eofToken s) (length (tokens s) - 1) (omega (arith, long-tokens))
+      let each : (t : Token) → List·Memᴰ t (tokensFrom none (items s)) → (t .start < t .end) × (t .end ≤ length s) = λ t m. (places-right s t m .2, places-right s t m .3) in
+      omega (arith, long-tokens s, few-from (length s) (tokensFrom none (items s)) (eofToken s ∷ []) (tokens-in-order s) each (omega arith))
 
 -- a part with no more rows than there can be tokens
 pub short-part : (toks : List ℕ) (count : ℕ) → 7 * count ≤ length toks → count ≤ 65537 → length (take (7 * count) toks) ≤ 458759
 short-part toks count h l = omega (arith, length-take-le (7 * count) toks h)
 
 -- ---- contents
-
-row-width : (t : Token) → length (tokenRow t) ≡ 7
-unfolding tokenRow
-row-width t = refl
 
 -- the part of a table that the rows take
 pub part-rep : (ts : List Token) (n : ℕ) {toks : List ℕ} {count : ℕ} → toks ≡ tabled tokenRow 7 n ts → count ≡ length ts → length ts ≤ n / 7
@@ -102,7 +84,7 @@ module _ (s : List ℕ) (n number kind : ℕ) (h : length (tokens s) ≤ n / 7) 
         | yes l ↦ rw (e, c) (sym (near (tabled tokenRow 7 n (tokens s)) (length (tokens s)) number kind at l) ∙ row-place at l)
         | no l ↦
             let past : length (tokens s) ≤ at = omega arith in
-            let same = last-token s ∙ sym (List·getD-eq-default (tokens s) (eofToken s) past) in
+            let same = last-token s ∙ sym (past-token s at past) in
             rw (e, c) (sym (far (tabled tokenRow 7 n (tokens s)) (length (tokens s)) number kind at past)
             ∙ row-place (length (tokens s) - 1) (omega (arith, some-token s)) ∙ ap (λ (t : Token). spot number kind (t .line) (t .column)) same)
       ]

@@ -13,6 +13,7 @@ use lib.Seq.{drop-cons}
 use Rattle.language.specs.Choice.{if′}
 use Rattle.language.specs.Integers.{limit}
 use Rattle.language.specs.Lexemes.{digitOf, readDigits, wrong, intOutOfRange, intInvalidSuffix}
+use Rattle.language.proofs.Tests.{never}
 use Rattle.wide.specs.declared.Wide.{Wide}
 use Rattle.wide.specs.declared.Scaled.{Scaled}
 use Rattle.wide.specs.declared.Scaled.the-variants.{Fits, Over}
@@ -30,10 +31,10 @@ sixteen base (inr e) n = e
 
 fits-said : (t : Bool) (n : ℕ) (w : Wide) → if′ t (Fits (wideOf n)) Over ≡ Fits w → (t ≡ true) × (w ≡ wideOf n)
 fits-said true n w e = (refl, cc)
-fits-said false n w e = let z : _≡_ {A = ℕ} 0 1 = cc in absurd (omega arith)
+fits-said false n w e = never (cc)
 
 over-said : (t : Bool) (n : ℕ) → if′ t (Fits (wideOf n)) Over ≡ Over → t ≡ false
-over-said true n e = let z : _≡_ {A = ℕ} 0 1 = cc in absurd (omega arith)
+over-said true n e = never (cc)
 over-said false n e = refl
 
 pub value-wide : (n : ℕ) → valueOf (wideOf n) ≡ n

@@ -1,28 +1,24 @@
 -- Filling a table with the lexemes of a line, one turn of the loop after the other.
 use mathlib.Core.Path.{_≡_, refl, sym, ap, _∙_}
-use mathlib.Core.Bool.{Bool, true, false}
 use mathlib.Core.List.{List, [], _∷_, _++_, append-assoc, append-nil}
-use Prim.Native.Nat.{ℕ, suc, _+_, _-_, _≤_, _<_, _/_}
+use Prim.Native.Nat.{ℕ, _+_, _-_, _≤_, _<_}
 use native.Mathlib.Decide.{decLt}
-use native.Mathlib.Nat.{zero-add}
 use native.Mathlib.Omega.{arith}
-use borrow.Author.Tests.{lt-ltb, le-ltb, ltb-true}
-use lib.Dec.{ltb}
+use borrow.Author.Tests.{lt-ltb, le-ltb}
 use lib.ListN.{length, getD, drop, length-append, length-drop, drop-of-length-le}
 use lib.Seq.{drop-drop}
 use Rattle.table.specs.Table.{padTo, tabled, putRow}
-use Rattle.table.proofs.Laws.{put-next, tabled-none, length-tabled}
-use Rattle.language.specs.Choice.{if′}
+use Rattle.table.proofs.Laws.{put-next, tabled-none}
 use Rattle.language.specs.Lexemes as language
 use Rattle.language.specs.Lexemes.{Kind, Placed, trivia, str, tok, error, placed, scanFrom, scan, lexeme}
 use Rattle.language.specs.Lexemes.{lParen, rParen, dot, doubleColon, colon, semiColon, equals, comma, slash, importKeyword, letKeyword, identifier, booleanLiteral, ipv4Literal, hexLiteral, decLiteral, unexpectedChar, unterminatedString, intOutOfRange, intLeadingZero, intInvalidSuffix, badIPv4Literal}
 use Rattle.language.specs.Tables.{lexemeRow, lexemeWidth, tokKind, tokLow, tokHigh, errorKind, classOf, kindOf, lowOf, highOf}
 use Rattle.language.specs.Tables as tables
+use Rattle.language.proofs.Tests.{never}
 use Rattle.language.proofs.LexemeSizes.{size-fits}
 use Rattle.language.proofs.LexemeSpans.{scan-unfolds}
 use Rattle.scan.specs.declared.Lexeme.{Lexeme}
 use Rattle.scan.specs.declared.Scanner.{Scanner}
-use Rattle.scan.specs.declared.Step.{Step}
 use Rattle.scan.specs.declared.Step.the-variants.{Found, Done}
 use Rattle.scan.specs.Scanning.{tokAs, errorAs, kindAs, lexemeAs, tokNumber, tokValue, errorNumber, errorChar, classNumber, kindNumber, kindValue, rowOf, found, stepAt}
 use Rattle.scan.proofs.Starts.{here}
@@ -107,7 +103,7 @@ module _ (line : List ℕ) (n : ℕ) (table : List ℕ) where
       at-line =
           elim (decLt pos (length line)) [
             | yes h ↦ h
-            | no h ↦ let k : Found l next ≡ Done = e ∙ rw (le-ltb pos (length line) (omega arith)) in let z : _≡_ {A = ℕ} 0 1 = cc in absurd (omega arith)
+            | no h ↦ let k : Found l next ≡ Done = e ∙ rw (le-ltb pos (length line) (omega arith)) in never (cc)
           ]
 
       is-step : Found l next ≡ found (lexeme (drop pos line)) pos
@@ -161,7 +157,7 @@ module _ (line : List ℕ) (n : ℕ) (table : List ℕ) where
       unfolding stepAt
       all-done =
           elim (decLt pos (length line)) [
-            | yes h ↦ let k : Done ≡ found (lexeme (drop pos line)) pos = e ∙ rw (lt-ltb pos (length line) h) in let z : _≡_ {A = ℕ} 0 1 = cc in absurd (omega arith)
+            | yes h ↦ let k : Done ≡ found (lexeme (drop pos line)) pos = e ∙ rw (lt-ltb pos (length line) h) in never (cc)
             | no h ↦
                 let k : drop pos line ≡ [] = drop-of-length-le line {i = pos} (omega arith) in
                 let w : f .done ++ scanFrom 0 pos [] ≡ scan line = rw k at (f .whole) in

@@ -15,6 +15,7 @@ use Rattle.language.proofs.LexemeSizes.{run-fits}
 use Rattle.language.specs.Choice.{if′}
 use Rattle.language.specs.Lexemes as language
 use Rattle.language.specs.Lexemes.{isDigit, isWord, run, readDigits, value, wrong, startsZero, octet, quad, notQuad, joined, further, quadFrom, quadLexeme, integer, number, lexemeOf, error, badIPv4Literal}
+use Rattle.language.proofs.Tests.{never}
 use Rattle.wide.specs.declared.Wide.{Wide}
 use Rattle.wide.specs.Wide.{valueOf, wideOf}
 use Rattle.scan.specs.declared.LexErrorKind.{LexErrorKind}
@@ -41,7 +42,7 @@ upTo255 (value n) = if′ (leb n 255) (some n) none
 upTo255 (wrong e) = none
 
 wrong-case : (r : language.Number) (x : LexErrorKind) → numberAs r ≡ Wrong x → Bad ≡ octetAs (upTo255 r)
-wrong-case (value n) x e = let z : _≡_ {A = ℕ} 0 1 = cc in absurd (omega arith)
+wrong-case (value n) x e = never (cc)
 wrong-case (wrong y) x e = refl
 
 value-case : (r : language.Number) (v : Wide) → numberAs r ≡ Value v → upTo255 r ≡ if′ (leb (valueOf v) 255) (some (valueOf v)) none
@@ -49,7 +50,7 @@ value-case (value n) v e =
     let w : v ≡ wideOf n = cc in
     let q : valueOf v ≡ n = rw w (value-wide n) in
     rw q
-value-case (wrong y) v e = let z : _≡_ {A = ℕ} 0 1 = cc in absurd (omega arith)
+value-case (wrong y) v e = never (cc)
 
 -- of the digits from `at` to e
 module _ (s : List ℕ) (at e : ℕ) (h : (at < e) × (e ≡ runEnd isDigit s at)) where
@@ -295,12 +296,12 @@ numberFrom q t =
 
 bad-quad : (n more : ℕ) (a : Option ℕ) → (octetAs a ≡ Bad) ⊎ (more ≡ 0 → ⊥) → quadLexeme n a more ≡ lexemeOf (error badIPv4Literal) (n + more)
 bad-quad n more none h = refl
-bad-quad n zero (some a) (inl e) = let z : _≡_ {A = ℕ} 0 1 = cc in absurd (omega arith)
+bad-quad n zero (some a) (inl e) = never (cc)
 bad-quad n zero (some a) (inr f) = absurd (f refl)
 bad-quad n (suc more) (some a) h = refl
 
 good-said : (a : Option ℕ) (n : ℕ) → octetAs a ≡ Good n → a ≡ some n
-good-said none n e = let z : _≡_ {A = ℕ} 0 1 = cc in absurd (omega arith)
+good-said none n e = never (cc)
 good-said (some m) n e = let p : m ≡ n = cc in rw p
 
 -- what a quad is that the code finds from `at` to d, with the address o
@@ -313,10 +314,10 @@ record Found (at d : ℕ) (o : Octet) (q : language.Quad) : Type 0 where
 
 found : (at d : ℕ) (o : Octet) (q : language.Quad) → quadAs at q ≡ Dotted d o → Found at d o q
 found at d o (quad m a) w = record { bytes = m; address = a; is = refl; end = cc; said = cc }
-found at d o notQuad w = let z : _≡_ {A = ℕ} 0 1 = cc in absurd (omega arith)
+found at d o notQuad w = never (cc)
 
 not-found : (at : ℕ) (q : language.Quad) → quadAs at q ≡ Not → q ≡ notQuad
-not-found at (quad m a) w = let z : _≡_ {A = ℕ} 0 1 = cc in absurd (omega arith)
+not-found at (quad m a) w = never (cc)
 not-found at notQuad w = refl
 
 -- what the code makes of it

@@ -22,7 +22,7 @@ use Rattle.utf8.specs.Decoding.{placed}
 use Rattle.utf8.proofs.Chars.{ascii-place}
 use Rattle.utf8.proofs.Places.{bad-char}
 use Rattle.utf8.specs.Blocks.{allFrom}
-use Rattle.language.proofs.Tests.{both}
+use Rattle.language.proofs.Tests.{both, never}
 use Rattle.scan.specs.Scanning.{runEnd, blankEnd}
 
 pub record Reached (f : List ℕ → ℕ → ℕ) (s : List ℕ) (at i : ℕ) : Type 0 where
@@ -94,7 +94,7 @@ blankFrom c s = elim c [ char n size ↦ if′ (isBlank n) (suc (blankRun (size 
 -- what `decode` says of it
 module _ (at : ℕ) (s : List ℕ) where
   starts-none : (c : Char) → Nothing ≡ placed at c → blankFrom c s ≡ 0
-  starts-none (char n m) e = let z : _≡_ {A = ℕ} 0 1 = cc in absurd (omega arith)
+  starts-none (char n m) e = never (cc)
   starts-none noChar e = refl
 
   module _ (n next : ℕ) where
@@ -108,7 +108,7 @@ module _ (at : ℕ) (s : List ℕ) where
         let q : next ≡ at + m = cc in
         let z : m - 1 ≡ next - at - 1 = omega arith in
         rw (← p, h, z)
-    starts-blank noChar e h = let z : _≡_ {A = ℕ} 0 1 = cc in absurd (omega arith)
+    starts-blank noChar e h = never (cc)
 
 module _ {s : List ℕ} {at i : ℕ} (r : Reached blankEnd s at i) where
   pub blank-end : length s ≤ i → i ≡ blankEnd s at

@@ -1,22 +1,21 @@
 -- What starts at a place of a line, by the tests that the scanner makes there.
 use mathlib.Core.Path.{_≡_, refl, sym, ap, _∙_}
 use mathlib.Core.Bool.{Bool, true, false, _||_, false≢true}
-use mathlib.Core.List.{List, [], _∷_}
+use mathlib.Core.List.{List, _∷_}
 use mathlib.Core.Option.{Option, none, some}
 use mathlib.Core.Logic.{⊎-elim}
-use Prim.Native.Nat.{ℕ, suc, _+_, _-_, _≤_, _<_}
+use Prim.Native.Nat.{ℕ, _+_, _-_, _≤_, _<_}
 use native.Mathlib.Numerals.{add-one}
 use native.Mathlib.Nat.{add-zero, add-assoc}
 use native.Mathlib.Omega.{arith}
 use borrow.Author.Tests.{eq-eqb, ne-eqb, lt-ltb, le-ltb}
 use lib.ListN.{length, getD, take, drop, length-drop}
 use lib.Seq.{drop-cons, getD-drop}
-use lib.Dec.{eqb}
 use Rattle.language.specs.Choice.{if′, within}
 use Rattle.language.specs.Utf8.{Char, char, noChar, charAt}
 use Rattle.language.specs.Lexemes as language
-use Rattle.language.specs.Lexemes.{slash, doubleColon, colon, trivia, str, tok, error, unexpectedChar, unterminatedString, isBlank, isDigit, isWordStart, isWord, isBody, notNewline, run, blankRun, word, number, lexemeOf, comment, string, punctuation, ascii, lexeme}
-use Rattle.language.proofs.Tests.{inside, either}
+use Rattle.language.specs.Lexemes.{slash, doubleColon, colon, tok, error, unexpectedChar, isBlank, isDigit, isWordStart, isWord, isBody, notNewline, run, word, number, lexemeOf, comment, string, punctuation, ascii, lexeme}
+use Rattle.language.proofs.Tests.{inside, either, never}
 use Rattle.language.proofs.LexemeSizes.{run-fits}
 use Rattle.utf8.specs.Decoding.{placed}
 use Rattle.utf8.specs.declared.Decoded.the-variants.{Read, Nothing}
@@ -26,7 +25,7 @@ use Rattle.scan.specs.declared.LexemeKind.{LexemeKind}
 use Rattle.scan.specs.declared.LexemeKind.the-variants as kind-is
 use Rattle.scan.specs.declared.LexErrorKind.the-variants as error-is
 use Rattle.scan.specs.declared.Mark.the-variants.{Is, Not}
-use Rattle.scan.specs.Scanning.{between, runEnd, blankEnd, tokAs, kindAs, markAs, lexemeAs, wordAt, signOf, stepAt}
+use Rattle.scan.specs.Scanning.{runEnd, blankEnd, tokAs, markAs, lexemeAs, wordAt, signOf, stepAt}
 use Rattle.scan.specs.declared.Step.the-variants.{Found, Done}
 
 -- a lexeme of the code, from its parts
@@ -83,10 +82,10 @@ ascii-of-mark b s at t m = go (punctuation b) refl m
   where
     go : (o : Option language.Tok) → punctuation b ≡ o → Is t ≡ markAs o → made at (at + 1) (kind-is.Tok t) ≡ lexemeAs at (ascii b s)
     go (some u) e k = let z : t ≡ tokAs u = cc in rw (z, e, ascii)
-    go none e k = let z : _≡_ {A = ℕ} 0 1 = cc in absurd (omega arith)
+    go none e k = never (cc)
 
 mark-none : (o : Option language.Tok) → Not ≡ markAs o → o ≡ none
-mark-none (some u) k = let z : _≡_ {A = ℕ} 0 1 = cc in absurd (omega arith)
+mark-none (some u) k = never (cc)
 mark-none none k = refl
 
 module _ (line : List ℕ) (at : ℕ) where
@@ -190,7 +189,7 @@ module _ (line : List ℕ) (at : ℕ) where
       where
         go : (x : Char) → charAt (drop at line) ≡ x → Read c next ≡ placed at x → (size : ℕ) × (charAt (getD line at 0 ∷ drop (at + 1) line) ≡ char c size) × (next ≡ at + size)
         go (char n size) e k = let z : n ≡ c = cc in let y : next ≡ at + size = cc in (size, rw (← here h, ← z) e, y)
-        go noChar e k = let z : _≡_ {A = ℕ} 0 1 = cc in absurd (omega arith)
+        go noChar e k = never (cc)
 
     pub lexeme-blank : (c next e : ℕ) → Read c next ≡ placed at (charAt (drop at line)) → isBlank c ≡ true → e ≡ blankEnd line at
         → made at e kind-is.Trivia ≡ lexemeAs at (lexeme (drop at line))
@@ -218,7 +217,7 @@ module _ (line : List ℕ) (at : ℕ) where
     lexeme-none r = go (charAt (drop at line)) refl r
       where
         go : (x : Char) → charAt (drop at line) ≡ x → Nothing ≡ placed at x → made at (at + 1) (kind-is.Error (error-is.UnexpectedChar (getD line at 0))) ≡ lexemeAs at (lexeme (drop at line))
-        go (char n size) e k = let z : _≡_ {A = ℕ} 0 1 = cc in absurd (omega arith)
+        go (char n size) e k = never (cc)
         go noChar e k = let z : charAt (getD line at 0 ∷ drop (at + 1) line) ≡ noChar = rw (← here h) e in rw (here h, z)
 
 -- ---- the scanner

@@ -7,8 +7,8 @@ use native.Mathlib.Nat.{le-trans, le-div-iff-mul-le, div-lt-iff-lt-mul, div-mul-
 use native.Mathlib.Omega.{arith}
 use native.Mathlib.Decide.{decLe}
 use borrow.Author.Tests.{le-leb, lt-leb}
-use lib.ListN.{length, getD, set, take, drop, replicate, length-append, take-append-drop, List·getD-append, List·getD-eq-default}
-use lib.Seq.{sets, length-sets, take-all, take-append-le, take-nil, drop-length, getD-append-add}
+use lib.ListN.{length, getD, set, take, replicate, length-append, List·getD-append, List·getD-eq-default}
+use lib.Seq.{sets, take-all, take-append-le, take-nil, getD-append-add}
 use Rattle.table.specs.Table.{padTo, flat, tabled, putRow}
 
 -- ---- padding
@@ -130,7 +130,7 @@ module _ {A : Type 0} (row : A → List ℕ) where
         ]
 
     -- the words of the row numbered i, one after the other
-    flat-word : (xs : List A) (i j : ℕ) → i < length xs → j < width → (d : A) → getD (flat row xs) (width * i + j) 0 ≡ getD (row (getD xs i d)) j 0
+    pub flat-word : (xs : List A) (i j : ℕ) → i < length xs → j < width → (d : A) → getD (flat row xs) (width * i + j) 0 ≡ getD (row (getD xs i d)) j 0
     flat-word [] i j h l d = absurd (omega arith)
     flat-word (x ∷ xs) zero j h l d =
         let e : width * 0 + j ≡ j = omega arith in

@@ -10,7 +10,7 @@ use Rattle.language.specs.Sentences.{Stmt, import′, let′, expr′, stmtNode
 use Rattle.language.specs.Judgements.{Diag, Held, Known, known, Turn, goes, full, Outcome, judged, refused, stmt, onward, run, judgeAll}
 use Rattle.checker.specs.Checking.{stmtSize}
 use Rattle.checker.proofs.Runs.{few-findings}
-use Rattle.terkinoha.proofs.Few.{stmt-long}
+use Rattle.checker.proofs.Parsed.{stmt-long}
 
 some-node : (s : Stmt) → 1 ≤ stmtSize s
 some-node (import′ t) = omega arith

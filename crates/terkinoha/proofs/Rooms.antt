@@ -24,7 +24,8 @@ use Rattle.lex.proofs.Answers.{fits}
 use Rattle.parse.proofs.Entry.{short, all-good, no-wrong, all-lexed}
 use Rattle.parse.proofs.TokenRows.{few-tokens}
 use Rattle.terkinoha.specs.Rooms.{ScanRoom, LexRoom, ParseRoom, CanonRoom, CheckRoom}
-use Rattle.terkinoha.proofs.Few.{grammar-refuses, nodes-few}
+use Rattle.terkinoha.proofs.Few.{nodes-few}
+use Rattle.language.proofs.SentenceRefusals.{refused-number}
 use Rattle.terkinoha.proofs.Found.{found-few}
 
 -- ---- scan and lex
@@ -96,7 +97,7 @@ parse-room s room t n z h l = rw (parsed-in s room z t n h) (go (program (conten
     go : (o : Out (List Stmt)) → program (contents (tokens s)) ≡ o → P (parsedAs s n (length (tokens s)) o)
     go (ok ss at x) e = rw (le-ltb n (length (nodes ss)) (omega (arith, no-more s room z ss at x e))) (λ q. absurd (omega arith), λ q. absurd (omega arith))
     go (sentences.no m k at) e =
-        elim (grammar-refuses (contents (tokens s)) m k at e) [
+        elim (refused-number (contents (tokens s)) m k at e) [
           | inl q ↦ (λ r. absurd (omega arith), λ r. absurd (omega arith))
           | inr q ↦ (λ r. absurd (omega arith), λ r. absurd (omega arith))
         ]
@@ -145,7 +146,7 @@ check-room s room t n k z h l i = go (program cs) refl
     go : (o : Out (List Stmt)) → program cs ≡ o → P (checkAnswer s t n k)
     go (ok ss at x) e = called e (firstCall (parsedNodes (program cs))) refl
     go (sentences.no m j at) e =
-        elim (grammar-refuses cs m j at e) [
+        elim (refused-number cs m j at e) [
           | inl q ↦ rw (parsed-in s room z t n h, e, q) (other 5 refl, omega arith)
           | inr q ↦ rw (parsed-in s room z t n h, e, q) (other 7 refl, omega arith)
         ]

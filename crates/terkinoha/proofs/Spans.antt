@@ -11,14 +11,12 @@ use lib.ListN.{length, take, drop, length-drop, take-append-drop, drop-of-length
 use lib.Seq.{length-take-le, take-take, take-add, take-append-le, drop-drop, drop-append-add, drop-append-le}
 use Rattle.language.specs.Lexemes.{Kind, trivia, str, tok, error, scanFrom, lexeme}
 use Rattle.language.specs.Tokens.{Token, eof, string, items, tokensFrom, tokens, unquoted, between, bodyOf, bodiesOf}
+use Rattle.language.proofs.Tests.{never}
 use Rattle.language.proofs.LexemeSpans.{scan-unfolds}
 use Rattle.language.proofs.TokenClaims.{places-right, bodies-held}
 use Rattle.scan.specs.Scanning.{lexemeAs, stepAt}
 use Rattle.lex.proofs.Feeding.{Turn, turn}
 use Rattle.terkinoha.specs.Bodies.{Span, spanOf, spansFrom, bodySpans, first, WalkGoesOn, BodiesLie}
-
-never : {A : Type 0} → _≡_ {A = ℕ} 0 1 → A
-never z = absurd (omega arith)
 
 -- ---- one lexeme after the other
 

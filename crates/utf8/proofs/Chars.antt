@@ -4,10 +4,10 @@ use mathlib.Core.List.{List}
 use mathlib.Core.Option.{Option, none, some}
 use Prim.Native.Nat.{ℕ, suc, _+_, _≤_, _<_}
 use native.Mathlib.Numerals.{add-one}
-use native.Mathlib.Omega.{arith}
 use lib.ListN.{length, getD, drop, drop-of-length-le}
 use lib.Seq.{drop-cons}
 use Rattle.language.specs.Utf8.{Lead, char, noChar, leadOf, follow, begun, charAt}
+use Rattle.language.proofs.Tests.{never}
 use Rattle.utf8.specs.declared.Decoded.{Decoded}
 use Rattle.utf8.specs.declared.Decoded.the-variants.{Read, Nothing}
 use Rattle.utf8.specs.declared.Lead.the-variants.{Starts, Not}
@@ -17,7 +17,7 @@ use Rattle.utf8.proofs.Leads.{row-ascii}
 -- what a first octet says tells how to go on
 pub goes-on :
     (o : Option Lead) (t l h n : ℕ) (s : List ℕ) → Starts t l h n ≡ leading o → begun o s ≡ follow (suc t) t l h n s
-goes-on none t l h n s e = let z : _≡_ {A = ℕ} 0 1 = cc in absurd (omega arith)
+goes-on none t l h n s e = never (cc)
 goes-on (some o) t l h n s e =
     let et : t ≡ o .tails = cc in
     let el : l ≡ o .low = cc in
@@ -27,7 +27,7 @@ goes-on (some o) t l h n s e =
 
 pub goes-nowhere : (o : Option Lead) (s : List ℕ) → Not ≡ leading o → begun o s ≡ noChar
 goes-nowhere none s e = refl
-goes-nowhere (some o) s e = let z : _≡_ {A = ℕ} 0 1 = cc in absurd (omega arith)
+goes-nowhere (some o) s e = never (cc)
 
 module _ (s : List ℕ) (at : ℕ) where
   pub past-end : length s ≤ at → Nothing ≡ placed at (charAt (drop at s))

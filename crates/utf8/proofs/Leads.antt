@@ -1,44 +1,26 @@
 -- The rows of `leadOf`, each as the code has it, and that what a row says is small.
 use mathlib.Core.Path.{_≡_, refl}
-use mathlib.Core.Bool.{Bool, true, false, _&&_}
+use mathlib.Core.Bool.{Bool, true, false}
 use mathlib.Core.Option.{Option, none}
 use Prim.Native.Nat.{ℕ, _+_, _-_, _≤_, _<_}
 use native.Mathlib.Omega.{arith}
 use lib.Dec.{T, leb, ltb, leb→le, ltb→lt}
-use borrow.Author.Tests.{le-leb, lt-leb, leb-true}
 use Rattle.language.specs.Choice.{if′, within}
 use Rattle.language.specs.Utf8.{Lead, lead, leadOf}
+use Rattle.language.proofs.Tests.{inside, inside-test, outside-test, never}
 use Rattle.utf8.specs.declared.Lead.the-variants.{Starts, Not}
 use Rattle.utf8.specs.Decoding.{leading, Small}
-
-and-false : (t : Bool) → t && false ≡ false
-and-false true = refl
-and-false false = refl
-
-pub inside : (low high n : ℕ) → low ≤ n → n ≤ high → within low high n ≡ true
-inside low high n h k = rw (le-leb low n h, le-leb n high k)
-
-pub under : (low high n : ℕ) → n < low → within low high n ≡ false
-under low high n h = rw (lt-leb low n h)
-
-pub over : (low high n : ℕ) → high < n → within low high n ≡ false
-over low high n h = rw (lt-leb n high h) (and-false (leb low n))
-
-and-right : (s t : Bool) → s && t ≡ true → t ≡ true
-and-right true t e = e
-and-right false true e = refl
-and-right false false e = e
 
 -- ---- the rows: `w` is the octet, widened
 
 module _ (b w : ℕ) (same : w ≡ b) where
   pub row-ascii : b < 0x80 → Starts 0 0x80 0xBF w ≡ leading (leadOf b)
   unfolding leadOf
-  row-ascii h = rw (same, inside 0 0x7F b (omega arith) (omega arith))
+  row-ascii h = rw (same, inside-test 0 0x7F b (omega arith) (omega arith))
 
   pub row-C2 : 0xC2 ≤ b → b < 0xE0 → Starts 1 0x80 0xBF (w - 0xC0) ≡ leading (leadOf b)
   unfolding leadOf
-  row-C2 h k = rw (same, over 0 0x7F b (omega arith), inside 0xC2 0xDF b h (omega arith))
+  row-C2 h k = rw (same, outside-test 0 0x7F b (omega arith), inside-test 0xC2 0xDF b h (omega arith))
 
   pub row-E0 : b ≡ 0xE0 → Starts 2 0xA0 0xBF (w - 0xE0) ≡ leading (leadOf b)
   unfolding leadOf
@@ -46,7 +28,7 @@ module _ (b w : ℕ) (same : w ≡ b) where
 
   pub row-E1 : 0xE0 < b → b < 0xED → Starts 2 0x80 0xBF (w - 0xE0) ≡ leading (leadOf b)
   unfolding leadOf
-  row-E1 h k = rw (same, over 0 0x7F b (omega arith), over 0xC2 0xDF b (omega arith), over 0xE0 0xE0 b h, inside 0xE1 0xEC b h (omega arith))
+  row-E1 h k = rw (same, outside-test 0 0x7F b (omega arith), outside-test 0xC2 0xDF b (omega arith), outside-test 0xE0 0xE0 b (omega arith), inside-test 0xE1 0xEC b h (omega arith))
 
   pub row-ED : b ≡ 0xED → Starts 2 0x80 0x9F (w - 0xE0) ≡ leading (leadOf b)
   unfolding leadOf
@@ -57,12 +39,12 @@ module _ (b w : ℕ) (same : w ≡ b) where
   row-EE h k =
       rw (
         same,
-        over 0 0x7F b (omega arith),
-        over 0xC2 0xDF b (omega arith),
-        over 0xE0 0xE0 b (omega arith),
-        over 0xE1 0xEC b (omega arith),
-        over 0xED 0xED b h,
-        inside 0xEE 0xEF b h (omega arith),
+        outside-test 0 0x7F b (omega arith),
+        outside-test 0xC2 0xDF b (omega arith),
+        outside-test 0xE0 0xE0 b (omega arith),
+        outside-test 0xE1 0xEC b (omega arith),
+        outside-test 0xED 0xED b (omega arith),
+        inside-test 0xEE 0xEF b h (omega arith),
       )
 
   pub row-F0 : b ≡ 0xF0 → Starts 3 0x90 0xBF (w - 0xF0) ≡ leading (leadOf b)
@@ -74,14 +56,14 @@ module _ (b w : ℕ) (same : w ≡ b) where
   row-F1 h k =
       rw (
         same,
-        over 0 0x7F b (omega arith),
-        over 0xC2 0xDF b (omega arith),
-        over 0xE0 0xE0 b (omega arith),
-        over 0xE1 0xEC b (omega arith),
-        over 0xED 0xED b (omega arith),
-        over 0xEE 0xEF b (omega arith),
-        over 0xF0 0xF0 b h,
-        inside 0xF1 0xF3 b h (omega arith),
+        outside-test 0 0x7F b (omega arith),
+        outside-test 0xC2 0xDF b (omega arith),
+        outside-test 0xE0 0xE0 b (omega arith),
+        outside-test 0xE1 0xEC b (omega arith),
+        outside-test 0xED 0xED b (omega arith),
+        outside-test 0xEE 0xEF b (omega arith),
+        outside-test 0xF0 0xF0 b (omega arith),
+        inside-test 0xF1 0xF3 b h (omega arith),
       )
 
   pub row-F4 : b ≡ 0xF4 → Starts 3 0x80 0x8F (w - 0xF0) ≡ leading (leadOf b)
@@ -89,35 +71,26 @@ module _ (b w : ℕ) (same : w ≡ b) where
   row-F4 e = rw (same, e)
 
 -- the octets that no row has
-pub not-80 : (b : ℕ) → 0x80 ≤ b → b < 0xC2 → Not ≡ leading (leadOf b)
+no-row : (b : ℕ) → 0x80 ≤ b → 0 < (0xC2 - b) + (b - 0xF4) → Not ≡ leading (leadOf b)
 unfolding leadOf
-not-80 b h k =
+no-row b h k =
     rw (
-      over 0 0x7F b h,
-      under 0xC2 0xDF b k,
-      under 0xE0 0xE0 b (omega arith),
-      under 0xE1 0xEC b (omega arith),
-      under 0xED 0xED b (omega arith),
-      under 0xEE 0xEF b (omega arith),
-      under 0xF0 0xF0 b (omega arith),
-      under 0xF1 0xF3 b (omega arith),
-      under 0xF4 0xF4 b (omega arith),
+      outside-test 0 0x7F b (omega arith),
+      outside-test 0xC2 0xDF b (omega arith),
+      outside-test 0xE0 0xE0 b (omega arith),
+      outside-test 0xE1 0xEC b (omega arith),
+      outside-test 0xED 0xED b (omega arith),
+      outside-test 0xEE 0xEF b (omega arith),
+      outside-test 0xF0 0xF0 b (omega arith),
+      outside-test 0xF1 0xF3 b (omega arith),
+      outside-test 0xF4 0xF4 b (omega arith),
     )
 
+pub not-80 : (b : ℕ) → 0x80 ≤ b → b < 0xC2 → Not ≡ leading (leadOf b)
+not-80 b h k = no-row b h (omega arith)
+
 pub not-F5 : (b : ℕ) → 0xF4 < b → Not ≡ leading (leadOf b)
-unfolding leadOf
-not-F5 b h =
-    rw (
-      over 0 0x7F b (omega arith),
-      over 0xC2 0xDF b (omega arith),
-      over 0xE0 0xE0 b (omega arith),
-      over 0xE1 0xEC b (omega arith),
-      over 0xED 0xED b (omega arith),
-      over 0xEE 0xEF b (omega arith),
-      over 0xF0 0xF0 b (omega arith),
-      over 0xF1 0xF3 b (omega arith),
-      over 0xF4 0xF4 b h,
-    )
+not-F5 b h = no-row b (omega arith) (omega arith)
 
 -- ---- what a row says is small, the ASCII one aside
 
@@ -137,7 +110,7 @@ row low high base t l h b {o} few tail octet start rest = go (within low high b)
   where
     go : (p : Bool) → within low high b ≡ p → Fine (if′ p (lead t l h (b - base)) o)
     go true e =
-        let k = leb-true b high (and-right (leb low b) _ e) in
+        let k = inside low high b e .1 in
         let m = ltb→lt high (base + 0x20) start in
         let n : b - base < 0x20 = omega arith in
         taken (record { few = leb→le _ _ few; tail = leb→le _ _ tail; octet = leb→le _ _ octet; start = n })
@@ -146,7 +119,7 @@ row low high base t l h b {o} few tail octet start rest = go (within low high b)
 fine : (b : ℕ) → 0x80 ≤ b → Fine (leadOf b)
 unfolding leadOf
 fine b h =
-    rw (over 0 0x7F b h)
+    rw (outside-test 0 0x7F b (omega arith))
     (row 0xC2 0xDF 0xC0 1 0x80 0xBF b tt tt tt tt
     (row 0xE0 0xE0 0xE0 2 0xA0 0xBF b tt tt tt tt
     (row 0xE1 0xEC 0xE0 2 0x80 0xBF b tt tt tt tt
@@ -157,7 +130,7 @@ fine b h =
     (row 0xF4 0xF4 0xF0 3 0x80 0x8F b tt tt tt tt refused))))))))
 
 said : {o : Option Lead} (t l h n : ℕ) → Fine o → Starts t l h n ≡ leading o → Small t l h n
-said t l h n refused e = let z : _≡_ {A = ℕ} 0 1 = cc in absurd (omega arith)
+said t l h n refused e = never (cc)
 said t l h n (taken {t = t′} {l = l′} {h = h′} {n = n′} s) e =
     let et : t ≡ t′ = cc in
     let el : l ≡ l′ = cc in

@@ -20,7 +20,7 @@ use Rattle.utf8.specs.declared.Decoded.the-variants.{Read, Nothing}
 use Rattle.utf8.specs.declared.Bad.the-variants.{At, Nowhere}
 use Rattle.utf8.specs.Decoding.{placed, badOf, Passed}
 use Rattle.utf8.specs.Blocks.{allFrom, isAscii}
-use Rattle.language.proofs.Tests.{both, inside, inside-test}
+use Rattle.language.proofs.Tests.{both, inside, inside-test, never}
 use Rattle.utf8.proofs.Leads.{row-C2}
 use Rattle.utf8.proofs.Chars.{ascii-char, longer-char}
 
@@ -30,7 +30,7 @@ enough :
     (size left low high bits : ℕ) (s : List ℕ) (n m : ℕ) → follow size left low high bits s ≡ char n m → (m ≡ size) × (left ≤ length s)
 unfolding follow
 enough size zero low high bits s n m e = (cc, omega arith)
-enough size (suc left) low high bits [] n m e = let z : _≡_ {A = ℕ} 0 1 = cc in absurd (omega arith)
+enough size (suc left) low high bits [] n m e = never (cc)
 enough size (suc left) low high bits (b ∷ s) n m e =
     go (within low high b) e (enough size left 0x80 0xBF (bits * 0x40 + (b - 0x80)) s n m)
   where
@@ -40,10 +40,10 @@ enough size (suc left) low high bits (b ∷ s) n m e =
         → (r ≡ char n m → (m ≡ size) × (left ≤ length s))
         → (m ≡ size) × (suc left ≤ length (b ∷ s))
     go true h f = let k = f h in (k .0, omega (arith, k .1))
-    go false h f = let z : _≡_ {A = ℕ} 0 1 = cc in absurd (omega arith)
+    go false h f = never (cc)
 
 begun-enough : (o : Option Lead) (s : List ℕ) (n m : ℕ) → begun o s ≡ char n m → (0 < m) × (m ≤ suc (length s))
-begun-enough none s n m e = let z : _≡_ {A = ℕ} 0 1 = cc in absurd (omega arith)
+begun-enough none s n m e = never (cc)
 begun-enough (some l) s n m e =
     let k = enough (suc (l .tails)) (l .tails) (l .low) (l .high) (l .bits) s n m e in
     (omega (arith, k .0), omega (arith, k .0, k .1))
@@ -68,14 +68,14 @@ unfolding badFrom
 one-good at b s n m e = rw (e, badFrom)
 
 no-place : (at : ℕ) (c : Char) → Nothing ≡ placed at c → c ≡ noChar
-no-place at (char n m) e = let z : _≡_ {A = ℕ} 0 1 = cc in absurd (omega arith)
+no-place at (char n m) e = never (cc)
 no-place at noChar e = refl
 
 some-place : (at : ℕ) (c : Char) (n next : ℕ) → Read n next ≡ placed at c → (m : ℕ) × (c ≡ char n m) × (next ≡ at + m)
 some-place at (char k m) n next e =
     let p : n ≡ k = cc in
     (m, rw p, cc)
-some-place at noChar n next e = let z : _≡_ {A = ℕ} 0 1 = cc in absurd (omega arith)
+some-place at noChar n next e = never (cc)
 
 -- a place further on, from which the answer is the same
 pub record Onward (s : List ℕ) (i next : ℕ) : Type 0 where
@@ -190,7 +190,7 @@ pass-four {s} {at} {i} {a} {b} {c} {d} o h ea eb ec ed e =
 
 from-within : (skip at : ℕ) (s : List ℕ) (p : ℕ) → badFrom skip at s ≡ some p → p < at + length s
 unfolding badFrom
-from-within skip at [] p e = let z : _≡_ {A = ℕ} 0 1 = cc in absurd (omega arith)
+from-within skip at [] p e = never (cc)
 from-within (suc skip) at (b ∷ s) p e = let k = from-within skip (suc at) s p e in omega arith
 from-within zero at (b ∷ s) p e = go (charAt (b ∷ s)) (λ k. from-within k (suc at) s p) e
   where
@@ -203,7 +203,7 @@ from-within zero at (b ∷ s) p e = go (charAt (b ∷ s)) (λ k. from-within k (
     go noChar f h = let k : at ≡ p = cc in omega arith
 
 bad-some : (o : Option ℕ) (i : ℕ) → At i ≡ badOf o → o ≡ some i
-bad-some none i e = let z : _≡_ {A = ℕ} 0 1 = cc in absurd (omega arith)
+bad-some none i e = never (cc)
 bad-some (some k) i e = let h : i ≡ k = cc in rw h
 
 pub bad-within : (s : List ℕ) (i : ℕ) → At i ≡ badOf (firstBad s) → i < length s

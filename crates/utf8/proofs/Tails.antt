@@ -17,7 +17,7 @@ use Rattle.language.specs.Choice.{within}
 use Rattle.language.specs.Utf8.{Char, char, noChar, follow}
 use Rattle.utf8.specs.declared.Decoded.the-variants.{Read, Nothing}
 use Rattle.utf8.specs.Decoding.{placed, Small}
-use Rattle.utf8.proofs.Leads.{inside, under, over}
+use Rattle.language.proofs.Tests.{inside-test, outside-test}
 
 -- the number is below this while so many octets are left: six bits less for each
 abbrev pub room : ℕ → ℕ
@@ -110,10 +110,10 @@ module _ (s : List ℕ) (at size : ℕ) (promised : Char) (low high bits left i 
 
     module _ (in-source : i < length s) where
       pub too-low : getD s i 0 < low → Nothing ≡ placed at promised
-      too-low h = rw (← here .rest, drop-cons s i 0 in-source, follow-out size left low high bits _ _ some-left (under low high _ h))
+      too-low h = rw (← here .rest, drop-cons s i 0 in-source, follow-out size left low high bits _ _ some-left (outside-test low high (getD s i 0) (omega arith)))
 
       pub too-high : high < getD s i 0 → Nothing ≡ placed at promised
-      too-high h = rw (← here .rest, drop-cons s i 0 in-source, follow-out size left low high bits _ _ some-left (over low high _ h))
+      too-high h = rw (← here .rest, drop-cons s i 0 in-source, follow-out size left low high bits _ _ some-left (outside-test low high (getD s i 0) (omega arith)))
 
       pub more :
           (w : ℕ)
@@ -126,7 +126,7 @@ module _ (s : List ℕ) (at size : ℕ) (promised : Char) (low high bits left i 
           record {
             rest =
                 rw (e, add-one)
-                (sym (follow-in size left low high bits _ _ some-left (inside low high _ h k))
+                (sym (follow-in size left low high bits _ _ some-left (inside-test low high _ h k))
                 ∙ ap (follow size left low high bits) (sym (drop-cons s i 0 in-source))
                 ∙ here .rest);
             place = omega (arith, here .place);

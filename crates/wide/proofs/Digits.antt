@@ -7,10 +7,10 @@ use native.Mathlib.Nat.{le-trans, lt-of-lt-of-le, mul-le-mul-right, div-lt-iff-l
 use native.Mathlib.Omega.{arith}
 use borrow.Author.Tests.{leb-true, eqb-true, eqb-false, lt-ltb, le-ltb}
 use lib.Dec.{eqb}
-use lib.ListN.{length, getD, set, replicate}
+use lib.ListN.{length, set, replicate}
 use Rattle.language.specs.Integers.{AllDigits, digitsIn, decimal, hexadecimal, ascii}
 use Rattle.language.specs.Canonical.{spellDigit, spellDigits}
-use Rattle.language.proofs.Integers.{few-in, many-in, fewer, right}
+use Rattle.language.proofs.Integers.{few-in, many-in, fewer}
 use Rattle.wide.specs.Wide.{word}
 
 -- zeros before `at`, and from there `done` as it is spelt: those of the digits `all` that follow the digits of `rest`, of which
@@ -134,10 +134,3 @@ spelt-ascii [] h = refl
 spelt-ascii (d ∷ ds) h =
     let l : d < 10 = h 0 (omega arith) in
     rw (lt-ltb d 10 l, spelt-ascii ds (λ i b. h (suc i) (omega arith)))
-
--- and so are the decimal digits of two words
-pub decimal-spelt : (n : ℕ) → n < 2 ^ 128 → ascii (decimal n) ≡ spellDigits (decimal n)
-unfolding decimal
-decimal-spelt n h =
-    let b : n < 10 ^ 39 = lt-of-lt-of-le h (leb-true (2 ^ 128) (10 ^ 39) refl) in
-    sym (spelt-ascii (digitsIn 10 39 n) (λ i l. right 10 (omega arith) 38 n b .small i))

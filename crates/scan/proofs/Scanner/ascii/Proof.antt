@@ -1,7 +1,6 @@
-use mathlib.Core.Path.{_≡_, refl, sym, ap, _∙_}
-use mathlib.Core.List.{List}
+use mathlib.Core.Path.{sym, ap, _∙_}
 use Rattle.scan.specs.Scanning.{lexemeAs}
-use Rattle.scan.proofs.Starts.{run-ends, ascii-word, ascii-digit, ascii-mark, ascii-sign, worded}
+use Rattle.scan.proofs.Starts.{run-ends, ascii-digit, ascii-mark, ascii-sign, worded}
 use Rattle.language.specs.Lexemes.{isWord}
 use native.Mathlib.Omega.{arith}
 use borrow.Author.Needs.{needs}

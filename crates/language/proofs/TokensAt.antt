@@ -1,0 +1,38 @@
+-- The tokens of a source by their index, with `Eof` last and past the last.
+use Prim.Native.Nat.{ℕ, zero, suc, _+_, _-_, _≤_, _<_}
+use mathlib.Core.Path.{_≡_, refl}
+use mathlib.Core.List.{List, [], _∷_, List·Memᴰ, List·Memᴰ·head, List·Memᴰ·tail}
+use mathlib.Core.Option.{none}
+use native.Mathlib.Omega.{arith}
+use lib.ListN.{length, getD, length-append, List·getD-map, List·getD-eq-default}
+use lib.Seq.{getD-at}
+use Rattle.language.specs.Tokens.{eof, Token, items, tokensFrom, eofToken, tokens, contents}
+use Rattle.language.specs.Tables.{tokenRow, tokenWidth}
+use Rattle.language.specs.Numbers.{tokenOf}
+
+pub mem-at : (ts : List Token) (i : ℕ) (d : Token) → i < length ts → List·Memᴰ (getD ts i d) ts
+mem-at [] i d h = absurd (omega arith)
+mem-at (t ∷ ts) zero d h = List·Memᴰ·head refl
+mem-at (t ∷ ts) (suc i) d h = List·Memᴰ·tail (mem-at ts i d (omega arith))
+
+pub row-width : (t : Token) → length (tokenRow t) ≡ tokenWidth
+unfolding tokenRow
+row-width t = refl
+
+module _ (s : List ℕ) where
+  pub content-of : (t : ℕ) → getD (contents (tokens s)) t eof ≡ tokenOf s t .content
+  content-of t = List·getD-map (λ (x : Token). x .content) (tokens s) t (eofToken s)
+
+  pub long-tokens : length (tokens s) ≡ length (tokensFrom none (items s)) + 1
+  unfolding tokens
+  long-tokens = length-append (tokensFrom none (items s)) (eofToken s ∷ [])
+
+  pub some-token : 1 ≤ length (tokens s)
+  some-token = omega (arith, long-tokens)
+
+  pub last-token : tokenOf s (length (tokens s) - 1) ≡ eofToken s
+  unfolding tokens
+  last-token = getD-at (tokensFrom none (items s)) (eofToken s) [] (eofToken s) (length (tokens s) - 1) (omega (arith, long-tokens))
+
+  pub past-token : (t : ℕ) → length (tokens s) ≤ t → tokenOf s t ≡ eofToken s
+  past-token t h = List·getD-eq-default (tokens s) (eofToken s) h
