@@ -25,7 +25,7 @@ use Rattle.language.specs.Numbers.{tokenOf}
 use Rattle.judging.specs.declared.Token.{Token}
 use Rattle.judging.specs.declared.Judged.{Judged}
 use Rattle.judging.specs.declared.Judged.the-variants.{Val, Err}
-use Rattle.judging.specs.Judging.{tokenAs, opened, Canon, heldAs, judgedAs, namedAs, faultAs, nameWord, nameOf, keyFrom, keyOf, Keyed, namesIn, bindingAt, boundIn, orNone, importAt, importsIn, place}
+use Rattle.judging.specs.Judging.{tokenAs, opened, Canon, heldAs, judgedAs, namedAs, faultAs, nameWord, nameOf, keyFrom, keyOf, namesIn, bindingAt, boundIn, orNone, importAt, importsIn, place}
 use Rattle.language.proofs.Tests.{both}
 use Rattle.language.proofs.TokensAt.{content-of, past-token}
 use Rattle.judging.proofs.Values.{some-kind}
