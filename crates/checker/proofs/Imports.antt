@@ -23,13 +23,13 @@ use Rattle.language.proofs.Tests.{never}
 use Rattle.judging.specs.declared.Token.{Token}
 use Rattle.judging.specs.declared.Fault.{Fault}
 use Rattle.judging.specs.declared.Counts.{Counts}
-use Rattle.judging.specs.Judging.{tokenAs, namedAs, faultAs, faultRow, putRows, plusWarnings, namesIn, place, importsIn, boundIn, orNone, knownIn, Knows, Ready}
+use Rattle.judging.specs.Judging.{tokenAs, namedAs, faultAs, faultRow, putRows, plusWarnings, namesIn, place, importsIn, boundIn, orNone, knownIn, Knows, keyOf, Keyed, Ready}
 use Rattle.judging.proofs.Rows.{no-rows, one-row}
 use Rattle.judging.proofs.Names.{import-found, import-lost, found-module}
 use Rattle.checker.specs.declared.Turn.the-variants.{Went, Full}
 use Rattle.checker.specs.Checking.{plusError, plusImport, entryRow, Grows, Steps, TurnOf, Turns}
 use Rattle.checker.proofs.Statements.{fault-row}
-use Rattle.checker.proofs.Stores.{store-import, imports-long}
+use Rattle.checker.proofs.Stores.{store-import, store-key, imports-long}
 
 -- ---- what one finding adds
 
@@ -92,7 +92,7 @@ module _ (s toks : List ℕ) (n t : ℕ) (k : Known) (b is : List (List ℕ)) (u
       → y ≡ putRow x (c .errors + c .warnings) (faultRow f) → Turns s toks c x u (Went c′) b is y u (stmt ts n k (import′ t))
   turn-again {f} {c′} {y} h g q r =
       let e = ap (λ (l : List Import). findImport l (nameAt ts t)) imports-are ∙ import-found s is (nameAt ts t) (c .imported) i at h in
-      let ready : Ready s toks b is (plusWarnings c 1) = record { lexed = rd .lexed; bound = rd .bound; modules = rd .modules; sound = rd .sound } in
+      let ready : Ready s toks b is (plusWarnings c 1) = record { lexed = rd .lexed; bound = rd .bound; modules = rd .modules; sound = rd .sound; keyed = rd .keyed; keyed-modules = rd .keyed-modules } in
       let steps : Steps s toks c x u c′ b is y u k (diag n t multipleImports ∷ []) [] = record {
         knows = record { is = kn .is ∙ ap (knownIn s b is) (sym q) };
         ready = subst (λ (l : Counts). Ready s toks b is l) (sym q) ready;
@@ -113,9 +113,9 @@ module _ (s toks : List ℕ) (n t : ℕ) (k : Known) (b is : List (List ℕ)) (u
         let e : stmt ts n k (import′ t) ≡ full t = not-yet ts n k t absent ∙ ap (λ (z : Bool). if′ z (imported ts n k t (lookup 0 (nameAt ts t))) (full t)) f in
         record { turn = subst (λ (z : judgements.Turn). TurnOf s toks c x u (Full t) b is x u z) (sym e) refl }
 
-    module _ (l : c .imported < 64) (long : 64 ≤ length is) (start end kind : ℕ) (is′ : List (List ℕ)) (name : between s start end ≡ nameAt ts t)
-        (m : kind ≡ orZero (lookup 0 (nameAt ts t)))
-        (put : is′ ≡ set is (c .imported) (entryRow start end t (record { kind = kind; lo = 0; hi = 0 }))) where
+    module _ (l : c .imported < 64) (long : 64 ≤ length is) (start end key kind : ℕ) (is′ : List (List ℕ)) (name : between s start end ≡ nameAt ts t)
+        (made : key ≡ keyOf (nameAt ts t)) (m : kind ≡ orZero (lookup 0 (nameAt ts t)))
+        (put : is′ ≡ set is (c .imported) (entryRow start end key t (record { kind = kind; lo = 0; hi = 0 }))) where
       stepped : stmt ts n k (import′ t) ≡ imported ts n k t (lookup 0 (nameAt ts t))
       stepped =
           let f : ltb (length (k .imports)) mostImports ≡ true = lt-ltb (length (k .imports)) mostImports (omega (arith, many, l)) in
@@ -125,7 +125,7 @@ module _ (s toks : List ℕ) (n t : ℕ) (k : Known) (b is : List (List ℕ)) (u
       now-imports =
           let f : orNone kind ≡ lookup 0 (nameAt ts t) = ap orNone m ∙ found-module 0 (nameAt ts t) in
           ap (λ (z : List (List ℕ)). importsIn s z (c .imported + 1) 0) put
-          ∙ store-import s is (c .imported) start end t (record { kind = kind; lo = 0; hi = 0 }) (omega (arith, l, long))
+          ∙ store-import s is (c .imported) start end key t (record { kind = kind; lo = 0; hi = 0 }) (omega (arith, l, long))
           ∙ rw (name, f, imports-are)
 
       bindings-are : k .bindings ≡ boundIn s b (c .used) 0
@@ -139,10 +139,19 @@ module _ (s toks : List ℕ) (n t : ℕ) (k : Known) (b is : List (List ℕ)) (u
 
       long-now : length is′ ≡ length is
       long-now =
-          ap length put ∙ length-set is (c .imported) (entryRow start end t (record { kind = kind; lo = 0; hi = 0 }))
+          ap length put ∙ length-set is (c .imported) (entryRow start end key t (record { kind = kind; lo = 0; hi = 0 }))
 
       ready-now : Ready s toks b is′ (plusImport c)
-      ready-now = record { lexed = rd .lexed; bound = rd .bound; modules = omega (arith, l, long, long-now); sound = rd .sound }
+      ready-now =
+          let stored = store-key s is (c .imported) start end key t (record { kind = kind; lo = 0; hi = 0 }) (omega (arith, l, long)) (rd .keyed-modules) (made ∙ ap keyOf (sym name)) in
+          record {
+            lexed = rd .lexed;
+            bound = rd .bound;
+            modules = omega (arith, l, long, long-now);
+            sound = rd .sound;
+            keyed = rd .keyed;
+            keyed-modules = subst (λ (z : List (List ℕ)). Keyed s z (c .imported + 1)) (sym put) stored;
+          }
 
       found-by : (o : Option ℕ) → lookup 0 (nameAt ts t) ≡ o → (kind ≡ 0 → ⊥) → TurnOf s toks c x u (Went (plusImport c)) b is′ x u (imported ts n k t o)
       found-by none e z = absurd (z (m ∙ ap orZero e))
@@ -152,7 +161,14 @@ module _ (s toks : List ℕ) (n t : ℕ) (k : Known) (b is : List (List ℕ)) (u
       failed-by : (o : Option ℕ) → lookup 0 (nameAt ts t) ≡ o → kind ≡ 0 → {f : Fault} {y : List ℕ} → f ≡ faultAs s t unknownModule
           → y ≡ putRow x (c .errors + c .warnings) (faultRow f) → TurnOf s toks c x u (Went (plusError (plusImport c))) b is′ y u (imported ts n k t o)
       failed-by none e z {f} {y} g r =
-          let rn : Ready s toks b is′ (plusError (plusImport c)) = record { lexed = rd .lexed; bound = rd .bound; modules = ready-now .modules; sound = rd .sound } in
+          let rn : Ready s toks b is′ (plusError (plusImport c)) = record {
+            lexed = rd .lexed;
+            bound = rd .bound;
+            modules = ready-now .modules;
+            sound = rd .sound;
+            keyed = rd .keyed;
+            keyed-modules = ready-now .keyed-modules;
+          } in
           record {
             knows = record { is = known-now none e };
             ready = rn;

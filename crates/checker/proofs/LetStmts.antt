@@ -40,6 +40,8 @@ module _ {s : List ℕ} {b m : List (List ℕ)} {c c′ : Counts} (h : SameNames
         bound = omega (arith, rd .bound, h .used);
         modules = omega (arith, rd .modules, h .imported);
         sound = λ j l. rd .sound j (omega (arith, l, h .used));
+        keyed = rw (h .used) (rd .keyed);
+        keyed-modules = rw (h .imported) (rd .keyed-modules);
       }
 
 -- ---- the definition's steps

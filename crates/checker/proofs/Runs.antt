@@ -144,7 +144,14 @@ start {s} {toks} {ws} {x} {u} {b} {m} l f p q e = subst (λ (z : Counts). Looped
     record {
       names = p;
       modules = q;
-      ready = record { lexed = l; bound = omega arith; modules = omega arith; sound = λ i h. absurd (omega (arith, h)) };
+      ready = record {
+        lexed = l;
+        bound = omega arith;
+        modules = omega arith;
+        sound = λ i h. absurd (omega (arith, h));
+        keyed = record { key = λ i h. absurd (omega (arith, h)) };
+        keyed-modules = record { key = λ i h. absurd (omega (arith, h)) };
+      };
       fits = f;
       diags = refl;
       stmts = refl;

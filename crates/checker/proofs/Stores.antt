@@ -3,13 +3,14 @@ use mathlib.Core.Path.{_≡_, refl, sym, ap, _∙_}
 use mathlib.Core.List.{List, [], _∷_, _++_}
 use Prim.Native.Nat.{ℕ, zero, suc, _+_, _*_, _≤_, _<_}
 use native.Mathlib.Omega.{arith}
+use native.Mathlib.Decide.{decLe}
 use native.Mathlib.Numerals.{add-one}
 use lib.ListN.{length, getD, set}
 use lib.Seq.{getD-set-same, getD-set-other}
 use Rattle.language.specs.Tokens.{between}
 use Rattle.language.specs.Judgements.{Binding, Import}
 use Rattle.judging.specs.declared.Value.{Value}
-use Rattle.judging.specs.Judging.{nameWord, nameOf, bindingAt, boundIn, importAt, importsIn, opened, orNone, Canon}
+use Rattle.judging.specs.Judging.{nameWord, nameOf, bindingAt, boundIn, importAt, importsIn, opened, orNone, Canon, keyOf, Keyed}
 use Rattle.checker.specs.Checking.{entryRow}
 
 -- ---- entries
@@ -65,24 +66,35 @@ module _ (s : List ℕ) (ws : List (List ℕ)) where
   imports-long zero i = refl
   imports-long (suc k) i = ap suc (imports-long k (i + 1))
 
-module _ (s : List ℕ) (ws : List (List ℕ)) (u start end t : ℕ) (v : Value) (fits : u < length ws) where
+module _ (s : List ℕ) (ws : List (List ℕ)) (u start end key t : ℕ) (v : Value) (fits : u < length ws) where
   then′ : List (List ℕ)
-  then′ = set ws u (entryRow start end t v)
+  then′ = set ws u (entryRow start end key t v)
 
-  pub store-name : boundIn s (set ws u (entryRow start end t v)) (u + 1) 0
+  pub store-name : boundIn s (set ws u (entryRow start end key t v)) (u + 1) 0
       ≡ boundIn s ws u 0 ++ record { name = between s start end; tok = t; value = opened (v .kind) (v .lo) (v .hi) } ∷ []
   unfolding then′
   store-name =
       let z : 0 + u ≡ u = omega arith in
-      let old = same-bound s ws then′ u 0 (λ n l. old-entry ws u (entryRow start end t v) n (omega arith)) in
-      let new = new-entry ws u (entryRow start end t v) fits in
+      let old = same-bound s ws then′ u 0 (λ n l. old-entry ws u (entryRow start end key t v) n (omega arith)) in
+      let new = new-entry ws u (entryRow start end key t v) fits in
       ap (λ (n : ℕ). boundIn s then′ n 0) (add-one u) ∙ last-bound s then′ u 0 ∙ rw (old, z, new)
 
-  pub store-import : importsIn s (set ws u (entryRow start end t v)) (u + 1) 0
+  pub store-import : importsIn s (set ws u (entryRow start end key t v)) (u + 1) 0
       ≡ importsIn s ws u 0 ++ record { name = between s start end; found = orNone (v .kind) } ∷ []
   unfolding then′
   store-import =
       let z : 0 + u ≡ u = omega arith in
-      let old = same-imports s ws then′ u 0 (λ n l. old-entry ws u (entryRow start end t v) n (omega arith)) in
-      let new = new-entry ws u (entryRow start end t v) fits in
+      let old = same-imports s ws then′ u 0 (λ n l. old-entry ws u (entryRow start end key t v) n (omega arith)) in
+      let new = new-entry ws u (entryRow start end key t v) fits in
       ap (λ (n : ℕ). importsIn s then′ n 0) (add-one u) ∙ last-import s then′ u 0 ∙ rw (old, z, new)
+
+  pub store-key : Keyed s ws u → key ≡ keyOf (between s start end) → Keyed s (set ws u (entryRow start end key t v)) (u + 1)
+  store-key keyed e =
+      record { key = λ i h.
+        elim (decLe (suc i) u) [
+          | yes g ↦ let old = old-entry ws u (entryRow start end key t v) i g in rw old (keyed .key i g)
+          | no g ↦
+              let z : i ≡ u = omega arith in
+              let new = new-entry ws u (entryRow start end key t v) fits in
+              rw (z, new) e
+        ] }

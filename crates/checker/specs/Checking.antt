@@ -21,7 +21,7 @@ use Rattle.judging.specs.declared.Text.{Text}
 use Rattle.judging.specs.declared.Fault.{Fault}
 use Rattle.judging.specs.declared.Counts.{Counts}
 use Rattle.judging.specs.declared.Judgement.{Judgement}
-use Rattle.judging.specs.Judging.{valueAs, putRows, Lexed, Ready, Knows, Agrees, word, RepAt, Fits}
+use Rattle.judging.specs.Judging.{valueAs, putRows, Lexed, keyOf, Ready, Knows, Agrees, word, RepAt, Fits}
 use Rattle.checker.specs.declared.Turn.{Turn}
 use Rattle.checker.specs.declared.Turn.the-variants.{Went, Full}
 use Rattle.checker.specs.declared.Narrowed.{Narrowed}
@@ -48,8 +48,8 @@ pub record Room (c : Counts) : Type 0 where
 
 -- ---- rows
 
-abbrev pub entryRow : ℕ → ℕ → ℕ → Value → List ℕ
-entryRow start end t v = start ∷ end ∷ t ∷ v .kind ∷ v .lo ∷ v .hi ∷ []
+abbrev pub entryRow : ℕ → ℕ → ℕ → ℕ → Value → List ℕ
+entryRow start end key t v = start ∷ end ∷ t ∷ v .kind ∷ v .lo ∷ v .hi ∷ key ∷ []
 
 abbrev pub bareAs : ℕ → Token → Fault
 bareAs kind t =
@@ -134,9 +134,9 @@ pub record Turns (s toks : List ℕ) (c : Counts) (x u : List ℕ) (r : Turn) (b
   pub turn : TurnOf s toks c x u r b i y v t
 
 -- a `let` after its value was judged
-pub record Binds (b : List (List ℕ)) (x′ : List ℕ) (start end t : ℕ) (j : Judgement) (c′ : Counts) (b′ : List (List ℕ)) (y : List ℕ) : Type 0 where
+pub record Binds (b : List (List ℕ)) (x′ : List ℕ) (start end key t : ℕ) (j : Judgement) (c′ : Counts) (b′ : List (List ℕ)) (y : List ℕ) : Type 0 where
   pub is : (s toks : List ℕ) (i : List (List ℕ)) (x u : List ℕ) (n : ℕ) (k : Known) (c : Counts) (e : Expr) → Knows s b i c k → Ready s toks b i c
-      → between s start end ≡ nameAt (contents (tokens.tokens s)) t → Agrees s j x x′ c (judge (contents (tokens.tokens s)) n k e)
+      → between s start end ≡ nameAt (contents (tokens.tokens s)) t → key ≡ keyOf (nameAt (contents (tokens.tokens s)) t) → Agrees s j x x′ c (judge (contents (tokens.tokens s)) n k e)
       → TurnOf s toks c x u (Went c′) b′ i y u
           (bound (contents (tokens.tokens s)) n k t (judge (contents (tokens.tokens s)) n k e .out) (judge (contents (tokens.tokens s)) n k e .warns))
 

@@ -12,7 +12,7 @@ ghost use Rattle.language.specs.Values.{lookup};
 ghost use Rattle.constants.specs.Constants.{orZero};
 ghost use Rattle.language.specs.Sentences.{Expr, Stmt, import′, let′, Node, nodeRow, program};
 ghost use Rattle.language.specs.Judgements.{Known, Diag, Held, nameAt, stmt, judged, judgeAll};
-ghost use Rattle.judging.specs.Judging.{tokenAs, Lexed, Ready, Knows, RepAt, Fits, faultRow, word, plusWarnings};
+ghost use Rattle.judging.specs.Judging.{tokenAs, Lexed, keyOf, Keyed, Ready, Knows, RepAt, Fits, faultRow, word, plusWarnings};
 ghost use Rattle.checker.specs.Checking.{plusError, plusStatement, plusName, plusImport, entryRow, HeldRow, bareAs, Narrow, Shown, Tells, Exprs, Turns, Binds, Room, StmtFits, StmtsAt, RowFits, RowTurns, noCounts, Grows, Comes};
 ghost use Rattle.scan.specs.Scanning.{verdictAs};
 ghost use Rattle.checker.specs.Entry.{refusal, callAs, GivesUp, Parses, CheckSource};
@@ -24,8 +24,8 @@ use judging::{Counts, Detail, Fault, Judged, Judgement, Text, Token, Value};
 use wide::{Size, Wide};
 
 // The checker's state: two arrays of empty entries for the names that are bound and imported, filled in order of binding,
-// and `Counts`, which says how many of each are filled. An entry holds where the name's span starts and ends, its token, and
-// its value as three words (crate `judging`).
+// and `Counts`, which says how many of each are filled. An entry holds where the name's span starts and ends, its token,
+// its value as three words, and the name's key (crate `judging`).
 pub struct Checker {}
 
 impl Checker {
@@ -37,17 +37,17 @@ impl Checker {
     pub const STATEMENT_WORDS: usize = 7;
 
     // An entry with no name and no value.
-    pub const EMPTY: [u64; 6] = [0; 6];
+    pub const EMPTY: [u64; 7] = [0; 7];
 
     // No names yet.
-    pub fn names() -> [[u64; 6]; Checker::NAMES]
+    pub fn names() -> [[u64; 7]; Checker::NAMES]
         ensures { λ r. ⌜ length r ≡ 512 ⌝ }
     {
         [Checker::EMPTY; Checker::NAMES]
     }
 
     // No imports yet.
-    pub fn modules() -> [[u64; 6]; Checker::IMPORTS]
+    pub fn modules() -> [[u64; 7]; Checker::IMPORTS]
         ensures { λ r. ⌜ length r ≡ 64 ⌝ }
     {
         [Checker::EMPTY; Checker::IMPORTS]
@@ -154,12 +154,19 @@ fn name_span(tok: Token) -> Span
     Span { start: 0, end: 0 }
 }
 
-// Writes an entry of a table of names.
-fn put_entry(entries: &mut [[u64; 6]], row: usize, name: Span, t: u64, v: Value)
-    requires { ⌜ row < length (now entries) ⌝ }
-    ensures { λ _. ⌜ now (entries .exit) ≡ set (now (entries .entry)) row (entryRow (name .start) (name .end) t v) ⌝ }
+// The key of a name's token.
+fn key_at(source: &[u8], tok: Token) -> u64
+    ensures { λ r. ⌜ ((t : ℕ) → tok ≡ tokenAs (tokenOf (now (source .entry)) t) → r ≡ keyOf (nameAt (contents (tokens (now (source .entry)))) t)) ⌝ }
 {
-    entries[row] = [name.start, name.end, t, v.kind, v.lo, v.hi];
+    judging::key_of(judging::name_at(source, tok))
+}
+
+// Writes an entry of a table of names.
+fn put_entry(entries: &mut [[u64; 7]], row: usize, name: Span, key: u64, t: u64, v: Value)
+    requires { ⌜ row < length (now entries) ⌝ }
+    ensures { λ _. ⌜ now (entries .exit) ≡ set (now (entries .entry)) row (entryRow (name .start) (name .end) key t v) ⌝ }
+{
+    entries[row] = [name.start, name.end, t, v.kind, v.lo, v.hi, key];
 }
 
 // What is shown of a value that a statement discards: which text (0 none, 1 the source, 2 the constant table's), and two
@@ -285,7 +292,7 @@ fn tell(toks: &[u64], diags: &mut [u64], stmts: &mut [u64], t: u64, v: Value, co
 }
 
 // An expression as a statement: row i.
-fn expr_stmt(source: &[u8], toks: &[u64], nodes: &[u64], bindings: &[[u64; 6]], imports: &[[u64; 6]], diags: &mut [u64], stmts: &mut [u64], i: usize, counts: Counts) -> Counts
+fn expr_stmt(source: &[u8], toks: &[u64], nodes: &[u64], bindings: &[[u64; 7]], imports: &[[u64; 7]], diags: &mut [u64], stmts: &mut [u64], i: usize, counts: Counts) -> Counts
     requires { ⌜ Ready (now source) (now toks) (now bindings) (now imports) counts ⌝ }
     requires { ⌜ StmtFits (now nodes) i counts × (5 * i + 5 ≤ length (now nodes)) ⌝ }
     ensures { λ r. ⌜ ((n : ℕ) (k : Known) (e : Expr) → Knows (now (source .entry)) (now (bindings .entry)) (now (imports .entry)) counts k
@@ -314,8 +321,8 @@ fn module_at(source: &[u8], tok: Token) -> u64
 }
 
 // `import` of the name at the token t. A failed import poisons its name, as a failed `let` does.
-fn import(source: &[u8], toks: &[u64], imports: &mut [[u64; 6]], diags: &mut [u64], t: u64, counts: Counts) -> Turn
-    requires { ⌜ Lexed (now source) (now toks) × (64 ≤ length (now imports)) × (counts .imported ≤ 64) ⌝ }
+fn import(source: &[u8], toks: &[u64], imports: &mut [[u64; 7]], diags: &mut [u64], t: u64, counts: Counts) -> Turn
+    requires { ⌜ Lexed (now source) (now toks) × (64 ≤ length (now imports)) × (counts .imported ≤ 64) × Keyed (now source) (now imports) (counts .imported) ⌝ }
     requires { ⌜ Room counts ⌝ }
     ensures { λ r. ⌜ ((n : ℕ) (k : Known) (b : List (List ℕ)) (u : List ℕ) → Knows (now (source .entry)) b (now (imports .entry)) counts k
         → Ready (now (source .entry)) (now (toks .entry)) b (now (imports .entry)) counts
@@ -333,7 +340,7 @@ fn import(source: &[u8], toks: &[u64], imports: &mut [[u64; 6]], diags: &mut [u6
     }
     let kind = module_at(source, tok);
     let v = Value { kind, lo: 0, hi: 0 };
-    put_entry(imports, imported, name_span(tok), t, v);
+    put_entry(imports, imported, name_span(tok), key_at(source, tok), t, v);
     let more = imported_one(counts);
     if kind == 0 {
         return Turn::Went(error(diags, judging::named(1, 4, tok, 0, 0), more));
@@ -342,10 +349,10 @@ fn import(source: &[u8], toks: &[u64], imports: &mut [[u64; 6]], diags: &mut [u6
 }
 
 // Binds a name to what its value came to; where that failed, to nothing.
-fn bind(bindings: &mut [[u64; 6]], diags: &mut [u64], name: Span, t: u64, j: Judgement) -> Counts
+fn bind(bindings: &mut [[u64; 7]], diags: &mut [u64], name: Span, key: u64, t: u64, j: Judgement) -> Counts
     requires { ⌜ (j .counts .used < 512) × (512 ≤ length (now bindings)) ⌝ }
     requires { ⌜ Room (j .counts) ⌝ }
-    ensures { λ r. ⌜ Binds (now (bindings .entry)) (now (diags .entry)) (name .start) (name .end) t j r (now (bindings .exit)) (now (diags .exit)) ⌝ }
+    ensures { λ r. ⌜ Binds (now (bindings .entry)) (now (diags .entry)) (name .start) (name .end) key t j r (now (bindings .exit)) (now (diags .exit)) ⌝ }
 {
     let out = j.out;
     let counts = j.counts;
@@ -356,22 +363,22 @@ fn bind(bindings: &mut [[u64; 6]], diags: &mut [u64], name: Span, t: u64, j: Jud
     };
     match out {
         Judged::Val(v) => {
-            put_entry(bindings, counts.used, name, t, v);
+            put_entry(bindings, counts.used, name, key, t, v);
             named_one(counts)
         }
         Judged::Err(f) => {
-            put_entry(bindings, counts.used, name, t, none);
+            put_entry(bindings, counts.used, name, key, t, none);
             named_one(error(diags, f, counts))
         }
         Judged::Poisoned => {
-            put_entry(bindings, counts.used, name, t, none);
+            put_entry(bindings, counts.used, name, key, t, none);
             named_one(counts)
         }
     }
 }
 
 // `let` in row i. `AlreadyBound` is found before the value is read.
-fn let_stmt(source: &[u8], toks: &[u64], nodes: &[u64], bindings: &mut [[u64; 6]], imports: &[[u64; 6]], diags: &mut [u64], i: usize, counts: Counts) -> Turn
+fn let_stmt(source: &[u8], toks: &[u64], nodes: &[u64], bindings: &mut [[u64; 7]], imports: &[[u64; 7]], diags: &mut [u64], i: usize, counts: Counts) -> Turn
     requires { ⌜ Ready (now source) (now toks) (now bindings) (now imports) counts × (length (now bindings) ≡ 512) ⌝ }
     requires { ⌜ StmtFits (now nodes) i counts × (5 * i + 5 ≤ length (now nodes)) ⌝ }
     ensures { λ r. ⌜ ((n : ℕ) (k : Known) (e : Expr) (u : List ℕ) → Knows (now (source .entry)) (now (bindings .entry)) (now (imports .entry)) counts k
@@ -392,11 +399,11 @@ fn let_stmt(source: &[u8], toks: &[u64], nodes: &[u64], bindings: &mut [[u64; 6]
     }
     let e = judging::word(nodes, i, 2) as usize;
     let j = judging::judge(source, toks, nodes, bindings, imports, diags, e, counts);
-    Turn::Went(bind(bindings, diags, name_span(tok), t, j))
+    Turn::Went(bind(bindings, diags, name_span(tok), key_at(source, tok), t, j))
 }
 
 // Row i: a statement takes its turn, a row of an expression is passed.
-fn stmt(source: &[u8], toks: &[u64], nodes: &[u64], bindings: &mut [[u64; 6]], imports: &mut [[u64; 6]], diags: &mut [u64], stmts: &mut [u64], i: usize, counts: Counts) -> Turn
+fn stmt(source: &[u8], toks: &[u64], nodes: &[u64], bindings: &mut [[u64; 7]], imports: &mut [[u64; 7]], diags: &mut [u64], stmts: &mut [u64], i: usize, counts: Counts) -> Turn
     requires { ⌜ Ready (now source) (now toks) (now bindings) (now imports) counts × (length (now bindings) ≡ 512) × (length (now imports) ≡ 64) ⌝ }
     requires { ⌜ RowFits (now nodes) i counts × (5 * i + 5 ≤ length (now nodes)) ⌝ }
     ensures { λ r. ⌜ ((n : ℕ) (k : Known) (ss : List Stmt) → Knows (now (source .entry)) (now (bindings .entry)) (now (imports .entry)) counts k

@@ -368,7 +368,7 @@ module _ {s : List ℕ} where
   pub ready-on : {L : Judgement} {x y toks : List ℕ} {bindings imports : List (List ℕ)} {c : Counts} {j : judgements.Judgement} → Agrees s L x y c j
       → Ready s toks bindings imports c → Ready s toks bindings imports (L .counts)
   ready-on {toks = toks} {bindings = bindings} {imports = imports} {c = c} {j = j} l r =
-      let q : Ready s toks bindings imports (plusWarnings c (length (j .warns))) = record { lexed = r .lexed; bound = r .bound; modules = r .modules; sound = r .sound } in
+      let q : Ready s toks bindings imports (plusWarnings c (length (j .warns))) = record { lexed = r .lexed; bound = r .bound; modules = r .modules; sound = r .sound; keyed = r .keyed; keyed-modules = r .keyed-modules } in
       subst (λ (a : Counts). Ready s toks bindings imports a) (sym (l .counted)) q
 
 module _ (s : List ℕ) (n : ℕ) (k : Known) where

@@ -1,14 +1,15 @@
 -- Tables of names: the search, what is found, and paths through the constant table.
 use mathlib.Core.Path.{_≡_, refl, sym, ap, _∙_}
-use mathlib.Core.Bool.{Bool, true, false, _&&_, and-false}
+use mathlib.Core.Bool.{Bool, true, false, _&&_, false≢true, and-false}
 use mathlib.Core.List.{List, [], _∷_}
 use mathlib.Core.Option.{Option, none, some}
-use Prim.Native.Nat.{ℕ, zero, suc, _+_, _-_, _≤_, _<_}
+use Prim.Native.Nat.{ℕ, zero, suc, _+_, _-_, _*_, _%_, _≤_, _<_}
 use native.Mathlib.Omega.{arith}
 use native.Mathlib.Decide.{decLe}
-use borrow.Author.Tests.{ne-eqb}
+use borrow.Author.Tests.{eqb-true, ne-eqb}
 use lib.Dec.{eqb}
-use lib.ListN.{length}
+use lib.ListN.{length, getD, drop, drop-of-length-le}
+use lib.Seq.{drop-cons}
 use Rattle.constants.specs.Constants.{tableRows, kindOf, lowOf, highOf, orZero, entryWord}
 use Rattle.constants.proofs.Entries.{words}
 use Rattle.language.specs.Choice.{if′}
@@ -24,9 +25,38 @@ use Rattle.language.specs.Numbers.{tokenOf}
 use Rattle.judging.specs.declared.Token.{Token}
 use Rattle.judging.specs.declared.Judged.{Judged}
 use Rattle.judging.specs.declared.Judged.the-variants.{Val, Err}
-use Rattle.judging.specs.Judging.{tokenAs, opened, Canon, heldAs, judgedAs, namedAs, faultAs, nameWord, nameOf, namesIn, bindingAt, boundIn, orNone, importAt, importsIn, place}
+use Rattle.judging.specs.Judging.{tokenAs, opened, Canon, heldAs, judgedAs, namedAs, faultAs, nameWord, nameOf, keyFrom, keyOf, namesIn, bindingAt, boundIn, orNone, importAt, importsIn, place}
+use Rattle.language.proofs.Tests.{both}
 use Rattle.language.proofs.TokensAt.{content-of, past-token}
 use Rattle.judging.proofs.Values.{some-kind}
+
+-- ---- keys
+
+module _ (w : List ℕ) (i k : ℕ) where
+  pub key-step : i < length w → keyFrom (k % 288230376151711744 * 31 + getD w i 0) (drop (i + 1) w) ≡ keyFrom k (drop i w)
+  unfolding keyFrom
+  key-step h = let next : i + 1 ≡ suc i = omega arith in rw (next, drop-cons w i 0 h)
+
+  pub key-end : length w ≤ i → k ≡ keyFrom k (drop i w)
+  unfolding keyFrom
+  key-end h = rw (drop-of-length-le w h)
+
+same-key : (v w : List ℕ) (k : ℕ) → same v w ≡ true → keyFrom k v ≡ keyFrom k w
+unfolding keyFrom
+same-key [] [] k e = refl
+same-key [] (y ∷ ys) k e = absurd (false≢true e)
+same-key (x ∷ xs) [] k e = absurd (false≢true e)
+same-key (x ∷ xs) (y ∷ ys) k e =
+    let h = both (eqb x y) (same xs ys) e in
+    rw (eqb-true x y (h .0)) (same-key xs ys (k % 288230376151711744 * 31 + y) (h .1))
+
+-- a name with another key is another
+pub other-key : (v w : List ℕ) {a b : ℕ} → a ≡ keyOf v → b ≡ keyOf w → (a ≡ b → ⊥) → false ≡ same v w
+other-key v w p q n = by (same v w) refl
+  where
+    by : (t : Bool) → same v w ≡ t → false ≡ t
+    by true e = absurd (n (p ∙ same-key v w 0 e ∙ sym q))
+    by false e = refl
 
 -- ---- the search
 

@@ -1,5 +1,5 @@
 -- How the words of the code stand for tokens, values, findings, names and trees.
-use Prim.Native.Nat.{ℕ, zero, suc, _+_, _*_, _≤_, _<_}
+use Prim.Native.Nat.{ℕ, zero, suc, _+_, _*_, _%_, _≤_, _<_}
 use mathlib.Core.Path.{_≡_}
 use mathlib.Core.Bool.{Bool, true, false, _&&_, _||_}
 use mathlib.Core.List.{List, [], _∷_}
@@ -218,6 +218,18 @@ module _ (s : List ℕ) (ws : List (List ℕ)) where
   importsIn zero i = []
   importsIn (suc k) i = importAt i ∷ importsIn k (i + 1)
 
+-- the key of a name. At each step so much of it is kept that the next stays below 2^63.
+unfoldable pub keyFrom : ℕ → List ℕ → ℕ
+keyFrom k [] = k
+keyFrom k (b ∷ bs) = keyFrom (k % 288230376151711744 * 31 + b) bs
+
+abbrev pub keyOf : List ℕ → ℕ
+keyOf bs = keyFrom 0 bs
+
+-- each of the used entries has the key of its name
+pub record Keyed (s : List ℕ) (ws : List (List ℕ)) (used : ℕ) : Type 0 where
+  pub key : (i : ℕ) → i < used → nameWord ws i 6 ≡ keyOf (nameOf s ws i)
+
 -- the number of the first name that is the same; how many there are where none is
 unfoldable pub place : List (List ℕ) → List ℕ → ℕ
 place [] w = 0
@@ -230,12 +242,14 @@ knownIn s bindings imports c = known (importsIn s imports (c .imported) 0) (boun
 pub record Knows (s : List ℕ) (bindings imports : List (List ℕ)) (c : Counts) (k : Known) : Type 0 where
   pub is : k ≡ knownIn s bindings imports c
 
--- the tables have the entries that are counted, and each value is as it was written
+-- the tables have the entries that are counted, each value is as it was written, and each name has its key
 pub record Ready (s toks : List ℕ) (bindings imports : List (List ℕ)) (c : Counts) : Type 0 where
   pub lexed : Lexed s toks
   pub bound : c .used ≤ length bindings
   pub modules : c .imported ≤ length imports
   pub sound : (i : ℕ) → i < c .used → Canon (nameWord bindings i 3) (nameWord bindings i 4) (nameWord bindings i 5)
+  pub keyed : Keyed s bindings (c .used)
+  pub keyed-modules : Keyed s imports (c .imported)
 
 -- ---- judgements
 

@@ -9,13 +9,14 @@ ghost use mathlib.Core.List.{List, []};
 ghost use Prim.Native.Nat.{ℕ, _+_, _*_, _<_, _≤_};
 ghost use lib.ListN.{length, getD};
 ghost use Rattle.table.specs.Table.{putRow};
+ghost use Rattle.language.specs.Lexemes.{same};
 ghost use Rattle.language.specs.Tokens.{tokens, contents};
 ghost use Rattle.language.specs.Numbers.{tokenOf};
 ghost use Rattle.language.specs.Sentences.{Expr, slash′};
 ghost use Rattle.language.specs.Values.{entryAt};
 ghost use Rattle.language.specs.Judgements.{Known, nameAt, literalAt, err, unknownItem, lastItem, walk, judge};
 ghost use Rattle.constants.specs.Constants.{tableRows};
-ghost use Rattle.judging.specs.Judging.{tokenAs, rowToken, Lexed, valueAs, sock4As, judgedAs, namedAs, TypeShown, TypeText, TypedFault, truncatedAs, faultRow, isIntegral, namesIn, place, heldAs, LocalIs, PathIs, Ready, Knows, Agrees, LeafIs, Members, Operand, Narrows, Integral, word, RepAt, Fits, SlashFits, plusWarnings};
+ghost use Rattle.judging.specs.Judging.{tokenAs, rowToken, Lexed, valueAs, sock4As, judgedAs, namedAs, TypeShown, TypeText, TypedFault, truncatedAs, faultRow, isIntegral, keyOf, nameWord, nameOf, Keyed, namesIn, place, heldAs, LocalIs, PathIs, Ready, Knows, Agrees, LeafIs, Members, Operand, Narrows, Integral, word, RepAt, Fits, SlashFits, plusWarnings};
 use constants::Constants;
 use wide::Wide;
 
@@ -275,19 +276,46 @@ pub fn put_diag(diags: &mut [u64], row: usize, f: Fault)
 
 // ---- names
 
-// A table of names has entries of six words: where the name starts and ends in the source, its token, and three words of
-// what it stands for, which are a value or the number of a module; 0 where its statement failed.
+// A table of names has entries of seven words: where the name starts and ends in the source, its token, three words of what
+// it stands for, which are a value or the number of a module, 0 where its statement failed; and the name's key.
+
+// A number made of a name's bytes: where two keys differ, so do the names. What is kept of it at each step leaves room for
+// the next byte.
+pub fn key_of(name: &[u8]) -> u64
+    ensures { λ r. ⌜ r ≡ keyOf (now (name .entry)) ⌝ }
+{
+    let mut key: u64 = 0;
+    let mut i = 0;
+    while i < name.len() {
+        key = (key % 288230376151711744) * 31 + name[i] as u64;
+        i += 1;
+    }
+    key
+}
+
+// Whether entry i has a name. An entry with another key is passed without a look at its bytes.
+fn is_named(source: &[u8], entries: &[[u64; 7]], i: usize, key: u64, name: &[u8]) -> bool
+    requires { ⌜ i < length (now entries) ⌝ }
+    ensures { λ r. ⌜ (nameWord (now (entries .entry)) i 6 ≡ keyOf (nameOf (now (source .entry)) (now (entries .entry)) i) → key ≡ keyOf (now (name .entry))
+        → r ≡ same (nameOf (now (source .entry)) (now (entries .entry)) i) (now (name .entry))) ⌝ }
+{
+    if entries[i][6] != key {
+        return false;
+    }
+    let a = entries[i][0] as usize;
+    let e = entries[i][1] as usize;
+    constants::same(constants::part(source, a, e), name)
+}
 
 // The first of the used entries with a name: its number, or `used` where there is none.
-pub fn find(source: &[u8], entries: &[[u64; 6]], used: usize, name: &[u8]) -> usize
-    requires { ⌜ used ≤ length (now entries) ⌝ }
+pub fn find(source: &[u8], entries: &[[u64; 7]], used: usize, name: &[u8]) -> usize
+    requires { ⌜ (used ≤ length (now entries)) × Keyed (now source) (now entries) used ⌝ }
     ensures { λ r. ⌜ r ≡ place (namesIn (now (source .entry)) (now (entries .entry)) used 0) (now (name .entry)) ⌝ }
 {
+    let key = key_of(name);
     let mut i = 0;
     while i < used {
-        let a = entries[i][0] as usize;
-        let e = entries[i][1] as usize;
-        if constants::same(constants::part(source, a, e), name) {
+        if is_named(source, entries, i, key, name) {
             return i;
         }
         i += 1;
@@ -306,8 +334,8 @@ fn held(kind: u64, lo: u64, hi: u64) -> Judged
 }
 
 // A name that stands for its value.
-fn local(source: &[u8], bindings: &[[u64; 6]], used: usize, tok: Token) -> Judged
-    requires { ⌜ used ≤ length (now bindings) ⌝ }
+fn local(source: &[u8], bindings: &[[u64; 7]], used: usize, tok: Token) -> Judged
+    requires { ⌜ (used ≤ length (now bindings)) × Keyed (now source) (now bindings) used ⌝ }
     ensures { λ r. ⌜ LocalIs (now (source .entry)) (now (bindings .entry)) used tok r ⌝ }
 {
     let i = find(source, bindings, used, name_at(source, tok));
@@ -372,8 +400,8 @@ fn last_item(rows: &[u64; 54], tok: Token, k: u64) -> Judged
 }
 
 // `module::inner*::item`, through the imports.
-fn path(source: &[u8], toks: &[u64], imports: &[[u64; 6]], imported: usize, t: u64, names: u64) -> Judged
-    requires { ⌜ Lexed (now source) (now toks) × (imported ≤ length (now imports)) ⌝ }
+fn path(source: &[u8], toks: &[u64], imports: &[[u64; 7]], imported: usize, t: u64, names: u64) -> Judged
+    requires { ⌜ Lexed (now source) (now toks) × (imported ≤ length (now imports)) × Keyed (now source) (now imports) imported ⌝ }
     ensures { λ r. ⌜ PathIs (now (source .entry)) (now (imports .entry)) imported t names r ⌝ }
 {
     let tok = token_at(toks, t);
@@ -445,7 +473,7 @@ pub fn word(nodes: &[u64], i: usize, j: usize) -> u64
 }
 
 // An expression that holds no other: row i, of a kind below 6.
-fn leaf(source: &[u8], toks: &[u64], nodes: &[u64], bindings: &[[u64; 6]], imports: &[[u64; 6]], i: usize, counts: Counts) -> Judged
+fn leaf(source: &[u8], toks: &[u64], nodes: &[u64], bindings: &[[u64; 7]], imports: &[[u64; 7]], i: usize, counts: Counts) -> Judged
     requires { ⌜ Ready (now source) (now toks) (now bindings) (now imports) counts ⌝ }
     requires { ⌜ 5 * i + 5 ≤ length (now nodes) ⌝ }
     ensures { λ r. ⌜ ((n : ℕ) (k : Known) (e : Expr) → Knows (now (source .entry)) (now (bindings .entry)) (now (imports .entry)) counts k
@@ -555,7 +583,7 @@ fn integral(toks: &[u64], diags: &mut [u64], ip: u64, t: u64, right: Judgement) 
 }
 
 // `left / right`, after its left operand was judged: row i.
-fn slash(source: &[u8], toks: &[u64], nodes: &[u64], bindings: &[[u64; 6]], imports: &[[u64; 6]], diags: &mut [u64], i: usize, left: Judgement) -> Judgement
+fn slash(source: &[u8], toks: &[u64], nodes: &[u64], bindings: &[[u64; 7]], imports: &[[u64; 7]], diags: &mut [u64], i: usize, left: Judgement) -> Judgement
     requires { ⌜ Ready (now source) (now toks) (now bindings) (now imports) (left .counts) ⌝ }
     requires { ⌜ SlashFits (now nodes) i (left .counts .errors + left .counts .warnings) ⌝ }
     ensures { λ r. ⌜ ((n : ℕ) (k : Known) (a b : Expr) (x : List ℕ) (c : Counts) → Knows (now (source .entry)) (now (bindings .entry)) (now (imports .entry)) (left .counts) k
@@ -583,7 +611,7 @@ fn slash(source: &[u8], toks: &[u64], nodes: &[u64], bindings: &[[u64; 6]], impo
 }
 
 // Judges the expression at row i.
-pub fn judge(source: &[u8], toks: &[u64], nodes: &[u64], bindings: &[[u64; 6]], imports: &[[u64; 6]], diags: &mut [u64], i: usize, counts: Counts) -> Judgement
+pub fn judge(source: &[u8], toks: &[u64], nodes: &[u64], bindings: &[[u64; 7]], imports: &[[u64; 7]], diags: &mut [u64], i: usize, counts: Counts) -> Judgement
     requires { ⌜ Ready (now source) (now toks) (now bindings) (now imports) counts ⌝ }
     requires { ⌜ Fits (now nodes) i (counts .errors + counts .warnings) ⌝ }
     ensures { λ r. ⌜ ((n : ℕ) (k : Known) (e : Expr) → Knows (now (source .entry)) (now (bindings .entry)) (now (imports .entry)) counts k

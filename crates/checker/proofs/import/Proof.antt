@@ -14,6 +14,7 @@ use Rattle.checker.proofs.import.Reads as reads
 use Rattle.checker.proofs.import.Lts as lts
 use Rattle.checker.proofs.error.Reads as error-reads
 use Rattle.checker.proofs.imported_one.Reads as imported-one-reads
+use Rattle.checker.proofs.key_at.Reads as key-at-reads
 use Rattle.checker.proofs.module_at.Reads as module-at-reads
 use Rattle.checker.proofs.name_span.Reads as name-span-reads
 use Rattle.checker.proofs.put_entry.Reads as put-entry-reads
@@ -59,6 +60,9 @@ module-at-requires c κs = search needs
 name-span-requires : tie.Need-name-span-requires
 name-span-requires c κs = search needs
 
+key-at-requires : tie.Need-key-at-requires
+key-at-requires c κs = search needs
+
 put-entry-requires : tie.Need-put-entry-requires
 put-entry-requires c κs = search needs
 
@@ -69,7 +73,7 @@ named-requires-2 : tie.Need-named-requires-2
 named-requires-2 c κs = search needs
 
 error-requires : tie.Need-error-requires
-error-requires c κs = omega (arith, c .before .before .before .before .before .before .before .before .before .before .before .before .before .before .before .before .before .before .pre .1 .findings, ap (λ (l : Counts). l .errors + l .warnings) (c .before .before .before .imported-one .ensures))
+error-requires c κs = omega (arith, c .before .before .before .before .before .before .before .before .before .before .before .before .before .before .before .before .before .before .before .pre .1 .findings, ap (λ (l : Counts). l .errors + l .warnings) (c .before .before .before .imported-one .ensures))
 
 same-length-4 : tie.Need-same-length-4
 same-length-4 c = search needs
@@ -78,13 +82,32 @@ same-length-5 : tie.Need-same-length-5
 same-length-5 c = search needs
 
 returns-3 : tie.Need-returns-3
-returns-3 c = λ n k b u kn rd. turn-failed (c .before .before .before .before .before .before .before .before .before .before .before .before .before .before .before .before .before .before .before .before .before .args .source .now) (c .before .before .before .before .before .before .before .before .before .before .before .before .before .before .before .before .before .before .before .before .before .args .toks .now) n (c .before .before .before .before .before .before .before .before .before .before .before .before .before .before .before .before .before .before .before .before .before .args .t) k b (c .before .before .before .before .before .before .before .before .before .before .before .before .before .before .before .before .before .before .before .before .before .args .imports .now) u (c .before .before .before .before .before .before .before .before .before .before .before .before .before .before .before .before .before .before .before .before .before .args .diags .now) (c .before .before .before .before .before .before .before .before .before .before .before .before .before .before .before .before .before .before .before .before .before .args .counts) kn rd _ _ (c .before .before .before .before .before .before .before .before .before .before .before .before .before .before .find .ensures) (c .before .before .before .before .before .before .before .before .before .before .before .before .before .before .before .name-at .ensures (c .before .before .before .before .before .before .before .before .before .before .before .before .before .before .before .before .before .before .before .before .before .args .t) (c .before .before .before .before .before .before .before .before .before .before .before .before .before .before .before .before .before .token-at .ensures _ (c .before .before .before .before .before .before .before .before .before .before .before .before .before .before .before .before .before .before .before .before .before .pre .0 .0))) (c .before .before .before .before .before .before .before .before .before .before .before .before .before .if1 .left) (omega (arith, c .before .before .before .before .before .before .before .before .before .before .before .before .if2 .left)) (c .before .before .before .before .before .before .before .before .before .before .before .before .before .before .before .before .before .before .before .before .before .pre .0 .1) (c .before .before .before .before .before .before .before .before .before .name-span .result .start) (c .before .before .before .before .before .before .before .before .before .name-span .result .end) (c .before .before .before .before .before .before .before .before .before .before .before .module-at .result) _ (c .before .before .before .before .before .before .before .before .before .name-span .ensures _ _ (c .before .before .before .before .before .before .before .before .before .before .before .before .before .before .before .before .before .token-at .ensures _ (c .before .before .before .before .before .before .before .before .before .before .before .before .before .before .before .before .before .before .before .before .before .pre .0 .0))) (c .before .before .before .before .before .before .before .before .before .before .before .module-at .ensures _ (c .before .before .before .before .before .before .before .before .before .before .before .before .before .before .before .before .before .token-at .ensures _ (c .before .before .before .before .before .before .before .before .before .before .before .before .before .before .before .before .before .before .before .before .before .pre .0 .0))) (c .before .before .before .before .before .before .before .before .put-entry .ensures) (c .before .before .before .before .before .if3 .taken) (c .before .before .before .named2 .ensures ∙ no-module _ _ (c .before .before .before .before .before .before .before .before .before .before .before .before .before .before .before .before .before .token-at .ensures _ (c .before .before .before .before .before .before .before .before .before .before .before .before .before .before .before .before .before .before .before .before .before .pre .0 .0))) (c .before .before .error .ensures .0 ∙ ap plusError (c .before .before .before .before .before .before .imported-one .ensures)) (c .before .before .error .ensures .1 ∙ ap (λ (l : Counts). putRow (c .before .before .before .before .before .before .before .before .before .before .before .before .before .before .before .before .before .before .before .before .before .args .diags .now) (l .errors + l .warnings) (faultRow (c .before .before .before .named2 .result))) (c .before .before .before .before .before .before .imported-one .ensures))
+returns-3 c =
+    let more = c .before .before .before .before .before .before in
+    let put = more .before .before in
+    let start = c .before .before .before .before .before .before .before .before .before .before .before .before .before .before .before .before .before .before .before .before .before .before in
+    let tok = c .before .before .before .before .before .before .before .before .before .before .before .before .before .before .before .before .before .before .token-at .ensures _ (start .pre .0 .0) in
+    λ n k b u kn rd. turn-failed (start .args .source .now) (start .args .toks .now) n (start .args .t) k b (start .args .imports .now) u (start .args .diags .now) (start .args .counts) kn rd _ _
+      (c .before .before .before .before .before .before .before .before .before .before .before .before .before .before .before .find .ensures) (c .before .before .before .before .before .before .before .before .before .before .before .before .before .before .before .before .name-at .ensures (start .args .t) tok) (c .before .before .before .before .before .before .before .before .before .before .before .before .before .before .if1 .left)
+      (omega (arith, c .before .before .before .before .before .before .before .before .before .before .before .before .before .if2 .left)) (start .pre .0 .1) (put .before .before .name-span .result .start) (put .before .before .name-span .result .end)
+      (put .before .key-at .result) (c .before .before .before .before .before .before .before .before .before .before .before .before .module-at .result) _ (put .before .before .name-span .ensures _ _ tok) (put .before .key-at .ensures _ tok)
+      (c .before .before .before .before .before .before .before .before .before .before .before .before .module-at .ensures _ tok) (put .put-entry .ensures) (c .before .before .before .before .before .if3 .taken)
+      (c .before .before .before .named2 .ensures ∙ no-module _ _ tok) (c .before .before .error .ensures .0 ∙ ap plusError (more .imported-one .ensures))
+      (c .before .before .error .ensures .1 ∙ ap (λ (l : Counts). putRow (start .args .diags .now) (l .errors + l .warnings) (faultRow (c .before .before .before .named2 .result))) (more .imported-one .ensures))
 
 same-length-6 : tie.Need-same-length-6
 same-length-6 c = search needs
 
 returns-4 : tie.Need-returns-4
-returns-4 c = λ n k b u kn rd. turn-found (c .before .before .before .before .before .before .before .before .before .before .before .before .before .before .before .before .args .source .now) (c .before .before .before .before .before .before .before .before .before .before .before .before .before .before .before .before .args .toks .now) n (c .before .before .before .before .before .before .before .before .before .before .before .before .before .before .before .before .args .t) k b (c .before .before .before .before .before .before .before .before .before .before .before .before .before .before .before .before .args .imports .now) u (c .before .before .before .before .before .before .before .before .before .before .before .before .before .before .before .before .args .diags .now) (c .before .before .before .before .before .before .before .before .before .before .before .before .before .before .before .before .args .counts) kn rd _ _ (c .before .before .before .before .before .before .before .before .before .find .ensures) (c .before .before .before .before .before .before .before .before .before .before .name-at .ensures (c .before .before .before .before .before .before .before .before .before .before .before .before .before .before .before .before .args .t) (c .before .before .before .before .before .before .before .before .before .before .before .before .token-at .ensures _ (c .before .before .before .before .before .before .before .before .before .before .before .before .before .before .before .before .pre .0 .0))) (c .before .before .before .before .before .before .before .before .if1 .left) (omega (arith, c .before .before .before .before .before .before .before .if2 .left)) (c .before .before .before .before .before .before .before .before .before .before .before .before .before .before .before .before .pre .0 .1) (c .before .before .before .before .name-span .result .start) (c .before .before .before .before .name-span .result .end) (c .before .before .before .before .before .before .module-at .result) _ (c .before .before .before .before .name-span .ensures _ _ (c .before .before .before .before .before .before .before .before .before .before .before .before .token-at .ensures _ (c .before .before .before .before .before .before .before .before .before .before .before .before .before .before .before .before .pre .0 .0))) (c .before .before .before .before .before .before .module-at .ensures _ (c .before .before .before .before .before .before .before .before .before .before .before .before .token-at .ensures _ (c .before .before .before .before .before .before .before .before .before .before .before .before .before .before .before .before .pre .0 .0))) (c .before .before .before .put-entry .ensures) (c .if3 .left) (c .before .imported-one .ensures)
+returns-4 c =
+    let put = c .before .before .before in
+    let start = c .before .before .before .before .before .before .before .before .before .before .before .before .before .before .before .before .before in
+    let tok = c .before .before .before .before .before .before .before .before .before .before .before .before .before .token-at .ensures _ (start .pre .0 .0) in
+    λ n k b u kn rd. turn-found (start .args .source .now) (start .args .toks .now) n (start .args .t) k b (start .args .imports .now) u (start .args .diags .now) (start .args .counts) kn rd _ _
+      (c .before .before .before .before .before .before .before .before .before .before .find .ensures) (c .before .before .before .before .before .before .before .before .before .before .before .name-at .ensures (start .args .t) tok) (c .before .before .before .before .before .before .before .before .before .if1 .left)
+      (omega (arith, c .before .before .before .before .before .before .before .before .if2 .left)) (start .pre .0 .1) (put .before .before .name-span .result .start) (put .before .before .name-span .result .end)
+      (put .before .key-at .result) (c .before .before .before .before .before .before .before .module-at .result) _ (put .before .before .name-span .ensures _ _ tok) (put .before .key-at .ensures _ tok)
+      (c .before .before .before .before .before .before .before .module-at .ensures _ tok) (put .put-entry .ensures) (c .if3 .left) (c .before .imported-one .ensures)
 
 pub import-spec : {M : Type 1} → statement M
 import-spec =
@@ -102,6 +125,7 @@ import-spec =
     returns-2
     module-at-requires
     name-span-requires
+    key-at-requires
     put-entry-requires
     imported-one-requires
     named-requires-2

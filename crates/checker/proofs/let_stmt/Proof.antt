@@ -12,6 +12,7 @@ use Rattle.checker.proofs.let_stmt.Reads as reads
 use Rattle.checker.proofs.let_stmt.Lts as lts
 use Rattle.checker.proofs.bind.Reads as bind-reads
 use Rattle.checker.proofs.error.Reads as error-reads
+use Rattle.checker.proofs.key_at.Reads as key-at-reads
 use Rattle.checker.proofs.name_span.Reads as name-span-reads
 use Rattle.judging.proofs.find.Reads as find-reads
 use Rattle.judging.proofs.judge.Reads as judge-reads
@@ -88,13 +89,16 @@ judge-requires c κs =
 name-span-requires : tie.Need-name-span-requires
 name-span-requires c κs = search needs
 
+key-at-requires : tie.Need-key-at-requires
+key-at-requires c κs = search needs
+
 bind-requires : tie.Need-bind-requires
 bind-requires c κs =
-    let start = c .before .before .before .before .before .before .before .before .before .before .before .before .before .before .before .before .before .before .before .before in
+    let start = c .before .before .before .before .before .before .before .before .before .before .before .before .before .before .before .before .before .before .before .before .before in
     let known = knownIn (start .args .source .now) (start .args .bindings .now) (start .args .imports .now) (start .args .counts) in
-    let rep = at-row (c .before .before .before .before .before .before .before .before .word2 .ensures) (start .pre .1 .0 .rep) in
-    let agrees = c .before .before .before .before .before .judge .ensures 0 known (start .pre .1 .0 .tree) (record { is = refl }) rep in
-    let used = used-after agrees (omega (arith, c .before .before .before .before .before .before .before .before .before .if2 .left)) in
+    let rep = at-row (c .before .before .before .before .before .before .before .before .before .word2 .ensures) (start .pre .1 .0 .rep) in
+    let agrees = c .before .before .before .before .before .before .judge .ensures 0 known (start .pre .1 .0 .tree) (record { is = refl }) rep in
+    let used = used-after agrees (omega (arith, c .before .before .before .before .before .before .before .before .before .before .if2 .left)) in
     ((used, omega (arith, start .pre .0 .1)), room-after (start .pre .1 .0) (start .args .source .now) 0 known agrees)
 
 same-length-4 : tie.Need-same-length-4
@@ -105,14 +109,15 @@ same-length-5 c = search needs
 
 returns-3 : tie.Need-returns-3
 returns-3 c =
-    let start = c .before .before .before .before .before .before .before .before .before .before .before .before .before .before .before .before .before .before .before .before .before .before .before .before in
-    let tok = c .before .before .before .before .before .before .before .before .before .before .before .before .before .before .before .before .before .before .token-at .ensures _ (start .pre .0 .0 .lexed) in
-    λ n k e u kn rep. turn-bound (start .args .source .now) (start .args .toks .now) n _ _ (c .before .before .before .before .before .before .before .before .before .before .before .before .before .before .before .before .before .before .before .word .ensures) k e (start .args .bindings .now)
-      (start .args .imports .now) u (start .args .diags .now) (start .args .counts) kn (start .pre .0 .0) _ _ (c .before .before .before .before .before .before .before .before .before .before .before .before .before .before .before .find .ensures)
-      (c .before .before .before .before .before .before .before .before .before .before .before .before .before .before .before .before .name-at .ensures _ tok) (c .before .before .before .before .before .before .before .before .before .before .before .before .before .before .if1 .left)
-      (omega (arith, c .before .before .before .before .before .before .before .before .before .before .before .before .before .if2 .left))
-      (c .before .before .before .bind .ensures .is _ _ _ _ u n k _ e kn (start .pre .0 .0) (c .before .before .before .before .name-span .ensures _ _ tok)
-        (c .before .before .before .before .before .before .before .before .before .judge .ensures n k e kn (at-row (c .before .before .before .before .before .before .before .before .before .before .before .before .word2 .ensures) rep)))
+    let start = c .before .before .before .before .before .before .before .before .before .before .before .before .before .before .before .before .before .before .before .before .before .before .before .before .before in
+    let tok = c .before .before .before .before .before .before .before .before .before .before .before .before .before .before .before .before .before .before .before .token-at .ensures _ (start .pre .0 .0 .lexed) in
+    λ n k e u kn rep. turn-bound (start .args .source .now) (start .args .toks .now) n _ _ (c .before .before .before .before .before .before .before .before .before .before .before .before .before .before .before .before .before .before .before .before .word .ensures) k e (start .args .bindings .now)
+      (start .args .imports .now) u (start .args .diags .now) (start .args .counts) kn (start .pre .0 .0) _ _ (c .before .before .before .before .before .before .before .before .before .before .before .before .before .before .before .before .find .ensures)
+      (c .before .before .before .before .before .before .before .before .before .before .before .before .before .before .before .before .before .name-at .ensures _ tok) (c .before .before .before .before .before .before .before .before .before .before .before .before .before .before .before .if1 .left)
+      (omega (arith, c .before .before .before .before .before .before .before .before .before .before .before .before .before .before .if2 .left))
+      (c .before .before .before .bind .ensures .is _ _ _ _ u n k _ e kn (start .pre .0 .0) (c .before .before .before .before .before .name-span .ensures _ _ tok)
+        (c .before .before .before .before .key-at .ensures _ tok)
+        (c .before .before .before .before .before .before .before .before .before .before .judge .ensures n k e kn (at-row (c .before .before .before .before .before .before .before .before .before .before .before .before .before .word2 .ensures) rep)))
 
 pub let-stmt-spec : {M : Type 1} → statement M
 let-stmt-spec =
@@ -136,6 +141,7 @@ let-stmt-spec =
     word-requires-2
     judge-requires
     name-span-requires
+    key-at-requires
     bind-requires
     same-length-4
     same-length-5

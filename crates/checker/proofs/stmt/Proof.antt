@@ -21,7 +21,7 @@ import-requires : tie.Need-import-requires
 import-requires c κs =
     let start = c .before .before .before .before .before .before .before .before .before .before in
     let kind = sym (c .before .before .before .before .word .ensures) ∙ c .before .before .before .match .keys1 in
-    ((start .pre .0 .0 .lexed, omega (arith, start .pre .0 .2), omega (arith, start .pre .0 .0 .modules, start .pre .0 .2)),
+    ((start .pre .0 .0 .lexed, omega (arith, start .pre .0 .2), omega (arith, start .pre .0 .0 .modules, start .pre .0 .2), start .pre .0 .0 .keyed-modules),
       import-room (start .pre .1 .1) (start .pre .1 .0) kind)
 
 let-stmt-requires : tie.Need-let-stmt-requires

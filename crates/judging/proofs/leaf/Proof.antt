@@ -29,13 +29,13 @@ token-at-requires : tie.Need-token-at-requires
 token-at-requires c κs = some-row (c .before .before .before .before .before .before .pre .0 .lexed)
 
 local-requires : tie.Need-local-requires
-local-requires c κs = c .before .before .before .before .before .before .before .pre .0 .bound
+local-requires c κs = let ready = c .before .before .before .before .before .before .before .pre .0 in (ready .bound, ready .keyed)
 
 word-requires-3 : tie.Need-word-requires-3
 word-requires-3 c κs = search needs
 
 path-requires : tie.Need-path-requires
-path-requires c κs = (c .before .before .before .before .before .before .before .pre .0 .lexed, c .before .before .before .before .before .before .before .pre .0 .modules)
+path-requires c κs = let ready = c .before .before .before .before .before .before .before .pre .0 in (ready .lexed, ready .modules, ready .keyed-modules)
 
 returns : tie.Need-returns
 returns c = λ n k e kn rep l. leaf-literal (c .before .before .before .before .before .before .before .args .source .now) n k rep (c .before .before .before .word .ensures) (sym (c .before .before .word2 .ensures) ∙ c .before .match .keys1) (c .literal .ensures _ (c .before .before .before .before .before .before .before .pre .0 .lexed))
