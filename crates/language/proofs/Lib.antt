@@ -41,6 +41,9 @@ pub mod NodeClaims
 pub mod RowClaims
 pub mod ParseClaims
 pub mod SentenceRefusals
+pub mod BoundsPlaces
+pub mod BoundsFreer
+pub mod Bounds
 pub mod DistinctNames
 pub mod Names
 pub mod ExactlyRows
