@@ -46,6 +46,7 @@ pub mod BoundsFreer
 pub mod Bounds
 pub mod DistinctNames
 pub mod Names
+pub mod NamesAscend
 pub mod ExactlyRows
 pub mod Exactly
 pub mod ExactlyFound
