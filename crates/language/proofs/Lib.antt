@@ -41,8 +41,12 @@ pub mod NodeClaims
 pub mod RowClaims
 pub mod ParseClaims
 pub mod SentenceRefusals
+pub mod BoundsPlaces
+pub mod BoundsFreer
+pub mod Bounds
 pub mod DistinctNames
 pub mod Names
+pub mod NamesAscend
 pub mod ExactlyRows
 pub mod Exactly
 pub mod ExactlyFound

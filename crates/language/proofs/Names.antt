@@ -248,7 +248,7 @@ module _ (ts : List Content) where
       by (goes k′ es gs) a f rest = reached-later us s ss (a .1) (rest k′ (ds ++ es) (hs ++ gs) (a .0) f)
 
   -- a statement has one name at the most
-  one-token : {u t : ℕ} (us : List Stmt) (s : Stmt) → TooMany ts us s u → TooMany ts us s t → u ≡ t
+  pub one-token : {u t : ℕ} (us : List Stmt) (s : Stmt) → TooMany ts us s u → TooMany ts us s t → u ≡ t
   one-token us (let′ v e) a b = sym (a .0) ∙ b .0
   one-token us (import′ v) a b = sym (a .0) ∙ b .0
   one-token us (expr′ e) a b = absurd a

@@ -2,9 +2,10 @@
 use mathlib.Core.Path.{_≡_, refl}
 use mathlib.Core.Bool.{true}
 use mathlib.Core.List.{List, [], _∷_}
-use Prim.Native.Nat.{ℕ}
+use Prim.Native.Nat.{ℕ, zero, suc}
 use Rattle.language.specs.Lexemes.{lParen, rParen, dot, doubleColon, colon, semiColon, equals, comma, slash, letKeyword, ipv4Literal, decLiteral, hexLiteral}
 use Rattle.language.specs.Tokens.{Content, eof, plain, name}
+use Rattle.language.specs.Bounds.{programIn, alone, stmtsIn, stmtIn, letIn, exprIn, listIn}
 use Rattle.language.specs.Sentences.{Out, ok, no, Stmt, let′, expr′, literal, sock4, local, path, member, call, slash′, none-given, given, named, program, stmtsFrom, stmtAt, letAt, importAt, exprOf, chainOf, listAt, argsOf, argOf, slashes, links, primary, address, named′, namesFrom, nodes, nodesFrom, node}
 
 a : Content
@@ -41,3 +42,27 @@ call-nodes : nodes (expr′ (call (path 0 1) 3 (named (given none-given (local 4
     ≡ node 1 2 0 0 0 ∷ node 5 0 1 0 0 ∷ node 4 4 0 0 0 ∷ node 9 4 2 0 0 ∷ node 2 8 0 0 0 ∷ node 10 6 4 4 0 ∷ node 8 0 1 6 3 ∷ node 13 0 6 0 0 ∷ []
 unfolding nodesFrom
 call-nodes = refl
+
+-- ---- the bounds
+
+-- two tokens so many times, and then some tokens
+times : ℕ → Content → Content → List Content → List Content
+times zero c d ts = ts
+times (suc n) c d ts = c ∷ d ∷ times n c d ts
+
+-- `a` with 65 steps, and then a `,`: the 65th step is refused, before the token that the grammar alone refuses
+step : (program (a ∷ times 65 (plain dot) a (plain comma ∷ eof ∷ [])) ≡ no 7 0 129)
+    × (alone (a ∷ times 65 (plain dot) a (plain comma ∷ eof ∷ [])) ≡ no 5 1 131)
+unfolding a times program programIn stmtsFrom stmtsIn stmtAt stmtIn letAt letIn importAt exprOf exprIn chainOf listAt listIn argsOf argOf slashes links primary address named′ namesFrom
+step = (refl, refl)
+
+-- `a (` 33 times, and then a `;`: so is the 33rd list
+deep : (program (times 33 a (plain lParen) (plain semiColon ∷ eof ∷ [])) ≡ no 7 0 65)
+    × (alone (times 33 a (plain lParen) (plain semiColon ∷ eof ∷ [])) ≡ no 5 1 66)
+unfolding a times program programIn stmtsFrom stmtsIn stmtAt stmtIn letAt letIn importAt exprOf exprIn chainOf listAt listIn argsOf argOf slashes links primary address named′ namesFrom
+deep = (refl, refl)
+
+-- the `,` before the 65 steps: it is refused
+comma-first : program (a ∷ plain comma ∷ a ∷ times 65 (plain dot) a (plain semiColon ∷ eof ∷ [])) ≡ no 5 1 1
+unfolding a times program stmtsFrom stmtAt letAt importAt exprOf chainOf listAt argsOf argOf slashes links primary address named′ namesFrom
+comma-first = refl

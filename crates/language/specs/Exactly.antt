@@ -45,7 +45,8 @@ abbrev pub parse : List ℕ → Out (List Stmt)
 parse s = program (contents (tokens s))
 
 -- parsing stops at a token: with 5 for "`UnexpectedToken` or the parser's `IntOutOfRange`", which its kind says, and with 7 at
--- "a 33rd open list or a 65th step". It goes from token to token and stops once: "the earlier token decides".
+-- "a 33rd open list or a 65th step". That "between 5 and 7 the earlier token decides" is `EarlierDecides` (Bounds.antt): where
+-- the grammar without bounds refuses a token, it is 5 there or 7 at a token before it.
 pub record Stops (n : ℕ) (s : List ℕ) : Type 0 where
   pub kind : ℕ
   pub token : ℕ

@@ -8,6 +8,7 @@ pub mod Canonical
 pub mod Tables
 pub mod Sentences
 pub mod Grammar
+pub mod Bounds
 pub mod Rows
 pub mod Values
 pub mod Judgements

@@ -1,6 +1,6 @@
 -- When number 9 is given (01, "Numbers handed back"): "a 513th distinct let name or 65th distinct import name, failed ones
 -- counted", over statements and contents alone. Nothing is judged here, so names that fail are counted like the others.
-use Prim.Native.Nat.{ℕ}
+use Prim.Native.Nat.{ℕ, _≤_, _<_}
 use mathlib.Core.Path.{_≡_}
 use mathlib.Core.List.{List, [], _∷_, _++_, List·Memᴰ}
 use mathlib.Core.Logic.{_↔_}
@@ -8,7 +8,7 @@ use lib.ListN.{length}
 use Rattle.language.specs.Choice.{if′}
 use Rattle.language.specs.Lexemes.{same}
 use Rattle.language.specs.Tokens.{Content}
-use Rattle.language.specs.Sentences.{Stmt, import′, let′, expr′}
+use Rattle.language.specs.Sentences.{Stmt, import′, let′, expr′, ok, program}
 use Rattle.language.specs.Judgements.{nameAt, refused, judgeAll}
 
 -- names other than w
@@ -46,7 +46,7 @@ module _ (ts : List Content) where
   TooMany us (import′ t) u = (t ≡ u) × NewAfter 64 (importNames us) (nameAt ts t)
   TooMany us (expr′ e) u = ⊥
 
-  -- "the earlier such name", at the token t: no statement before has one
+  -- "the earlier such name", at the token t: no statement before has one. It is the earlier by tokens too: `EarlierName`.
   pub record FirstTooMany (ss : List Stmt) (t : ℕ) : Type 0 where
     pub before : List Stmt
     pub here : Stmt
@@ -55,8 +55,26 @@ module _ (ts : List Content) where
     pub tooMany : TooMany before here t
     pub first : (us : List Stmt) (s : Stmt) (vs : List Stmt) (u : ℕ) → before ≡ us ++ s ∷ vs → ¬ TooMany us s u
 
--- ---- the claim
+-- a statement has its name at the token u
+abbrev pub NamedAt : Stmt → ℕ → Type 0
+NamedAt (let′ t e) u = t ≡ u
+NamedAt (import′ t) u = t ≡ u
+NamedAt (expr′ e) u = ⊥
+
+-- ---- the claims
 
 -- judging refuses statements at a token exactly when this name stands there
 abbrev pub NamesRefused : Type 0
 NamesRefused = (ts : List Content) (ss : List Stmt) (t : ℕ) → judgeAll ts ss ≡ refused t ↔ FirstTooMany ts ss t
+
+-- of two statements of a program the one before has its name at the earlier token
+abbrev pub NamesAscend : Type 0
+NamesAscend =
+    (ts : List Content) (ss us vs ws : List Stmt) (s r : Stmt) (next x t u : ℕ) → program ts ≡ ok ss next x
+    → ss ≡ us ++ s ∷ vs ++ r ∷ ws → NamedAt s t → NamedAt r u → t < u
+
+-- so "the earlier such name" is that of the earlier token: no name that is one too many stands before it
+abbrev pub EarlierName : Type 0
+EarlierName =
+    (ts : List Content) (ss : List Stmt) (next x t : ℕ) → program ts ≡ ok ss next x → FirstTooMany ts ss t
+    → (us : List Stmt) (s : Stmt) (vs : List Stmt) (u : ℕ) → ss ≡ us ++ s ∷ vs → TooMany ts us s u → t ≤ u

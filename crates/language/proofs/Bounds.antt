@@ -1,0 +1,166 @@
+-- Between 5 and 7 the earlier token decides: what the bounds on lists and steps change, and where.
+use mathlib.Core.Path.{_≡_, refl, sym, ap, _∙_}
+use mathlib.Core.Bool.{true}
+use mathlib.Core.List.{List, [], _∷_, _++_}
+use mathlib.Core.Logic.{_⊎_, inl, inr}
+use Prim.Native.Nat.{ℕ, zero, suc, _+_, _≤_, _<_}
+use native.Mathlib.Omega.{arith}
+use lib.ListN.{length}
+use Rattle.language.specs.Lexemes.{lParen, dot, slash, semiColon, equals, importKeyword, letKeyword}
+use Rattle.language.specs.Tokens.{Content, eof, plain}
+use Rattle.language.specs.Sentences.{Expr, Args, none-given, Stmt, import′, let′, expr′, Out, ok, no, andThen, mostSteps, mostLists, is, isName, chainOf, exprOf, argsOf, listAt, ended, importAt, letAt, stmtAt, stmtsFrom, program}
+use Rattle.language.specs.Bounds.{exprIn, listIn, wholeIn, letIn, stmtIn, stmtsIn, programIn, alone, isStep, reached, BoundsMet, AloneStops, EarlierDecides, AsAlone, OneTooMany}
+use Rattle.language.proofs.Tests.{never, either, both-sides}
+use Rattle.language.proofs.SentenceOutcomes.{same-then, before-end}
+use Rattle.language.proofs.GrammarSound.{found-stmt}
+use Rattle.language.proofs.BoundsPlaces.{ended-on, stmts-on}
+use Rattle.language.proofs.BoundsFreer.{Freer, same, refused, stopped, Any, onward, whole-freer}
+
+-- ---- larger bounds, for statements
+
+module _ (ts : List Content) (d e n k : ℕ) (lists : d < e) (steps : n < k) where
+  ended-freer : (s : Stmt) (at : ℕ) → Freer ts Any (ended ts s at) (ended ts s at)
+  ended-freer s at = both-sides (Freer ts Any) (is ts at (plain semiColon)) (λ _. same tt) (λ _. refused)
+
+  import-freer : (at : ℕ) → Freer ts Any (importAt ts at) (importAt ts at)
+  unfolding importAt
+  import-freer at =
+      both-sides (Freer ts Any) (isName ts (at + 1)) (λ _. ended-freer (import′ (at + 1)) (at + 2)) (λ _. refused)
+
+  -- an expression that becomes a statement
+  stmt-as : (f : Expr → Stmt) (at : ℕ)
+      → Freer ts Any (andThen (wholeIn ts d n at) (λ r next x. ended ts (f r) next))
+      (andThen (wholeIn ts e k at) (λ r next x. ended ts (f r) next))
+  stmt-as f at =
+      onward ts (whole-freer ts n k steps d e at lists) (λ r next x y _. ended-freer (f r) next) (λ m r next x h. ended-on ts m (f r) next h)
+
+  let-freer : (at : ℕ) → Freer ts Any (letIn ts d n at) (letIn ts e k at)
+  unfolding letIn
+  let-freer at =
+      both-sides (Freer ts Any) (isName ts (at + 1))
+      (λ _. both-sides (Freer ts Any) (is ts (at + 2) (plain equals)) (λ _. stmt-as (λ r. let′ (at + 1) r) (at + 3)) (λ _. refused))
+      (λ _. refused)
+
+  stmt-freer : (at : ℕ) → Freer ts Any (stmtIn ts d n at) (stmtIn ts e k at)
+  unfolding stmtIn
+  stmt-freer at =
+      both-sides (Freer ts Any) (is ts at (plain importKeyword)) (λ _. import-freer at)
+      (λ _. both-sides (Freer ts Any) (is ts at (plain letKeyword)) (λ _. let-freer at) (λ _. stmt-as (λ r. expr′ r) at))
+
+  stmts-freer : (fuel : ℕ) (ss : List Stmt) (at : ℕ) → Freer ts _≡_ (stmtsIn ts d n fuel ss at) (stmtsIn ts e k fuel ss at)
+  unfolding stmtsIn
+  stmts-freer zero ss at = refused
+  stmts-freer (suc fuel) ss at =
+      both-sides (Freer ts _≡_) (is ts at eof) (λ _. same refl)
+      (λ _. onward ts (stmt-freer at) (λ s next x y _. stmts-freer fuel (ss ++ s ∷ []) next)
+      (λ m s next x h. stmts-on ts m e k fuel (ss ++ s ∷ []) next h))
+
+  program-freer : Freer ts _≡_ (programIn ts d n) (programIn ts e k)
+  unfolding programIn
+  program-freer = stmts-freer (suc (length ts)) [] 0
+
+-- ---- so a program comes to the same, and not to 7; or there is a step too many, and it is passed
+
+module _ (ts : List Content) where
+  abbrev Same : Out (List Stmt) → Out (List Stmt) → Type 0
+  Same o q = (o ≡ q) × ((n k t : ℕ) → o ≡ no n k t → n ≡ 5)
+
+  abbrev Passed : Out (List Stmt) → Out (List Stmt) → Type 0
+  Passed o q = (u : ℕ) × (o ≡ no 7 0 u) × (isStep ts u ≡ true) × (u < reached q)
+
+  told : {o q : Out (List Stmt)} → Freer ts _≡_ o q → Same o q ⊎ Passed o q
+  told (same {a} {at} {s} {t} h) = inl (ap (λ (x : ℕ). ok a at x) h, λ n k u e. never (cc))
+  told refused = inl (refl, λ n k t e. cc)
+  told (stopped {at} e h) = inr (at, refl, e, h .reaches)
+
+  freed : (a b c d : ℕ) → a < c → b < d → Same (programIn ts a b) (programIn ts c d) ⊎ Passed (programIn ts a b) (programIn ts c d)
+  freed a b c d h l = told (program-freer ts a c b d h l)
+
+  inside : (u : ℕ) → isStep ts u ≡ true → u < length ts
+  inside u e =
+      elim (either (is ts u (plain lParen)) _ e) [
+        | inl a ↦ before-end ts (plain lParen) refl a
+        | inr b ↦ elim (either (is ts u (plain dot)) _ b) [
+          | inl a ↦ before-end ts (plain dot) refl a
+          | inr a ↦ before-end ts (plain slash) refl a
+        ]
+      ]
+
+  -- with bounds of m and more there is no 7 before the token m
+  seven-after : (m a b u : ℕ) → m ≤ a → m ≤ b → programIn ts a b ≡ no 7 0 u → m ≤ u
+  seven-after zero a b u h l e = omega arith
+  seven-after (suc m) zero b u h l e = absurd (omega arith)
+  seven-after (suc m) (suc a) zero u h l e = absurd (omega arith)
+  seven-after (suc m) (suc a) (suc b) u h l e =
+      elim (freed a b (suc a) (suc b) (omega arith) (omega arith)) [
+        | inl f ↦ absurd (omega (arith, f .1 7 0 u (f .0 ∙ e)))
+        | inr f ↦ omega (arith, seven-after m a b (f .0) (omega arith) (omega arith) (f .1), rw e at (f .3))
+      ]
+
+  module _ (a b : ℕ) (h : length ts ≤ a) (l : length ts ≤ b) where
+    not-passed : (q : Out (List Stmt)) → ¬ Passed (programIn ts a b) q
+    not-passed q f = omega (arith, seven-after (length ts) a b (f .0) h l (f .1), inside (f .0) (f .2))
+
+    larger : (c d : ℕ) → a < c → b < d → Same (programIn ts a b) (programIn ts c d)
+    larger c d i j = elim (freed a b c d i j) [ inl f ↦ f | inr f ↦ absurd (not-passed (programIn ts c d) f) ]
+
+-- ---- the claims
+
+-- with 01's bounds it is the grammar of Sentences.antt
+list-met : (ts : List Content) (d : ℕ) → listAt ts d ≡ listIn ts mostSteps d
+unfolding listAt listIn exprOf exprIn
+list-met ts zero = refl
+list-met ts (suc d) =
+    ap (λ (l : ℕ → Out Args). λ (at : ℕ). argsOf ts (exprIn ts mostSteps (chainOf ts l)) (suc (length ts)) none-given (at + 1))
+    (list-met ts d)
+
+stmt-met : (ts : List Content) (at : ℕ) → stmtAt ts at ≡ stmtIn ts mostLists mostSteps at
+unfolding stmtAt stmtIn letAt letIn exprOf exprIn
+stmt-met ts at = rw (list-met ts mostLists)
+
+stmts-met : (ts : List Content) (fuel : ℕ) (ss : List Stmt) (at : ℕ)
+    → stmtsFrom ts fuel ss at ≡ stmtsIn ts mostLists mostSteps fuel ss at
+unfolding stmtsFrom stmtsIn
+stmts-met ts zero ss at = refl
+stmts-met ts (suc fuel) ss at =
+    both-sides _≡_ (is ts at eof) (λ _. refl)
+    (λ _. rw (← stmt-met ts at) (same-then (found-stmt ts at) (λ s next x _. stmts-met ts fuel (ss ++ s ∷ []) next)))
+
+pub bounds-met : BoundsMet
+unfolding program programIn
+bounds-met ts = stmts-met ts (suc (length ts)) [] 0
+
+pub alone-stops : AloneStops
+alone-stops ts = (from (length ts) (length ts) (omega arith) (omega arith) .1, λ lists steps h l.
+    larger ts lists steps h l (suc lists) (suc steps) (omega arith) (omega arith) .0 ∙ sym (from lists steps h l .0))
+  where
+    from : (lists steps : ℕ) → length ts ≤ lists → length ts ≤ steps → Same ts (alone ts) (programIn ts (suc lists) (suc steps))
+    from lists steps h l = larger ts (length ts) (length ts) (omega arith) (omega arith) (suc lists) (suc steps) (omega arith) (omega arith)
+
+-- 01's bounds, and none
+bounded : (ts : List Content) → Same ts (program ts) (alone ts) ⊎ Passed ts (program ts) (alone ts)
+bounded ts =
+    let c = mostLists + suc (length ts) in
+    let d = mostSteps + suc (length ts) in
+    let far : programIn ts c d ≡ alone ts = alone-stops ts .1 c d (omega arith) (omega arith) in
+    rw (bounds-met ts, ← far) (freed ts mostLists mostSteps c d (omega arith) (omega arith))
+
+pub earlier-decides : EarlierDecides
+earlier-decides ts = (
+  λ k t e. elim (bounded ts) [ inl f ↦ inl (f .0 ∙ e) | inr f ↦ inr (f .0, rw e at (f .3), f .1) ],
+  λ ss next x e. elim (bounded ts) [ inl f ↦ inl (f .0 ∙ e) | inr f ↦ inr (f .0, f .1) ],
+)
+
+pub as-alone : AsAlone
+as-alone ts = (
+  λ k t e. elim (bounded ts) [ inl f ↦ sym (f .0) ∙ e | inr f ↦ let z : _≡_ {A = ℕ} 5 7 = cc in absurd (omega (arith, z)) ],
+  λ ss next x e. elim (bounded ts) [ inl f ↦ sym (f .0) ∙ e | inr f ↦ never (cc) ],
+)
+
+pub one-too-many : OneTooMany
+one-too-many ts u e =
+    let i = sym (bounds-met ts) ∙ e in
+    elim (freed ts mostLists mostSteps (suc mostLists) (suc mostSteps) (omega arith) (omega arith)) [
+      | inl f ↦ absurd (omega (arith, f .1 7 0 u i))
+      | inr f ↦ let z : f .0 ≡ u = cc in rw (← z) (f .2, f .3)
+    ]
