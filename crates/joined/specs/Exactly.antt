@@ -26,11 +26,13 @@ GoesBy v rs =
 -- the room of a table is how many rows fit in its words, and that of a text its bytes; diagnostics that do not fit are no refusal
 abbrev pub ScanGives : Type 0
 ScanGives =
-    (line : List ℕ) (n : ℕ) (r : Scanned) (left : List ℕ) → ScanLine line n r left → GoesBy (r .verdict) (scanRows line (n / lexemeWidth))
+    (line : List ℕ) (n : ℕ) (r : Scanned) (left : List ℕ) → ScanLine line n r left
+    → GoesBy (r .verdict) (scanRows line (n / lexemeWidth))
 
 abbrev pub LexGives : Type 0
 LexGives =
-    (source : List ℕ) (n : ℕ) (r : Lexed) (left : List ℕ) → LexSource source n r left → GoesBy (r .verdict) (lexRows source (n / tokenWidth))
+    (source : List ℕ) (n : ℕ) (r : Lexed) (left : List ℕ) → LexSource source n r left
+    → GoesBy (r .verdict) (lexRows source (n / tokenWidth))
 
 abbrev pub ParseGives : Type 0
 ParseGives =
@@ -44,5 +46,6 @@ CanonGives =
 
 abbrev pub CheckGives : Type 0
 CheckGives =
-    (source : List ℕ) (t n d k : ℕ) (r : CheckAnswer) (toks tree found held : List ℕ) → CheckSource source t n d k r toks tree found held
+    (source : List ℕ) (t n d k : ℕ) (r : CheckAnswer) (toks tree found held : List ℕ)
+    → CheckSource source t n d k r toks tree found held
     → GoesBy (r .verdict) (checkRows source (t / tokenWidth) (n / nodeWidth) (k / stmtWidth))
