@@ -1,8 +1,9 @@
 -- The proofs of the claims of specs/Canonical.antt.
-use Prim.Native.Nat.{ℕ, _/_}
+use Prim.Native.Nat.{ℕ, _/_, _≤_}
 use mathlib.Core.Path.{_≡_, sym, ap, _∙_}
 use mathlib.Core.Bool.{Bool, true, false}
 use mathlib.Core.List.{List, [], List·Memᴰ, List·Memᴰ·not-nil}
+use native.Mathlib.Omega.{arith}
 use lib.Dec.{eqb}
 use lib.ListN.{length, take}
 use Rattle.table.specs.Table.{padTo}
@@ -24,7 +25,7 @@ use Rattle.language.proofs.Canonical.{round-trip, own-text, same-text}
 use Rattle.language.proofs.TokenContents.{contents-decide}
 use Rattle.language.proofs.ParseClaims.{text-parsed}
 use Rattle.language.proofs.CheckClaims.{text-checked}
-use Rattle.language.proofs.Done.{lex-done, lex-leaves, FitsIn, lexes-in, canon-done, canon-done-only, canon-leaves-tokens, canon-leaves-text}
+use Rattle.language.proofs.Done.{LexesIn, lex-done, lex-leaves, FitsIn, lexes-in, canon-done, canon-done-only, canon-leaves-tokens, canon-leaves-text}
 use Rattle.lex.specs.declared.Lexed.{Lexed}
 use Rattle.lex.specs.Lexing.{lexedAs}
 use Rattle.lex.specs.Entry.{LexSource}
@@ -68,30 +69,35 @@ module _ {s : List ℕ} {t n : ℕ} {r : Canonised} {toks left : List ℕ} (c : 
   as-many : length (tokens (text s)) ≡ length (tokens s)
   as-many = contents-decide (tokens (text s)) (tokens s) same .0
 
-  text-fits : FitsIn (text s) (t / tokenWidth) n
-  text-fits =
+  text-lexes-in : {room : ℕ} → r .tokens ≤ room → LexesIn (text s) room
+  text-lexes-in h = record { lexes = round-trip s (fits .fits) .0; fit = omega (arith, h, as-many, counted) }
+
+  text-fits : {room m : ℕ} → r .tokens ≤ room → r .bytes ≤ m → FitsIn (text s) room m
+  text-fits h b =
+      let l = text-lexes-in h in
       record {
-        fits = record { lexes = round-trip s (fits .fits) .0; short = rw own (fits .fits .short) };
-        tokens = rw as-many (fits .tokens);
-        bytes = rw own (fits .bytes);
+        fits = record { lexes = l .lexes; short = rw own (fits .fits .short) };
+        tokens = l .fit;
+        bytes = omega (arith, b, ap length own, ap (λ (x : Canonised). x .bytes) answer-is);
       }
 
-  lexed-again : {q : Lexed} {table : List ℕ} → LexSource (text s) t q table
+  lexed-again : {k : ℕ} {q : Lexed} {table : List ℕ} → LexSource (text s) k q table → r .tokens ≤ k / tokenWidth
       → (q .verdict .number ≡ 0) × (q .count ≡ r .tokens) × (contents (tokens (text s)) ≡ contents (tokens s))
       × SameRows s (text s) toks table
-  lexed-again {q} {table} l =
-      let h = lexes-in text-fits in
+  lexed-again {k = n} {q} {table} l room =
+      let h = text-lexes-in room in
       let e : q ≡ lexedAs (lexed (verdict 0 0 0) (length (tokens (text s)))) =
-      l .answer ∙ ap lexedAs (lex-done (text s) (t / tokenWidth) h) in
+      l .answer ∙ ap lexedAs (lex-done (text s) (n / tokenWidth) h) in
       let k : q .count ≡ length (tokens (text s)) = ap (λ (x : Lexed). x .count) e in
-      let all : Lexes (text s) table (q .count) = holds (text s) t h (l .table ∙ lex-leaves (text s) t h) k in
+      let all : Lexes (text s) table (q .count) = holds (text s) n h (l .table ∙ lex-leaves (text s) n h) k in
       (ap (λ (x : Lexed). x .verdict .number) e, k ∙ as-many ∙ sym counted, same, same-rows all-tokens all (sym same))
 
-  canonised-again : {q : Canonised} {table kept : List ℕ} → CanonSource (text s) t n q table kept → (q ≡ r) × (kept ≡ left)
-  canonised-again d =
-      let e = canon-done (text s) (t / tokenWidth) n text-fits in
-      (d .answer ∙ rw (e, as-many, own) (sym answer-is),
-      d .text ∙ canon-leaves-text (text s) t n text-fits ∙ rw own (sym text-is))
+  canonised-again : {k m : ℕ} {q : Canonised} {table kept : List ℕ} → CanonSource (text s) k m q table kept
+      → r .tokens ≤ k / tokenWidth → r .bytes ≤ m → (q ≡ r) × (kept ≡ padTo m (text s))
+  canonised-again {k} {m} d a b =
+      let h = text-fits a b in
+      (d .answer ∙ rw (canon-done (text s) (k / tokenWidth) m h, as-many, own) (sym answer-is),
+      d .text ∙ canon-leaves-text (text s) k m h ∙ ap (padTo m) own)
 
 -- ---- the claims
 
@@ -103,10 +109,11 @@ done-exactly source t n r toks left c =
     λ h. answers (record { fits = h .0; tokens = h .1; bytes = h .2 }))
 
 pub text-lexes : TextLexes
-text-lexes source t n r toks left c z q table l = rw (written c z) (lexed-again c z (rw (written c z) at l))
+text-lexes source t n r toks left c z k q table l h = rw (written c z) (lexed-again c z (rw (written c z) at l) h)
 
 pub text-stays : TextStays
-text-stays source t n r toks left c z q table kept d = canonised-again c z (rw (written c z) at d)
+text-stays source t n r toks left c z k m q table kept d a b =
+    rw (written c z) (canonised-again c z (rw (written c z) at d) a b)
 
 pub same-texts : SameTexts
 same-texts s u t n k m r q a b x y c d z w =
@@ -129,13 +136,13 @@ same-field : {A B : Type 0} (f : A → B) (answer : List ℕ → A) {s u : List 
 same-field f answer c d w e = ap f d ∙ ap (λ (v : List ℕ). f (answer v)) w ∙ e ∙ sym (ap f c)
 
 pub text-parses : TextParses
-text-parses s t n r toks left c z m p q a b x y f g =
+text-parses s t n r toks left c z j m p q a b x y f g =
     let w = written c z in
     let h = text-parsed s (fits c z .fits) in
-    let k = h .1 (t / tokenWidth) (m / nodeWidth) in
-    let answer : List ℕ → ParseAnswer = λ v. parsedAs (parseAnswer v (t / tokenWidth) (m / nodeWidth)) in
+    let k = h .1 (j / tokenWidth) (m / nodeWidth) in
+    let answer : List ℕ → ParseAnswer = λ v. parsedAs (parseAnswer v (j / tokenWidth) (m / nodeWidth)) in
     (
-      g .nodes ∙ ap (λ (v : List ℕ). parseNodes v t m) w ∙ h .0 t m ∙ sym (f .nodes),
+      g .nodes ∙ ap (λ (v : List ℕ). parseNodes v j m) w ∙ h .0 j m ∙ sym (f .nodes),
       same-field (λ (v : ParseAnswer). v .verdict .number) answer (f .answer) (g .answer) w (k .number),
       same-field (λ (v : ParseAnswer). v .verdict .kind) answer (f .answer) (g .answer) w (k .kind),
       same-field (λ (v : ParseAnswer). v .tokens) answer (f .answer) (g .answer) w (k .tokens),
@@ -166,13 +173,13 @@ same-left s l {t} {m} {d} {k} e f =
     }
 
 pub text-checks : TextChecks
-text-checks s t n r toks left c z m d k p q a b x y v w g h e f =
+text-checks s t n r toks left c z j m d k p q a b x y v w g h e f =
     let u = written c z in
     let l = text-checked s (fits c z .fits) in
-    let o = l .answer (t / tokenWidth) (m / nodeWidth) (k / stmtWidth) in
-    let answer : List ℕ → CheckAnswer = λ i. checkedAs (checkAnswer i (t / tokenWidth) (m / nodeWidth) (k / stmtWidth)) in
+    let o = l .answer (j / tokenWidth) (m / nodeWidth) (k / stmtWidth) in
+    let answer : List ℕ → CheckAnswer = λ i. checkedAs (checkAnswer i (j / tokenWidth) (m / nodeWidth) (k / stmtWidth)) in
     (
-      f .nodes ∙ ap (λ (i : List ℕ). checkNodes i t m k) u ∙ l .nodes t m k ∙ sym (e .nodes),
+      f .nodes ∙ ap (λ (i : List ℕ). checkNodes i j m k) u ∙ l .nodes j m k ∙ sym (e .nodes),
       same-field (λ (i : CheckAnswer). i .verdict .number) answer (e .answer) (f .answer) u (o .number),
       same-field (λ (i : CheckAnswer). i .verdict .kind) answer (e .answer) (f .answer) u (o .kind),
       same-field (λ (i : CheckAnswer). i .tokens) answer (e .answer) (f .answer) u (o .tokens),

@@ -4,7 +4,7 @@ use Prim.Native.Nat.{ℕ, _+_, _*_, _/_, _≤_}
 use mathlib.Core.Path.{_≡_}
 use mathlib.Core.List.{List, List·Memᴰ}
 use lib.ListN.{length, getD, take}
-use Rattle.table.specs.Table.{tabled}
+use Rattle.table.specs.Table.{padTo, tabled}
 use Rattle.language.specs.Tables.{tokenWidth}
 use Rattle.language.specs.Tokens.{tokens, contents, between}
 use Rattle.language.specs.Canonical.{text, Fits}
@@ -76,20 +76,22 @@ DoneExactly =
     × (textLeft r left ≡ text source))
     × (Fits source × (length (tokens source) ≤ t / tokenWidth) × (length (text source) ≤ n) → Done r)
 
--- lexing that text into a table of the same size answers 0 and the same count: its contents are those of the source, and the
--- rows of both tables are the same, places aside
+-- lexing that text into a table of any size with room for as many tokens answers 0 and the same count: its contents are those
+-- of the source, and the rows of both tables are the same, places aside
 abbrev pub TextLexes : Type 0
 TextLexes =
     (source : List ℕ) (t n : ℕ) (r : Canonised) (toks left : List ℕ) → CanonSource source t n r toks left → Done r
-    → (q : Lexed) (table : List ℕ) → LexSource (textLeft r left) t q table
+    → (k : ℕ) (q : Lexed) (table : List ℕ) → LexSource (textLeft r left) k q table → r .tokens ≤ k / tokenWidth
     → (q .verdict .number ≡ 0) × (q .count ≡ r .tokens) × (contents (tokens (textLeft r left)) ≡ contents (tokens source))
     × SameRows source (textLeft r left) toks table
 
--- canonicalising that text with the same rooms answers the same, and leaves the same text
+-- canonicalising that text with any rooms for as many tokens and bytes answers the same, and leaves the same text, with zeros
+-- after it
 abbrev pub TextStays : Type 0
 TextStays =
     (source : List ℕ) (t n : ℕ) (r : Canonised) (toks left : List ℕ) → CanonSource source t n r toks left → Done r
-    → (q : Canonised) (table kept : List ℕ) → CanonSource (textLeft r left) t n q table kept → (q ≡ r) × (kept ≡ left)
+    → (k m : ℕ) (q : Canonised) (table kept : List ℕ) → CanonSource (textLeft r left) k m q table kept
+    → r .tokens ≤ k / tokenWidth → r .bytes ≤ m → (q ≡ r) × (kept ≡ padTo m (textLeft r left))
 
 -- two calls, with any rooms, leave the same text exactly when their sources have the same contents
 abbrev pub SameTexts : Type 0
@@ -107,21 +109,23 @@ SameTables =
     → (textLeft r x ≡ textLeft q y → (r .tokens ≡ q .tokens) × SameRows s u a b)
     × ((r .tokens ≡ q .tokens) × SameRows s u a b → textLeft r x ≡ textLeft q y)
 
--- parsing that text with the same rooms leaves the same nodes, and answers the same number, kind and counts, a refusal too
+-- parsing that text and its source with the same rooms, which need not be those that canonicalise had, leaves the same nodes,
+-- and answers the same number, kind and counts, a refusal too
 abbrev pub TextParses : Type 0
 TextParses =
     (source : List ℕ) (t n : ℕ) (r : Canonised) (toks left : List ℕ) → CanonSource source t n r toks left → Done r
-    → (m : ℕ) (p q : ParseAnswer) (a b x y : List ℕ) → ParseSource source t m p a x → ParseSource (textLeft r left) t m q b y
+    → (k m : ℕ) (p q : ParseAnswer) (a b x y : List ℕ) → ParseSource source k m p a x → ParseSource (textLeft r left) k m q b y
     → (y ≡ x) × (q .verdict .number ≡ p .verdict .number) × (q .verdict .kind ≡ p .verdict .kind) × (q .tokens ≡ p .tokens)
     × (q .nodes ≡ p .nodes)
 
--- 01, demand 3, its last sentence: checking that text with the same rooms "gives the same answer (refusals too, with the same
--- number and kind), the same counts, and the same diagnostics and statements in the same order"; it leaves the same nodes
+-- demand 3, its last sentence: checking that text and its source with the same rooms, again any, "gives the same answer
+-- (refusals too, with the same number and kind), the same counts, and the same diagnostics and statements in the same order";
+-- it leaves the same nodes
 abbrev pub TextChecks : Type 0
 TextChecks =
     (source : List ℕ) (t n : ℕ) (r : Canonised) (toks left : List ℕ) → CanonSource source t n r toks left → Done r
-    → (m d k : ℕ) (p q : CheckAnswer) (a b x y v w g h : List ℕ)
-    → CheckSource source t m d k p a x v g → CheckSource (textLeft r left) t m d k q b y w h
+    → (j m d k : ℕ) (p q : CheckAnswer) (a b x y v w g h : List ℕ)
+    → CheckSource source j m d k p a x v g → CheckSource (textLeft r left) j m d k q b y w h
     → (y ≡ x) × (q .verdict .number ≡ p .verdict .number) × (q .verdict .kind ≡ p .verdict .kind) × (q .tokens ≡ p .tokens)
     × (q .nodes ≡ p .nodes) × (q .errors ≡ p .errors) × (q .warnings ≡ p .warnings) × (q .statements ≡ p .statements)
     × SameLeft (textLeft r left) source d k w v h g

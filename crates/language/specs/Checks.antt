@@ -1,4 +1,4 @@
--- Checking goes by contents alone, so a source and its canonical text are checked alike (01, demand 3, its last sentence):
+-- Checking goes by contents alone, so a source and its canonical text are checked alike (demand 3, its last sentence):
 -- "checking the text with the same rooms gives the same answer (refusals too, with the same number and kind), the same
 -- counts, and the same diagnostics and statements in the same order, places aside, names and string bodies compared by
 -- their bytes".

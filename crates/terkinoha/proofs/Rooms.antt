@@ -1,5 +1,5 @@
 -- Rooms that are always enough: the proofs of the claims of specs/Rooms.antt.
-use Prim.Native.Nat.{ℕ, suc, _+_, _≤_, _<_}
+use Prim.Native.Nat.{ℕ, suc, _+_, _/_, _≤_, _<_}
 use mathlib.Core.Path.{_≡_, refl, sym, ap}
 use mathlib.Core.Bool.{false, _||_, false≢true}
 use mathlib.Core.List.{List}
@@ -10,11 +10,13 @@ use borrow.Author.Tests.{ltb-true, le-ltb}
 use lib.Dec.{ltb, eqb}
 use lib.ListN.{length, length-map}
 use Rattle.language.specs.Canonical.{text}
+use Rattle.language.specs.Tables.{lexemeWidth, tokenWidth}
+use Rattle.language.specs.Findings.{stmtWidth}
 use Rattle.language.specs.Utf8.{firstBad}
 use Rattle.language.specs.Lexemes.{scan}
 use Rattle.language.specs.Tokens.{Content, Token, items, firstWrong, Wrong, tokens, contents, placeOf}
 use Rattle.language.specs.Sentences as sentences
-use Rattle.language.specs.Sentences.{Out, Stmt, ok, program, nodes}
+use Rattle.language.specs.Sentences.{Out, Stmt, ok, program, nodes, nodeWidth}
 use Rattle.language.specs.Judgements.{Outcome, judged, refused, errorsIn, judgeAll}
 use Rattle.language.specs.Numbers.{mostBytes, Scanned, Lexed, Parsed, Canonised, Checked, verdict, scanned, counted, lexed, lexical, placed, lexedWithin, parsedAs, parsedNodes, firstCall, checked, judgedWithin, scanAnswer, lexAnswer, parseAnswer, canonAnswer, checkAnswer}
 use Rattle.language.proofs.JudgementClaims.{all-counted}
@@ -23,7 +25,7 @@ use Rattle.language.proofs.LexemeSpans.{spans-join}
 use Rattle.lex.proofs.Answers.{fits}
 use Rattle.parse.proofs.Entry.{short, all-good, no-wrong, all-lexed}
 use Rattle.parse.proofs.TokenRows.{few-tokens}
-use Rattle.terkinoha.specs.Rooms.{ScanRoom, LexRoom, ParseRoom, CanonRoom, CheckRoom}
+use Rattle.terkinoha.specs.Rooms.{ScanRoom, LexRoom, ParseRoom, CanonRoom, CheckRoom, ScanEnough, LexEnough, ParseEnough, CanonEnough, CheckEnough}
 use Rattle.terkinoha.proofs.Few.{nodes-few}
 use Rattle.language.proofs.SentenceRefusals.{refused-number}
 use Rattle.terkinoha.proofs.Found.{found-few}
@@ -150,3 +152,24 @@ check-room s room t n k z h l i = go (program cs) refl
           | inl q ↦ rw (parsed-in s room z t n h, e, q) (other 5 refl, omega arith)
           | inr q ↦ rw (parsed-in s room z t n h, e, q) (other 7 refl, omega arith)
         ]
+
+-- ---- calls
+
+pub scan-enough : ScanEnough
+scan-enough line n r left c = rw (c .answer) (scan-room line (n / lexemeWidth))
+
+pub lex-enough : LexEnough
+lex-enough s n r left c = rw (c .answer) (lex-room s (n / tokenWidth))
+
+pub parse-enough : ParseEnough
+parse-enough s n q left l z t m r toks tree c =
+    rw (l .answer, c .answer) (parse-room s (n / tokenWidth) (t / tokenWidth) (m / nodeWidth) (rw (l .answer) at z))
+
+pub canon-enough : CanonEnough
+canon-enough s n q left l z t m r toks written c =
+    rw (l .answer, c .answer) (canon-room s (n / tokenWidth) (t / tokenWidth) m (rw (l .answer) at z))
+
+pub check-enough : CheckEnough
+check-enough s n q left l z t m d k r toks tree found held c =
+    rw (l .answer, c .answer)
+    (check-room s (n / tokenWidth) (t / tokenWidth) (m / nodeWidth) (k / stmtWidth) (rw (l .answer) at z))

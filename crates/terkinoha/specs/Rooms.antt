@@ -1,10 +1,19 @@
--- Rooms that are always enough: a host that lends them is never refused for room.
-use Prim.Native.Nat.{ℕ, _+_, _≤_, _<_}
+-- Rooms that are always enough: a host that lends them is never refused for room. First of the answers, then of the C calls.
+use Prim.Native.Nat.{ℕ, _+_, _/_, _≤_, _<_}
 use mathlib.Core.Path.{_≡_}
 use mathlib.Core.List.{List}
 use lib.ListN.{length}
 use Rattle.language.specs.Canonical.{text}
+use Rattle.language.specs.Tables.{lexemeWidth, tokenWidth}
+use Rattle.language.specs.Sentences.{nodeWidth}
+use Rattle.language.specs.Findings.{stmtWidth}
 use Rattle.language.specs.Numbers.{mostBytes, scanAnswer, lexAnswer, parseAnswer, canonAnswer, checkAnswer}
+use Rattle.terkinoha.specs.declared.Scanned.{Scanned}
+use Rattle.terkinoha.specs.declared.Lexed.{Lexed}
+use Rattle.terkinoha.specs.declared.Parsed.{Parsed}
+use Rattle.terkinoha.specs.declared.Canonised.{Canonised}
+use Rattle.terkinoha.specs.declared.Checked.{Checked}
+use Rattle.terkinoha.specs.Entry.{ScanLine, LexSource, ParseSource, CanonSource, CheckSource}
 
 -- lexemes: a row for each byte of the line
 abbrev pub ScanRoom : Type 0
@@ -34,3 +43,38 @@ CheckRoom =
     → let a = checkAnswer s t n k in
     ((a .verdict .number ≡ 4 → ⊥) × (a .verdict .number ≡ 6 → ⊥) × (a .verdict .number ≡ 11 → ⊥))
     × (a .errors + a .warnings ≤ lexAnswer s room .count)
+
+-- ---- the same of calls, with tables of n, t, m and k words
+
+abbrev pub ScanEnough : Type 0
+ScanEnough =
+    (line : List ℕ) (n : ℕ) (r : Scanned) (left : List ℕ) → ScanLine line n r left → length line ≤ n / lexemeWidth
+    → r .verdict .number ≡ 4 → ⊥
+
+abbrev pub LexEnough : Type 0
+LexEnough =
+    (s : List ℕ) (n : ℕ) (r : Lexed) (left : List ℕ) → LexSource s n r left → length s < n / tokenWidth
+    → r .verdict .number ≡ 4 → ⊥
+
+-- where a call of lex was done
+abbrev pub ParseEnough : Type 0
+ParseEnough =
+    (s : List ℕ) (n : ℕ) (q : Lexed) (left : List ℕ) → LexSource s n q left → q .verdict .number ≡ 0
+    → (t m : ℕ) (r : Parsed) (toks tree : List ℕ) → ParseSource s t m r toks tree
+    → q .tokens ≤ t / tokenWidth → q .tokens ≤ m / nodeWidth
+    → (r .verdict .number ≡ 4 → ⊥) × (r .verdict .number ≡ 6 → ⊥)
+
+abbrev pub CanonEnough : Type 0
+CanonEnough =
+    (s : List ℕ) (n : ℕ) (q : Lexed) (left : List ℕ) → LexSource s n q left → q .verdict .number ≡ 0
+    → (t m : ℕ) (r : Canonised) (toks written : List ℕ) → CanonSource s t m r toks written
+    → q .tokens ≤ t / tokenWidth → mostBytes ≤ m
+    → (r .verdict .number ≡ 4 → ⊥) × (r .verdict .number ≡ 10 → mostBytes < length (text s))
+
+abbrev pub CheckEnough : Type 0
+CheckEnough =
+    (s : List ℕ) (n : ℕ) (q : Lexed) (left : List ℕ) → LexSource s n q left → q .verdict .number ≡ 0
+    → (t m d k : ℕ) (r : Checked) (toks tree found held : List ℕ) → CheckSource s t m d k r toks tree found held
+    → q .tokens ≤ t / tokenWidth → q .tokens ≤ m / nodeWidth → q .tokens ≤ k / stmtWidth
+    → ((r .verdict .number ≡ 4 → ⊥) × (r .verdict .number ≡ 6 → ⊥) × (r .verdict .number ≡ 11 → ⊥))
+    × (r .errors + r .warnings ≤ q .tokens)
