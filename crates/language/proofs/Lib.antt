@@ -41,6 +41,7 @@ pub mod NodeClaims
 pub mod RowClaims
 pub mod ParseClaims
 pub mod SentenceRefusals
+pub mod GrammarStops
 pub mod DistinctNames
 pub mod Names
 pub mod ExactlyRows
