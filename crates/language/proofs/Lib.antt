@@ -12,6 +12,7 @@ pub mod LexemeDigits
 pub mod CutLexemes
 pub mod TokenExamples
 pub mod TokenPlaces
+pub mod ItemPlaces
 pub mod TokenBodies
 pub mod TokenClaims
 pub mod TokenContents
