@@ -10,7 +10,7 @@ use lib.ListN.{length, getD}
 use Rattle.language.specs.Tokens.{Content, eof, Token, tokens, contents}
 use Rattle.language.specs.Tables.{contentKind}
 use Rattle.language.specs.Numbers.{tokenOf}
-use Rattle.language.specs.Sentences.{Stmt, is, program}
+use Rattle.language.specs.Sentences.{Stmt, is}
 use Rattle.language.specs.Grammar.{Program, is-end, is-next, WholeRead, StopsInside}
 use Rattle.language.proofs.TokenClaims.{not-end-kind}
 use Rattle.language.proofs.TokensAt.{content-of, long-tokens, before-last, last-token}

@@ -39,6 +39,7 @@ pub mod GrammarMet
 pub mod GrammarRows
 pub mod TokenTexts
 pub mod NodeClaims
+pub mod NodeCalls
 pub mod RowClaims
 pub mod ParseClaims
 pub mod SentenceRefusals
