@@ -4,14 +4,14 @@ use mathlib.Core.Path.{_≡_, refl, ap, _∙_}
 use mathlib.Core.List.{List, [], _∷_, List·Memᴰ}
 use mathlib.Core.Option.{none}
 use native.Mathlib.Omega.{arith}
-use lib.ListN.{length, getD, length-append, List·getD-append}
+use lib.ListN.{length, getD, length-append}
 use Rattle.table.specs.Table.{tabled}
 use Rattle.table.proofs.Laws.{length-tabled, tabled-own, tabled-word, tabled-past}
 use Rattle.language.specs.Tables.{tokenRow, tokenWidth, contentKind, contentLow, contentHigh}
 use Rattle.language.specs.Tokens.{Token, items, tokensFrom, eofToken, tokens, between}
 use Rattle.language.specs.Canonical.{spell}
 use Rattle.language.proofs.TokenClaims.{places-right, not-end, name-kind, names-held, bodies-held}
-use Rattle.language.proofs.TokensAt.{mem-at, row-width}
+use Rattle.language.proofs.TokensAt.{mem-at, row-width, before-last}
 use Rattle.language.proofs.Done.{LexesIn}
 use Rattle.canon.specs.Writing.{rowText, RowFits, Lexes}
 use Rattle.canon.proofs.Contents.{content-text}
@@ -85,8 +85,7 @@ module _ (s toks : List ℕ) (count : ℕ) (h : Lexes s toks count) where
       x = tokenAt s i
 
       is-before : List·Memᴰ x (before s)
-      unfolding tokens
-      is-before = rw (List·getD-append (before s) (eofToken s ∷ []) (eofToken s) i l) (mem-at (before s) i (eofToken s) l)
+      is-before = before-last s i l
 
       -- what the calls ask for
       pub fits : RowFits s toks row

@@ -9,7 +9,8 @@ use lib.ListN.{length}
 use Rattle.language.specs.Lexemes.{lParen, dot, slash, semiColon, equals, importKeyword, letKeyword}
 use Rattle.language.specs.Tokens.{Content, eof, plain}
 use Rattle.language.specs.Sentences.{Expr, Args, none-given, Stmt, import′, let′, expr′, Out, ok, no, andThen, mostSteps, mostLists, is, isName, chainOf, exprOf, argsOf, listAt, ended, importAt, letAt, stmtAt, stmtsFrom, program}
-use Rattle.language.specs.Bounds.{exprIn, listIn, wholeIn, letIn, stmtIn, stmtsIn, programIn, alone, isStep, reached, BoundsMet, AloneStops, EarlierDecides, AsAlone, OneTooMany}
+use Rattle.language.specs.Grammar.{isStep}
+use Rattle.language.specs.Bounds.{exprIn, listIn, wholeIn, letIn, stmtIn, stmtsIn, programIn, alone, reached, BoundsMet, AloneStops, EarlierDecides, AsAlone, OneTooMany}
 use Rattle.language.proofs.Tests.{never, either, both-sides}
 use Rattle.language.proofs.SentenceOutcomes.{same-then, before-end}
 use Rattle.language.proofs.GrammarSound.{found-stmt}
@@ -78,10 +79,10 @@ module _ (ts : List Content) where
 
   inside : (u : ℕ) → isStep ts u ≡ true → u < length ts
   inside u e =
-      elim (either (is ts u (plain lParen)) _ e) [
-        | inl a ↦ before-end ts (plain lParen) refl a
-        | inr b ↦ elim (either (is ts u (plain dot)) _ b) [
-          | inl a ↦ before-end ts (plain dot) refl a
+      elim (either (is ts u (plain dot)) _ e) [
+        | inl a ↦ before-end ts (plain dot) refl a
+        | inr b ↦ elim (either (is ts u (plain lParen)) _ b) [
+          | inl a ↦ before-end ts (plain lParen) refl a
           | inr a ↦ before-end ts (plain slash) refl a
         ]
       ]
@@ -162,5 +163,5 @@ one-too-many ts u e =
     let i = sym (bounds-met ts) ∙ e in
     elim (freed ts mostLists mostSteps (suc mostLists) (suc mostSteps) (omega arith) (omega arith)) [
       | inl f ↦ absurd (omega (arith, f .1 7 0 u i))
-      | inr f ↦ let z : f .0 ≡ u = cc in rw (← z) (f .2, f .3)
+      | inr f ↦ let z : f .0 ≡ u = cc in rw (← z) (f .3)
     ]

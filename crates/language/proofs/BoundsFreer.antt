@@ -1,6 +1,6 @@
 -- What larger bounds change: where parsing stopped at a list or a step too many it goes past it, and nothing else.
 use mathlib.Core.Path.{_≡_}
-use mathlib.Core.Bool.{true, or-true}
+use mathlib.Core.Bool.{true}
 use mathlib.Core.List.{List}
 use Prim.Native.Nat.{ℕ, zero, suc, _+_, _≤_, _<_}
 use native.Mathlib.Omega.{arith}
@@ -8,8 +8,10 @@ use lib.ListN.{length, getD}
 use Rattle.language.specs.Lexemes.{lParen, rParen, dot, doubleColon, colon, comma, slash, ipv4Literal}
 use Rattle.language.specs.Tokens.{Content, eof, plain}
 use Rattle.language.specs.Sentences.{Expr, sock4, member, call, slash′, Args, none-given, given, named, Port, port, tooLarge, notPort, portOf, Out, ok, no, andThen, unexpected, outOfRange, is, isName, isLiteral, namesFrom, address, named′, primary, links, chainOf, slashes, argOf, argsOf}
-use Rattle.language.specs.Bounds.{exprIn, listIn, wholeIn, isStep}
+use Rattle.language.specs.Grammar.{isStep}
+use Rattle.language.specs.Bounds.{exprIn, listIn, wholeIn}
 use Rattle.language.proofs.Tests.{both-sides}
+use Rattle.language.proofs.SentenceRefusals.{at-list, at-dot, at-slash}
 use Rattle.language.proofs.BoundsPlaces.{On, halted, either, both, links-on, chain-on, slashes-on, args-on, list-on, list-past, whole-on}
 
 -- the steps that are left are less than with larger bounds, and no more than there were
@@ -37,16 +39,6 @@ module _ (ts : List Content) where
   onward (same {a} {at} {s} {t} h) r l = r a at s t h
   onward refused r l = refused
   onward (stopped {at} e h) r l = stopped e (both h (l (suc at)))
-
-  -- the three steps
-  at-list : (at : ℕ) → is ts at (plain lParen) ≡ true → isStep ts at ≡ true
-  at-list at e = rw e
-
-  at-dot : (at : ℕ) → is ts at (plain dot) ≡ true → isStep ts at ≡ true
-  at-dot at e = rw e (or-true (is ts at (plain lParen)))
-
-  at-slash : (at : ℕ) → is ts at (plain slash) ≡ true → isStep ts at ≡ true
-  at-slash at e = rw (e, or-true (is ts at (plain dot))) (or-true (is ts at (plain lParen)))
 
   -- ---- a primary has no step
 
@@ -98,10 +90,10 @@ module _ (ts : List Content) where
     links-freer m n s zero e at h l k = absurd (omega arith)
     links-freer m n zero (suc t) e at h l k =
         both-sides (Freer (Left m n)) (is ts at (plain lParen))
-        (λ q. stopped (at-list at q)
+        (λ q. stopped (at-list ts at q)
         (both (past (suc at) at (omega arith)) (λ g next x i. links-on ts (suc at) more (more-on (suc at)) t (call e at g) next i)))
         (λ _. both-sides (Freer (Left m n)) (is ts at (plain dot))
-        (λ q. stopped (at-dot at q)
+        (λ q. stopped (at-dot ts at q)
         (either (isName ts (at + 1)) (links-on ts (suc at) more (more-on (suc at)) t (member e (at + 1)) (at + 2) (omega arith))
         (halted (omega arith))))
         (λ _. same (record { fewer = h; within = l; also-within = k })))
@@ -131,7 +123,7 @@ module _ (ts : List Content) where
     slashes-freer (suc f) (suc g) e at s zero h l k = absurd (omega arith)
     slashes-freer (suc f) (suc g) e at zero (suc t) h l k =
         both-sides (Freer Any) (is ts at (plain slash))
-        (λ q. stopped (at-slash at q)
+        (λ q. stopped (at-slash ts at q)
         (both (on (suc at) t (at + 1) (omega arith)) (λ r next x i. slashes-on ts (suc at) more (on (suc at)) g (slash′ e r) next x i)))
         (λ _. same tt)
     slashes-freer (suc f) (suc g) e at (suc s) (suc t) h l k =
@@ -189,7 +181,7 @@ module _ (ts : List Content) where
     list-freer : (d e at : ℕ) → d < e → is ts at (plain lParen) ≡ true → Freer Any (listIn ts n d at) (listIn ts k e at)
     unfolding listIn
     list-freer d zero at h q = absurd (omega arith)
-    list-freer zero (suc e) at h q = stopped (at-list at q) (list-past ts (suc at) k (suc e) at (omega arith) (omega arith))
+    list-freer zero (suc e) at h q = stopped (at-list ts at q) (list-past ts (suc at) k (suc e) at (omega arith) (omega arith))
     list-freer (suc d) (suc e) at h q =
         args-freer (wholeIn ts d n) (wholeIn ts e k) (whole-by d e (omega arith) (λ u. list-freer d e u (omega arith)))
         (λ m. whole-on ts m e k) (suc (length ts)) none-given (at + 1)

@@ -12,6 +12,7 @@ pub mod LexemeDigits
 pub mod CutLexemes
 pub mod TokenExamples
 pub mod TokenPlaces
+pub mod ItemPlaces
 pub mod TokenBodies
 pub mod TokenClaims
 pub mod TokenContents
@@ -38,12 +39,14 @@ pub mod GrammarMet
 pub mod GrammarRows
 pub mod TokenTexts
 pub mod NodeClaims
+pub mod NodeCalls
 pub mod RowClaims
 pub mod ParseClaims
 pub mod SentenceRefusals
 pub mod BoundsPlaces
 pub mod BoundsFreer
 pub mod Bounds
+pub mod GrammarStops
 pub mod DistinctNames
 pub mod Names
 pub mod NamesAscend

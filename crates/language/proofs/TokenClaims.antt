@@ -10,7 +10,6 @@ use lib.Seq.{take-at, drop-at, drop-drop}
 use Rattle.language.specs.Lexemes.{Tok, lParen, rParen, dot, doubleColon, colon, semiColon, equals, comma, slash, importKeyword, letKeyword, identifier, booleanLiteral, ipv4Literal, hexLiteral, decLiteral, unexpectedChar, Kind, trivia, str, tok, error, lexemeOf, lexeme}
 use Rattle.language.specs.Tables.{contentKind}
 use Rattle.language.specs.Tokens.{eof, plain, name, string, Token, contentOf, unquoted, Item, items, Pending, joined, pendingToken, flushed, itemToken, tokensFrom, tokens, eofToken, Place, placeOf, between, PlacesRight, Ordered, ordered-none, ordered-one, TokensInOrder, NamesHeld, bodyOf, bodiesIn, BodiesHeld}
-use Rattle.language.proofs.Tests.{never}
 use Rattle.language.proofs.CutLexemes.{newline}
 use Rattle.language.proofs.TokenBodies.{Held, held-none, held-more, bodies-of}
 use Rattle.language.proofs.TokenPlaces.{place, itemAt, Walk, walk-end, walk-newline, walk-item, source-walk}
@@ -37,26 +36,26 @@ content-cases t x =
       | decLiteral n ↦ inr refl
     ]
 
--- and it is plain only where its kind is not a name's
-name-cases : (t : Tok) (x : List ℕ) → contentKind (contentOf t x) ≡ 13 → contentOf t x ≡ name x
-name-cases t x =
+-- it is plain only where its kind is not a name's, and its kind is not that of `Eof`
+kind-cases : (t : Tok) (x : List ℕ) → (contentKind (contentOf t x) ≡ 13 → contentOf t x ≡ name x) × (1 < contentKind (contentOf t x))
+kind-cases t x =
     elim t [
-      | identifier ↦ λ k. refl
-      | lParen ↦ λ k. absurd (omega arith)
-      | rParen ↦ λ k. absurd (omega arith)
-      | dot ↦ λ k. absurd (omega arith)
-      | doubleColon ↦ λ k. absurd (omega arith)
-      | colon ↦ λ k. absurd (omega arith)
-      | semiColon ↦ λ k. absurd (omega arith)
-      | equals ↦ λ k. absurd (omega arith)
-      | comma ↦ λ k. absurd (omega arith)
-      | slash ↦ λ k. absurd (omega arith)
-      | importKeyword ↦ λ k. absurd (omega arith)
-      | letKeyword ↦ λ k. absurd (omega arith)
-      | booleanLiteral b ↦ λ k. absurd (omega arith)
-      | ipv4Literal n ↦ λ k. absurd (omega arith)
-      | hexLiteral n ↦ λ k. absurd (omega arith)
-      | decLiteral n ↦ λ k. absurd (omega arith)
+      | identifier ↦ (λ k. refl, omega arith)
+      | lParen ↦ (λ k. absurd (omega arith), omega arith)
+      | rParen ↦ (λ k. absurd (omega arith), omega arith)
+      | dot ↦ (λ k. absurd (omega arith), omega arith)
+      | doubleColon ↦ (λ k. absurd (omega arith), omega arith)
+      | colon ↦ (λ k. absurd (omega arith), omega arith)
+      | semiColon ↦ (λ k. absurd (omega arith), omega arith)
+      | equals ↦ (λ k. absurd (omega arith), omega arith)
+      | comma ↦ (λ k. absurd (omega arith), omega arith)
+      | slash ↦ (λ k. absurd (omega arith), omega arith)
+      | importKeyword ↦ (λ k. absurd (omega arith), omega arith)
+      | letKeyword ↦ (λ k. absurd (omega arith), omega arith)
+      | booleanLiteral b ↦ (λ k. absurd (omega arith), omega arith)
+      | ipv4Literal n ↦ (λ k. absurd (omega arith), omega arith)
+      | hexLiteral n ↦ (λ k. absurd (omega arith), omega arith)
+      | decLiteral n ↦ (λ k. absurd (omega arith), omega arith)
     ]
 
 module _ (source : List ℕ) where
@@ -70,7 +69,7 @@ module _ (source : List ℕ) where
     right : placeOf source (t .start) ≡ place (t .line) (t .column)
     some-byte : t .start < t .end
     in-room : t .end ≤ length source
-    going : t .content ≡ eof → ⊥
+    going : 1 < contentKind (t .content)
     kinded : contentKind (t .content) ≡ 13 → (bs : List ℕ) × (t .content ≡ name bs)
     named : (bs : List ℕ) → t .content ≡ name bs → between source (t .start) (t .end) ≡ bs
     bodied : (b : List ℕ) (bs : List (List ℕ)) → t .content ≡ string b bs → bodiesIn (between source (t .start) (t .end)) ≡ b ∷ bs
@@ -124,7 +123,7 @@ module _ (source : List ℕ) where
                 right = r;
                 some-byte = omega arith;
                 in-room = reads-on .in-room;
-                going = λ e. never (cc);
+                going = omega arith;
                 kinded = λ k. absurd (omega arith);
                 named = λ bs e. cc;
                 bodied = λ b bs e. rw span (cc (bodies-of w));
@@ -174,8 +173,8 @@ module _ (source : List ℕ) where
           right = r;
           some-byte = omega arith;
           in-room = reads-on at x s h q .in-room;
-          going = λ e. elim (content-cases t x) [ inl f ↦ never (cc) | inr f ↦ never (cc) ];
-          kinded = λ k. (x, name-cases t x k);
+          going = kind-cases t x .1;
+          kinded = λ k. (x, kind-cases t x .0 k);
           named = λ bs e. elim (content-cases t x) [ inl f ↦ rw (span at x s h q) (cc) | inr f ↦ cc ];
           bodied = λ b bs e. elim (content-cases t x) [ inl f ↦ cc | inr f ↦ cc ];
         }
@@ -218,9 +217,12 @@ pub tokens-in-order : TokensInOrder
 unfolding tokens
 tokens-in-order s = in-order s (all-told s)
 
--- none before the last is `Eof`
+-- none before the last is `Eof`, nor of its kind
+pub not-end-kind : (s : List ℕ) (t : Token) → List·Memᴰ t (tokensFrom none (items s)) → 1 < contentKind (t .content)
+not-end-kind s t m = each-good s (all-told s) m .going
+
 pub not-end : (s : List ℕ) (t : Token) → List·Memᴰ t (tokensFrom none (items s)) → t .content ≡ eof → ⊥
-not-end s t m = each-good s (all-told s) m .going
+not-end s t m e = omega (arith, not-end-kind s t m, ap contentKind e)
 
 -- a token is good, or it is the end
 good-or-end : (s : List ℕ) (t : Token) → List·Memᴰ t (tokens s) → Good s t ⊎ (t .content ≡ eof)

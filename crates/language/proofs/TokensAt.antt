@@ -4,7 +4,7 @@ use mathlib.Core.Path.{_≡_, refl}
 use mathlib.Core.List.{List, [], _∷_, List·Memᴰ, List·Memᴰ·head, List·Memᴰ·tail}
 use mathlib.Core.Option.{none}
 use native.Mathlib.Omega.{arith}
-use lib.ListN.{length, getD, length-append, List·getD-map, List·getD-eq-default}
+use lib.ListN.{length, getD, length-append, List·getD-append, List·getD-map, List·getD-eq-default}
 use lib.Seq.{getD-at}
 use Rattle.language.specs.Tokens.{eof, Token, items, tokensFrom, eofToken, tokens, contents}
 use Rattle.language.specs.Tables.{tokenRow, tokenWidth}
@@ -29,6 +29,13 @@ module _ (s : List ℕ) where
 
   pub some-token : 1 ≤ length (tokens s)
   some-token = omega (arith, long-tokens)
+
+  -- each before the last is a lexeme's or a string
+  pub before-last : (t : ℕ) → t < length (tokensFrom none (items s)) → List·Memᴰ (tokenOf s t) (tokensFrom none (items s))
+  unfolding tokens
+  before-last t h =
+      rw (List·getD-append (tokensFrom none (items s)) (eofToken s ∷ []) (eofToken s) t h)
+      (mem-at (tokensFrom none (items s)) t (eofToken s) h)
 
   pub last-token : tokenOf s (length (tokens s) - 1) ≡ eofToken s
   unfolding tokens

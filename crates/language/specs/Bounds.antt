@@ -3,12 +3,11 @@
 -- grammar alone does is then known, and the claims say where the bounds change it.
 use Prim.Native.Nat.{ℕ, zero, suc, _+_, _≤_, _<_}
 use mathlib.Core.Path.{_≡_}
-use mathlib.Core.Bool.{Bool, true, _||_}
 use mathlib.Core.List.{List, [], _∷_, _++_}
 use mathlib.Core.Logic.{_⊎_}
 use lib.ListN.{length}
 use Rattle.language.specs.Choice.{if′}
-use Rattle.language.specs.Lexemes.{lParen, dot, slash, equals, importKeyword, letKeyword}
+use Rattle.language.specs.Lexemes.{equals, importKeyword, letKeyword}
 use Rattle.language.specs.Tokens.{Content, eof, plain}
 use Rattle.language.specs.Sentences.{Expr, Args, none-given, Stmt, let′, expr′, Out, ok, no, andThen, unexpected, tooDeep, mostSteps, mostLists, is, isName, chainOf, slashes, argsOf, ended, importAt, program}
 
@@ -54,10 +53,6 @@ module _ (ts : List Content) where
   abbrev pub alone : Out (List Stmt)
   alone = programIn (length ts) (length ts)
 
-  -- a list's `(`, or a step: "steps (`.`, `(`, `/`)"
-  abbrev pub isStep : ℕ → Bool
-  isStep at = is ts at (plain lParen) || (is ts at (plain dot) || is ts at (plain slash))
-
 -- the token that an outcome has come to: the next one, or the one that is refused
 abbrev pub reached : {A : Type 0} → Out A → ℕ
 reached (ok a at s) = at
@@ -91,8 +86,8 @@ AsAlone =
     → ((k t : ℕ) → program ts ≡ no 5 k t → alone ts ≡ no 5 k t)
     × ((ss : List Stmt) (next x : ℕ) → program ts ≡ ok ss next x → alone ts ≡ ok ss next x)
 
--- "a 33rd open list or a 65th step", "that token": 7 is given at a step, and with one list and one step more parsing goes past it
+-- "a 33rd open list or a 65th step", "that token": 7 is given at a step (`StopsAtStep`: Grammar.antt), and with one list and one
+-- step more parsing goes past it
 abbrev pub OneTooMany : Type 0
 OneTooMany =
-    (ts : List Content) (u : ℕ) → program ts ≡ no 7 0 u
-    → (isStep ts u ≡ true) × (u < reached (programIn ts (suc mostLists) (suc mostSteps)))
+    (ts : List Content) (u : ℕ) → program ts ≡ no 7 0 u → u < reached (programIn ts (suc mostLists) (suc mostSteps))

@@ -5,11 +5,11 @@ use mathlib.Core.Path.{_≡_}
 use mathlib.Core.Bool.{Bool, true, false, _||_}
 use mathlib.Core.List.{List, [], _∷_, List·Memᴰ}
 use lib.Dec.{eqb}
-use lib.ListN.{getD}
+use lib.ListN.{length, getD}
 use Rattle.language.specs.Choice.{if′}
 use Rattle.language.specs.Lexemes.{lParen, rParen, dot, doubleColon, colon, semiColon, equals, comma, slash, importKeyword, letKeyword, ipv4Literal}
-use Rattle.language.specs.Tokens.{Content, eof, plain, name}
-use Rattle.language.specs.Sentences.{Expr, literal, sock4, local, path, member, call, slash′, Args, none-given, given, named, Stmt, import′, let′, expr′, firstOf, Port, port, tooLarge, notPort, portOf, ok, is, isLiteral, mostSteps, mostLists, exprAt, program, Node, nodes}
+use Rattle.language.specs.Tokens.{Content, eof, plain, name, tokens, contents}
+use Rattle.language.specs.Sentences.{Expr, literal, sock4, local, path, member, call, slash′, Args, none-given, given, named, Stmt, import′, let′, expr′, firstOf, Port, port, tooLarge, notPort, portOf, ok, no, is, isLiteral, mostSteps, mostLists, exprAt, program, Node, nodes}
 
 -- the steps of an expression, "not counting those inside its argument lists"
 abbrev pub stepsOf : Expr → ℕ
@@ -140,3 +140,22 @@ abbrev pub RowsRight : Type 0
 RowsRight =
     (ts : List Content) (ss : List Stmt) (next x : ℕ) → program ts ≡ ok ss next x
     → (n : Node) → List·Memᴰ n (nodes ss) → rightTokens ts n ≡ true
+
+-- ---- the claims on where a program ends
+
+-- what is parsed was read to its end: it stopped at `Eof`, the last token
+abbrev pub WholeRead : Type 0
+WholeRead =
+    (s : List ℕ) (ss : List Stmt) (next x : ℕ) → program (contents (tokens s)) ≡ ok ss next x → suc next ≡ length (tokens s)
+
+-- "that token": the one that is refused, with 5 or with 7, is one of the source's
+abbrev pub StopsInside : Type 0
+StopsInside = (s : List ℕ) (n k t : ℕ) → program (contents (tokens s)) ≡ no n k t → t < length (tokens s)
+
+-- "steps (`.`, `(`, `/`)"
+abbrev pub isStep : List Content → ℕ → Bool
+isStep ts at = is ts at (plain dot) || (is ts at (plain lParen) || is ts at (plain slash))
+
+-- "a 33rd open list or a 65th step": it is the token that would open the one or make the other
+abbrev pub StopsAtStep : Type 0
+StopsAtStep = (ts : List Content) (k t : ℕ) → program ts ≡ no 7 k t → isStep ts t ≡ true

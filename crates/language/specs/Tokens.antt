@@ -210,6 +210,12 @@ PlacesRight =
     (s : List ℕ) (t : Token) → List·Memᴰ t (tokensFrom none (items s))
     → (t .line ≡ placeOf s (t .start) .line) × (t .column ≡ placeOf s (t .start) .column) × (t .start < t .end) × (t .end ≤ length s)
 
+-- and so does every lexeme, also a wrong one and what is no token: "Columns are byte offsets plus 1"
+abbrev pub ItemsPlaced : Type 0
+ItemsPlaced =
+    (s : List ℕ) (i : Item) → List·Memᴰ i (items s)
+    → (i .line ≡ placeOf s (i .start) .line) × (i .column ≡ placeOf s (i .start) .column) × (i .start < i .end) × (i .end ≤ length s)
+
 -- tokens stand in order: each starts where the one before it ends, or later
 pub data Ordered : ℕ → List Token → Type 0 where
   ordered-none : {at : ℕ} → Ordered at []
