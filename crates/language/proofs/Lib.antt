@@ -44,6 +44,9 @@ pub mod SentenceRefusals
 pub mod BoundsPlaces
 pub mod BoundsFreer
 pub mod Bounds
+pub mod CountedTokens
+pub mod CountedGrammar
+pub mod Counted
 pub mod DistinctNames
 pub mod Names
 pub mod NamesAscend
