@@ -63,10 +63,10 @@ module _ (ts : List Content) (d e n k : ℕ) (lists : d < e) (steps : n < k) whe
 -- ---- so a program comes to the same, and not to 7; or there is a step too many, and it is passed
 
 module _ (ts : List Content) where
-  abbrev Same : Out (List Stmt) → Out (List Stmt) → Type 0
+  abbrev pub Same : Out (List Stmt) → Out (List Stmt) → Type 0
   Same o q = (o ≡ q) × ((n k t : ℕ) → o ≡ no n k t → n ≡ 5)
 
-  abbrev Passed : Out (List Stmt) → Out (List Stmt) → Type 0
+  abbrev pub Passed : Out (List Stmt) → Out (List Stmt) → Type 0
   Passed o q = (u : ℕ) × (o ≡ no 7 0 u) × (isStep ts u ≡ true) × (u < reached q)
 
   told : {o q : Out (List Stmt)} → Freer ts _≡_ o q → Same o q ⊎ Passed o q
@@ -139,7 +139,7 @@ alone-stops ts = (from (length ts) (length ts) (omega arith) (omega arith) .1, �
     from lists steps h l = larger ts (length ts) (length ts) (omega arith) (omega arith) (suc lists) (suc steps) (omega arith) (omega arith)
 
 -- 01's bounds, and none
-bounded : (ts : List Content) → Same ts (program ts) (alone ts) ⊎ Passed ts (program ts) (alone ts)
+pub bounded : (ts : List Content) → Same ts (program ts) (alone ts) ⊎ Passed ts (program ts) (alone ts)
 bounded ts =
     let c = mostLists + suc (length ts) in
     let d = mostSteps + suc (length ts) in

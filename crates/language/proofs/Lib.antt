@@ -47,6 +47,9 @@ pub mod BoundsPlaces
 pub mod BoundsFreer
 pub mod Bounds
 pub mod GrammarStops
+pub mod CountedTokens
+pub mod CountedGrammar
+pub mod Counted
 pub mod DistinctNames
 pub mod Names
 pub mod NamesAscend

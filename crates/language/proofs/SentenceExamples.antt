@@ -2,10 +2,12 @@
 use mathlib.Core.Path.{_≡_, refl}
 use mathlib.Core.Bool.{true}
 use mathlib.Core.List.{List, [], _∷_}
+use mathlib.Core.Option.{none, some}
 use Prim.Native.Nat.{ℕ, zero, suc}
 use Rattle.language.specs.Lexemes.{lParen, rParen, dot, doubleColon, colon, semiColon, equals, comma, slash, letKeyword, ipv4Literal, decLiteral, hexLiteral}
 use Rattle.language.specs.Tokens.{Content, eof, plain, name}
 use Rattle.language.specs.Bounds.{programIn, alone, stmtsIn, stmtIn, letIn, exprIn, listIn}
+use Rattle.language.specs.Counted.{turn, tooManyFrom, tooMany}
 use Rattle.language.specs.Sentences.{Out, ok, no, Stmt, let′, expr′, literal, sock4, local, path, member, call, slash′, none-given, given, named, program, stmtsFrom, stmtAt, letAt, importAt, exprOf, chainOf, listAt, argsOf, argOf, slashes, links, primary, address, named′, namesFrom, nodes, nodesFrom, node}
 
 a : Content
@@ -66,3 +68,25 @@ deep = (refl, refl)
 comma-first : program (a ∷ plain comma ∷ a ∷ times 65 (plain dot) a (plain semiColon ∷ eof ∷ [])) ≡ no 5 1 1
 unfolding a times program stmtsFrom stmtAt letAt importAt exprOf chainOf listAt argsOf argOf slashes links primary address named′ namesFrom
 comma-first = refl
+
+-- the count of lists and steps over the tokens: of `step` and `deep`, and of 65 `/`
+counted : (tooMany (a ∷ times 65 (plain dot) a (plain comma ∷ eof ∷ [])) ≡ some 129)
+    × (tooMany (times 33 a (plain lParen) (plain semiColon ∷ eof ∷ [])) ≡ some 65)
+    × (tooMany (a ∷ times 65 (plain slash) a (plain semiColon ∷ eof ∷ [])) ≡ some 129)
+unfolding a times turn tooManyFrom
+counted = (refl, refl, refl)
+
+-- `a ( a` with 64 steps `)`, n steps more, and `;`: the `(` is the outer expression's first, so the 64th more is one too many
+inside : ℕ → List Content
+inside n = a ∷ plain lParen ∷ a ∷ times 64 (plain dot) a (plain rParen ∷ times n (plain dot) a (plain semiColon ∷ eof ∷ []))
+
+mixed : (tooMany (inside 64) ≡ some 258) × (program (inside 64) ≡ no 7 0 258) × (tooMany (inside 63) ≡ none)
+unfolding a times inside turn tooManyFrom program stmtsFrom stmtAt letAt importAt exprOf chainOf listAt argsOf argOf slashes links primary address named′ namesFrom
+mixed = (refl, refl, refl)
+
+-- each argument and each statement starts anew: `a (` and then an `a` with 64 steps, `,` and the same, `)`, `;` and the same
+anew : tooMany (a ∷ plain lParen ∷ a ∷ times 64 (plain dot) a (plain comma ∷ a ∷ times 64 (plain slash) a
+    (plain rParen ∷ plain semiColon ∷ a ∷ times 64 (plain dot) a (plain semiColon ∷ eof ∷ []))))
+    ≡ none
+unfolding a times turn tooManyFrom
+anew = refl

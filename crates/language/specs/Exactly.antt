@@ -46,7 +46,8 @@ parse s = program (contents (tokens s))
 
 -- parsing stops at a token: with 5 for "`UnexpectedToken` or the parser's `IntOutOfRange`", which its kind says, and with 7 at
 -- "a 33rd open list or a 65th step". That "between 5 and 7 the earlier token decides" is `EarlierDecides` (Bounds.antt): where
--- the grammar without bounds refuses a token, it is 5 there or 7 at a token before it.
+-- the grammar without bounds refuses a token, it is 5 there or 7 at a token before it. Which token is a 33rd open list or a 65th
+-- step is a plain count over the tokens (`tooMany`), and `Counted` says that 7 goes by it (Counted.antt).
 pub record Stops (n : ℕ) (s : List ℕ) : Type 0 where
   pub kind : ℕ
   pub token : ℕ
