@@ -12,7 +12,7 @@ use lib.ListN.{length, getD}
 use Rattle.language.specs.Integers.{limit, valueOf, digits, decimal}
 use Rattle.language.specs.Lexemes.{all, isDigit, digitOf, value, readDigits, areDigits, startsZero, octet}
 use Rattle.language.specs.Canonical.{spellDigit, spellDigits}
-use Rattle.language.proofs.Integers.{few, room, has-room, Right, right}
+use Rattle.language.proofs.Integers.{few-in, room, has-room, Right, right}
 use Rattle.language.proofs.LexemeDigits.{digits-read}
 use Rattle.language.proofs.SpellingRuns.{and, upTo, up-to}
 
@@ -86,7 +86,7 @@ decimal-of k n h l =
       some-digit = rw length-spelt (r .some-digit);
       digits = all-spelt isDigit 10 refl ds (r .small);
       read = spelt-read 10 (omega arith) (omega arith) r l;
-      no-zero = zero-alone n (suc k) ds (λ z. rw z (few k 0 (omega arith))) r;
+      no-zero = zero-alone n (suc k) ds (λ z. rw z (few-in 10 k 0 (omega arith))) r;
     }
 
 pub decimal-spelt : (n : ℕ) → n < limit → Decimal n (spellDigits (decimal n))
@@ -106,7 +106,7 @@ byte-spelt n h = decimal-spelt n (byte-small n h)
 pub octet-spelt : (n : ℕ) → n < 256 → octet (spellDigits (decimal n)) ≡ some n
 unfolding octet decimal startsZero isDigit
 octet-spelt n h =
-    let three : digits 39 n ≡ digits 3 n = room 38 2 n (has-room n (byte-small n h)) (omega arith) in
+    let three : digits 39 n ≡ digits 3 n = room 10 (omega arith) 38 2 n (has-room n (byte-small n h)) (omega arith) in
     let r : Right 10 3 n (digits 3 n) = right 10 (omega arith) 2 n (omega arith) in
     let c = decimal-of 2 n (omega arith) (byte-small n h) in
     rw (
