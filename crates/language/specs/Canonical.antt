@@ -136,3 +136,7 @@ abbrev pub SameText : Type 0
 SameText =
     (s t : List ℕ) → Fits s → Fits t
     → (text s ≡ text t → contents (tokens s) ≡ contents (tokens t)) × (contents (tokens s) ≡ contents (tokens t) → text s ≡ text t)
+
+-- "so an identity copy or empty text is excluded as well": a source whose text is neither
+abbrev pub NotACopy : Type 0
+NotACopy = (s : List ℕ) × Fits s × (text s ≡ s → ⊥) × (text s ≡ [] → ⊥)
