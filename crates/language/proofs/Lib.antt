@@ -51,3 +51,4 @@ pub mod JudgementExamples
 pub mod JudgementClaims
 pub mod FindingTokens
 pub mod CheckClaims
+pub mod ShownNames

@@ -241,3 +241,7 @@ bodies-held s t b bs m e = elim (good-or-end s t m) [ inl g ↦ g .bodied b bs e
 pub name-kind : (s : List ℕ) (t : Token) → List·Memᴰ t (tokens s) → contentKind (t .content) ≡ 13
     → (bs : List ℕ) × (t .content ≡ name bs)
 name-kind s t m k = elim (good-or-end s t m) [ inl g ↦ g .kinded k | inr f ↦ absurd (omega (arith, rw f at k)) ]
+
+-- a token that is not the end has a byte, and its span lies in the source
+pub span-held : (s : List ℕ) (t : Token) → List·Memᴰ t (tokens s) → (t .content ≡ eof → ⊥) → (t .start < t .end) × (t .end ≤ length s)
+span-held s t m n = elim (good-or-end s t m) [ inl g ↦ (g .some-byte, g .in-room) | inr f ↦ absurd (n f) ]
