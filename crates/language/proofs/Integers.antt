@@ -120,20 +120,20 @@ hexadecimal-is-right n h = digits-right 16 (omega arith) 31 n (hex-room n h)
 
 -- ---- the equation without a bound
 
-module _ (base : ℕ) (two : 1 < base) where
-  -- more places than there are digits change nothing
-  abbrev pub Same : ℕ → List ℕ → Type 0
-  Same n ds = (j : ℕ) → n < base ^ suc j → ds ≡ digitsIn base (suc j) n
+-- more places than there are digits change nothing
+abbrev pub Same : ℕ → ℕ → List ℕ → Type 0
+Same base n ds = (j : ℕ) → n < base ^ suc j → ds ≡ digitsIn base (suc j) n
 
-  pub same-one : (n : ℕ) → n < base → Same n (n ∷ [])
+module _ (base : ℕ) (two : 1 < base) where
+  pub same-one : (n : ℕ) → n < base → Same base n (n ∷ [])
   same-one n h j b = sym (few-in base j n h)
 
-  pub same-more : (n : ℕ) (ds : List ℕ) → base ≤ n → Same (n / base) ds → Same n (ds ++ (n % base ∷ []))
+  pub same-more : (n : ℕ) (ds : List ℕ) → base ≤ n → Same base (n / base) ds → Same base n (ds ++ (n % base ∷ []))
   same-more n ds g r zero b = absurd (omega (arith, rw (pow-suc, pow-zero, one-mul) at b))
   same-more n ds g r (suc j) b = rw (many-in base (suc j) n g, r j (fewer base two (suc j) n b))
 
   pub room : (k j n : ℕ) → n < base ^ suc k → n < base ^ suc j → digitsIn base (suc k) n ≡ digitsIn base (suc j) n
-  room k j n a b = each-in base two (λ k. Same) (λ k. same-one) (λ k. same-more) k n a j b
+  room k j n a b = each-in base two (λ k. Same base) (λ k. same-one) (λ k. same-more) k n a j b
 
   -- of a number with room for its digits
   unfolds : (k n : ℕ) → n < base ^ suc (suc k)

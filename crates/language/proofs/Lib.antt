@@ -22,6 +22,7 @@ pub mod SpellingDigits
 pub mod SpellingQuads
 pub mod CanonicalUtf8
 pub mod CanonicalGood
+pub mod LexemeTexts
 pub mod CanonicalNumbers
 pub mod CanonicalSound
 pub mod CanonicalLines
