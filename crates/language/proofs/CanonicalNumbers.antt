@@ -1,12 +1,10 @@
 -- Numbers and addresses are good parts, each below its bound.
-use Prim.Native.Nat.{ℕ, _/_, _%_, _^_, _<_}
+use Prim.Native.Nat.{ℕ, _/_, _%_, _<_}
 use mathlib.Core.Path.{_≡_, refl, ap, _∙_}
 use mathlib.Core.Bool.{Bool, true, false, _&&_, false≢true}
 use mathlib.Core.List.{List, [], _∷_, _++_, append-assoc}
 use mathlib.Core.Option.{some}
 use native.Mathlib.Omega.{arith}
-use native.Mathlib.Nat.{lt-of-lt-of-le}
-use borrow.Author.Tests.{leb-true}
 use lib.Dec.{ltb, eqb}
 use lib.ListN.{length, getD, List·getD-append}
 use lib.Seq.{take-append-seam, drop-append-seam}
@@ -14,7 +12,7 @@ use Rattle.language.specs.Integers.{limit, decimal, hexadecimal}
 use Rattle.language.specs.Lexemes.{Tok, ipv4Literal, hexLiteral, decLiteral, Kind, tok, lexemeOf, isDigit, isWordStart, isWord, all, digitOf, startsHex, startsZero, integer, notQuad, quadFrom, number}
 use Rattle.language.specs.Tokens.{plain, token, pieceOf}
 use Rattle.language.specs.Canonical.{spellDigits, spellQuad, spellTok, spell}
-use Rattle.language.proofs.Integers.{Right, right}
+use Rattle.language.proofs.Integers.{Right, right, hex-room}
 use Rattle.language.proofs.SpellingRuns.{all-parts, all-append, all-also}
 use Rattle.language.proofs.SpellingDigits.{all-spelt, length-spelt, spelt-read, Decimal, decimal-spelt, byte-spelt}
 use Rattle.language.proofs.SpellingQuads.{quad-none, quad-spelt}
@@ -71,7 +69,7 @@ good-dec n l =
 -- the digits, and their bytes
 hex-right : (n : ℕ) → n < limit → Right 16 32 n (hexadecimal n)
 unfolding hexadecimal
-hex-right n l = right 16 (omega arith) 31 n (lt-of-lt-of-le l (leb-true limit (16 ^ 32) refl))
+hex-right n l = right 16 (omega arith) 31 n (hex-room n l)
 
 hex-word : (n : ℕ) → n < limit → all isWord (spellDigits (hexadecimal n)) ≡ true
 unfolding isWord isWordStart isDigit

@@ -5,10 +5,9 @@ use mathlib.Core.Bool.{true, false, _&&_, not}
 use mathlib.Core.List.{List, [], _∷_, _++_, append-assoc}
 use mathlib.Core.Option.{Option, none, some}
 use native.Mathlib.Omega.{arith}
-use native.Mathlib.Decide.{decLt}
 use borrow.Author.Tests.{leb-true, eqb-true}
 use lib.Dec.{ltb, leb, eqb}
-use lib.ListN.{length, getD, take, drop, List·getD-eq-default}
+use lib.ListN.{length, getD, take, drop}
 use lib.Seq.{split-at, take-take, length-take-le}
 use Rattle.language.specs.Choice.{if′}
 use Rattle.language.specs.Integers.{limit}
@@ -17,7 +16,7 @@ use Rattle.language.specs.Lexemes.{Tok, lParen, rParen, dot, doubleColon
 use Rattle.language.specs.Lexemes as lexemes
 use Rattle.language.specs.Tokens.{plain, Piece, gap, body, token, contentOf, unquoted, pieceOf}
 use Rattle.language.specs.Tokens as tokens
-use Rattle.language.proofs.LexemeSizes.{by-cases}
+use Rattle.language.proofs.LexemeSizes.{by-cases, stands}
 use Rattle.language.proofs.LexemeDigits.{digits-read}
 use Rattle.language.proofs.SpellingRuns.{all-run}
 use Rattle.language.proofs.CanonicalUtf8.{isAscii, cut}
@@ -143,11 +142,6 @@ word-fine b w e a =
 
 -- ---- literals
 
--- a quote that stands at n is a byte of the list
-quote-at : (s : List ℕ) (n : ℕ) → getD s n 0 ≡ 34 → n < length s
-quote-at s n e =
-    elim (decLt n (length s)) [ yes l ↦ l | no g ↦ absurd (omega (arith, List·getD-eq-default s 0 {n = n} (omega arith))) ]
-
 module _ (b : ℕ) (s : List ℕ) (n : ℕ) (l : n < length s) where
   -- what stands between the quotes
   unquotes : unquoted (take (n + 2) (b ∷ s)) ≡ take n s
@@ -172,7 +166,7 @@ string-fine b s p q e w =
     by-cases (FineAt (b ∷ s)) (eqb (getD s n 0) 34)
     (λ h.
     let f = eqb-true (getD s n 0) 34 h in
-    let l = quote-at s n f in
+    let l = stands s n 34 refl h in
     let v = encoded-body b s n l p q e f w in
     a-part (literal (take n s)) (ap body (unquotes b s n l)) (good-literal (take n s) (all-run isBody s) v))
     (λ _. an-error _)

@@ -119,7 +119,7 @@ same-number s u h l e t n k = same-answer s u h l e (t / tokenWidth) (n / nodeWi
 -- ---- findings
 
 -- a type's text is none of the source
-no-source : (t : Ty) → tyText t ≡ 1 → ⊥
+pub no-source : (t : Ty) → tyText t ≡ 1 → ⊥
 no-source tyBool e = omega arith
 no-source (tyInt t) e = omega arith
 no-source tyIp4 e = omega arith
@@ -191,7 +191,7 @@ module _ (s u : List ℕ) where
 
     same-finding : (at : ℕ) (w : What) → Shown cs w at → SameDetail s u w (detail (tokenOf s) at w) (detail (tokenOf u) at w)
     same-finding at unknownName h = shows at unknownName 0 0 h (omega arith)
-    same-finding at (unknownItem m) h = shows at (unknownItem m) (entryAt m .start) (entryAt m .end) h (omega arith)
+    same-finding at (unknownItem m) h = shows at (unknownItem m) (entryAt m .start) (entryAt m .end) (h .0) (omega arith)
     same-finding at unknownModule h = shows at unknownModule 0 0 h (omega arith)
     same-finding at notImported h = shows at notImported 0 0 h (omega arith)
     same-finding at notAModule h = shows at notAModule 0 0 h (omega arith)

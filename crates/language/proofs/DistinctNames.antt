@@ -5,27 +5,18 @@ use mathlib.Core.Bool.{Bool, true, false, _||_, false≢true, or-true}
 use mathlib.Core.List.{List, [], _∷_, _++_, append-nil, map, map-append, List·Memᴰ, List·Memᴰ·head, List·Memᴰ·tail}
 use mathlib.Core.Logic.{inl, inr}
 use native.Mathlib.Omega.{arith}
-use borrow.Author.Tests.{eqb-true, eq-eqb}
-use lib.Dec.{eqb}
+use borrow.Author.Tests.{eq-eqb}
 use lib.ListN.{length, length-append, length-map}
 use Rattle.language.specs.Choice.{if′}
 use Rattle.language.specs.Lexemes.{same}
 use Rattle.language.specs.Names.{without, distinct, NewAfter}
-use Rattle.language.proofs.Tests.{both, either}
+use Rattle.language.proofs.Tests.{either, same-equal}
 
 -- ---- the test of names
 
 same-itself : (w : List ℕ) → same w w ≡ true
 same-itself [] = refl
 same-itself (x ∷ xs) = rw (eq-eqb x x refl) (same-itself xs)
-
-same-equal : (v w : List ℕ) → same v w ≡ true → v ≡ w
-same-equal [] [] e = refl
-same-equal [] (y ∷ ys) e = absurd (false≢true e)
-same-equal (x ∷ xs) [] e = absurd (false≢true e)
-same-equal (x ∷ xs) (y ∷ ys) e =
-    let h = both (eqb x y) (same xs ys) e in
-    rw (eqb-true x y (h .0), same-equal xs ys (h .1))
 
 -- whether w is among names
 unfoldable pub among : List ℕ → List (List ℕ) → Bool

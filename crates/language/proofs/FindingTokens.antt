@@ -1,51 +1,94 @@
--- What is found and held stands for tokens of the right kinds: a finding that shows a name stands at one, and a string that
--- is held is one.
+-- What is found and held stands for tokens of the right kinds, and for parts of the table's text: a finding that shows a name
+-- stands at one, a string that is held is one, and a function or module that is shown has a name in the table.
 use Prim.Native.Nat.{ℕ, zero, suc, _+_, _*_, _<_}
 use mathlib.Core.Path.{_≡_, refl}
-use mathlib.Core.Bool.{true, false}
+use mathlib.Core.Bool.{true, _&&_}
 use mathlib.Core.List.{List, [], _∷_, _++_, List·Memᴰ·head, List·Memᴰ·tail}
 use mathlib.Core.Option.{Option, none, some}
 use native.Mathlib.Omega.{arith}
 use native.Mathlib.Decide.{decLt}
-use lib.Dec.{ltb}
+use borrow.Author.Tests.{ltb-true, leb-true}
+use lib.Dec.{ltb, leb, eqb}
 use lib.ListN.{length, getD}
 use Rattle.language.specs.Choice.{if′}
-use Rattle.language.specs.Integers.{smallest, isTruncated}
+use Rattle.language.specs.Integers.{u16, smallest, low16, isTruncated}
 use Rattle.language.specs.Lexemes.{Tok, lParen, rParen, dot, doubleColon, colon, semiColon, equals, comma, slash, importKeyword, letKeyword, identifier, booleanLiteral, ipv4Literal, hexLiteral, decLiteral, same}
 use Rattle.language.specs.Tokens.{Content, eof, plain, name, string}
-use Rattle.language.specs.Tables.{bit}
 use Rattle.language.specs.Sentences.{Expr, Stmt, firstOf, Out, ok, no, is, program}
 use Rattle.language.specs.Grammar.{PathNames, is-start, is-name, Chain, is-literal, is-address, is-sock4, is-local, is-path, is-member, is-call, Slashed, is-chain, is-slash, Expression, is-expression, Statement, is-import, is-let, is-expr, Program, is-end, is-next}
-use Rattle.language.specs.Values.{Value, isInteger, isBool, isSized, isIp4, isSock4, isString, isText, isFunction, Entry, entry, entries, entryAt, lookup}
-use Rattle.language.specs.Judgements.{What, unknownName, unknownItem, unknownModule, notImported, notAModule, notAValue, alreadyBound, noMembers, operandType, integralTooLarge, multipleImports, discardedValue, truncated, Diag, Judged, val, err, poisoned, Judgement, judgement, andThen, goesOn, Known, known, Import, Binding, Held, Turn, goes, full, Outcome, find, findImport, mostImports, mostNames, content, nameAt, tokValue, literalValue, leftOf, rightOf, cut, narrowed, lastItem, innerItem, walk, below, boundTo, judge, imported, importStmt, bound, letStmt, discarded, told, stmt, onward, run, judgeAll}
+use Rattle.language.specs.Values.{Value, isInteger, isBool, isSized, isIp4, isSock4, isString, isText, isFunction, Ty, tyBool, tyInt, tyIp4, tySock4, tyBytes, tyFunction, tyInteger, typeOf, Entry, entry, tableText, entries, entryAt, entryName, lookupFrom, lookup}
+use Rattle.language.specs.Judgements.{left, right, What, unknownName, unknownItem, unknownModule, notImported, notAModule, notAValue, alreadyBound, noMembers, operandType, integralTooLarge, multipleImports, discardedValue, truncated, Diag, Judged, val, err, poisoned, Judgement, judgement, andThen, goesOn, ip4Of, integerOf, Known, known, Import, Binding, Held, Turn, goes, full, Outcome, find, findImport, mostImports, mostNames, content, nameAt, tokValue, literalValue, leftOf, rightOf, cut, narrowed, lastItem, innerItem, walk, below, boundTo, judge, imported, importStmt, bound, letStmt, discarded, told, stmt, onward, run, judgeAll}
 use Rattle.language.specs.Numbers.{statementsOf, foundBy, heldBy}
-use Rattle.language.proofs.Tests.{each-side}
+use Rattle.language.specs.Checks.{PartOf}
+use Rattle.language.proofs.Tests.{both, each-side}
 use Rattle.language.proofs.Each.{Each, of-none, of-one, of-both}
 use Rattle.language.proofs.SentenceOutcomes.{Every}
 use Rattle.language.proofs.GrammarSound.{found-program}
 use Rattle.language.proofs.GrammarRows.{names-next}
 
+-- a part of the table's text, by a test
+part : (start end : ℕ) → ltb start end && leb end (length tableText) ≡ true → PartOf tableText start end
+part start end e =
+    let h = both (ltb start end) (leb end (length tableText)) e in
+    (ltb-true start end (h .0), leb-true end (length tableText) (h .1))
+
+-- an entry of the table has a name
+abbrev pub NamedEntry : ℕ → Type 0
+NamedEntry k = PartOf tableText (entryAt k .start) (entryAt k .end)
+
+-- a type that shows an entry
+abbrev pub NamedTy : Ty → Type 0
+NamedTy (tyFunction k) = NamedEntry k
+NamedTy tyBool = Unit {0}
+NamedTy (tyInt t) = Unit {0}
+NamedTy tyIp4 = Unit {0}
+NamedTy tySock4 = Unit {0}
+NamedTy tyBytes = Unit {0}
+NamedTy tyInteger = Unit {0}
+
+-- each of the entries from k on has one, so what is looked up has
+abbrev AllNamed : List Entry → ℕ → Type 0
+AllNamed [] k = Unit {0}
+AllNamed (e ∷ es) k = NamedEntry k × AllNamed es (suc k)
+
+abbrev NamedIf : Option ℕ → Type 0
+NamedIf (some k) = NamedEntry k
+NamedIf none = Unit {0}
+
+lookup-from : (es : List Entry) (k m : ℕ) (w : List ℕ) → AllNamed es k → NamedIf (lookupFrom es k m w)
+unfolding lookupFrom
+lookup-from [] k m w h = tt
+lookup-from (e ∷ es) k m w h =
+    each-side NamedIf (eqb (e .inside) m && same (entryName e) w) (h .0) (lookup-from es (suc k) m w (h .1))
+
+lookup-named : (m : ℕ) (w : List ℕ) → NamedIf (lookup m w)
+unfolding entries tableText
+lookup-named m w =
+    lookup-from entries 1 m w
+    (part 0 5 refl, (part 5 9 refl, (part 9 13 refl, (part 13 16 refl, (part 16 18 refl, (part 18 24 refl, (part 26 30 refl,
+    (part 30 34 refl, (part 34 38 refl, tt)))))))))
+
 module _ (ts : List Content) where
-  -- the kinds that show a name ask for one where they stand
+  -- the kinds that show a name ask for one where they stand, those that show an entry of the table for its name
   abbrev pub Shown : What → ℕ → Type 0
   Shown unknownName at = is ts at (name []) ≡ true
-  Shown (unknownItem m) at = is ts at (name []) ≡ true
+  Shown (unknownItem m) at = (is ts at (name []) ≡ true) × NamedEntry m
   Shown unknownModule at = is ts at (name []) ≡ true
   Shown notImported at = is ts at (name []) ≡ true
   Shown notAModule at = is ts at (name []) ≡ true
   Shown notAValue at = is ts at (name []) ≡ true
   Shown (alreadyBound t) at = is ts at (name []) ≡ true
   Shown multipleImports at = is ts at (name []) ≡ true
-  Shown (noMembers t) at = Unit {0}
-  Shown (operandType s t u) at = Unit {0}
+  Shown (noMembers t) at = NamedTy t
+  Shown (operandType s t u) at = NamedTy u
   Shown integralTooLarge at = Unit {0}
-  Shown (discardedValue t) at = Unit {0}
-  Shown (truncated n t) at = Unit {0}
+  Shown (discardedValue t) at = NamedTy t
+  Shown (truncated n t) at = NamedTy t
 
   abbrev pub Stands : Diag → Type 0
   Stands d = Shown (d .what) (d .at)
 
-  -- a string is that of a string's token
+  -- a string is that of a string's token, bytes of the table are a part of its text, and a function has a name
   abbrev pub Right : Value → Type 0
   Right (isString t) = (b : List ℕ) × (bs : List (List ℕ)) × (content ts t ≡ string b bs)
   Right (isInteger n) = Unit {0}
@@ -53,14 +96,24 @@ module _ (ts : List Content) where
   Right (isSized t n) = Unit {0}
   Right (isIp4 n) = Unit {0}
   Right (isSock4 n p) = Unit {0}
-  Right (isText a b) = Unit {0}
-  Right (isFunction k) = Unit {0}
+  Right (isText a b) = PartOf tableText a b
+  Right (isFunction k) = NamedEntry k
 
   abbrev RightIf : Option Value → Type 0
   RightIf (some v) = Right v
   RightIf none = Unit {0}
 
   -- ---- values
+
+  type-named : (v : Value) → Right v → NamedTy (typeOf v)
+  type-named (isInteger n) h = tt
+  type-named (isBool b) h = tt
+  type-named (isSized t n) h = tt
+  type-named (isIp4 n) h = tt
+  type-named (isSock4 n p) h = tt
+  type-named (isString t) h = tt
+  type-named (isText a b) h = tt
+  type-named (isFunction k) h = h
 
   tok-right : (k : Tok) → Right (tokValue k)
   tok-right (booleanLiteral b) = tt
@@ -94,10 +147,10 @@ module _ (ts : List Content) where
   narrowed-right (isIp4 n) h = tt
   narrowed-right (isSock4 n p) h = tt
   narrowed-right (isString t) h = h
-  narrowed-right (isText a b) h = tt
-  narrowed-right (isFunction k) h = tt
+  narrowed-right (isText a b) h = h
+  narrowed-right (isFunction k) h = h
 
-  -- the constant table holds no string of the source
+  -- the constant table holds no string of the source, and its bytes are a part of its text
   abbrev AllRight : List Entry → Type 0
   AllRight [] = Unit {0}
   AllRight (e ∷ es) = RightIf (e .value) × AllRight es
@@ -108,17 +161,22 @@ module _ (ts : List Content) where
   getD-right (e ∷ es) (suc k) h = getD-right es k (h .1)
 
   entry-right : (k : ℕ) → RightIf (entryAt k .value)
-  unfolding entries
+  unfolding entries tableText
   entry-right zero = tt
-  entry-right (suc k) = getD-right entries k search
+  entry-right (suc k) = getD-right entries k (tt, (tt, (tt, (tt, (tt, (part 24 26 refl, (part 26 30 refl, (tt, (tt, tt)))))))))
 
   -- ---- what is known
 
   abbrev Bound : Binding → Type 0
   Bound b = RightIf (b .value)
 
-  abbrev Sure : Known → Type 0
-  Sure k = Each Bound (k .bindings)
+  abbrev Found : Import → Type 0
+  Found i = NamedIf (i .found)
+
+  -- values are right, and modules have a name
+  record Sure (k : Known) : Type 0 where
+    values : Each Bound (k .bindings)
+    modules : Each Found (k .imports)
 
   abbrev BoundIf : Option Binding → Type 0
   BoundIf (some b) = Bound b
@@ -128,10 +186,19 @@ module _ (ts : List Content) where
   unfolding find
   find-bound [] w h = tt
   find-bound (b ∷ bs) w h =
-      elim (same (b .name) w) as (λ t. BoundIf (if′ t (some b) (find bs w))) [
-        | true ↦ h .holds b (List·Memᴰ·head refl)
-        | false ↦ find-bound bs w (record { holds = λ c m. h .holds c (List·Memᴰ·tail m) })
-      ]
+      each-side BoundIf (same (b .name) w) (h .holds b (List·Memᴰ·head refl))
+      (find-bound bs w (record { holds = λ c m. h .holds c (List·Memᴰ·tail m) }))
+
+  abbrev FoundIf : Option Import → Type 0
+  FoundIf (some i) = Found i
+  FoundIf none = Unit {0}
+
+  find-import : (is : List Import) (w : List ℕ) → Each Found is → FoundIf (findImport is w)
+  unfolding findImport
+  find-import [] w h = tt
+  find-import (i ∷ is) w h =
+      each-side FoundIf (same (i .name) w) (h .holds i (List·Memᴰ·head refl))
+      (find-import is w (record { holds = λ c m. h .holds c (List·Memᴰ·tail m) }))
 
   -- ---- judgements
 
@@ -186,31 +253,34 @@ module _ (ts : List Content) where
   inner-sound t (some v) j a h = a
   inner-sound t none j a h = h
 
-  walk-sound : (n m t : ℕ) → Names t n → Sound (walk ts n m t)
+  walk-sound : (n m t : ℕ) → Names t n → NamedEntry m → Sound (walk ts n m t)
   unfolding walk
-  walk-sound zero m t h = tt
-  walk-sound (suc zero) m t h =
+  walk-sound zero m t h e = tt
+  walk-sound (suc zero) m t h e =
       elim (lookup m (nameAt ts (t + 2)))
       as (λ o. Sound (elim o [ none ↦ err (t + 2) (unknownItem m) | some k ↦ lastItem ts (t + 2) (entryAt k .value) ])) [
-        | none ↦ h 0 (omega arith)
+        | none ↦ (h 0 (omega arith), e)
         | some k ↦ last-sound (t + 2) (entryAt k .value) (h 0 (omega arith)) (entry-right k)
       ]
-  walk-sound (suc (suc n)) m t h =
-      elim (lookup m (nameAt ts (t + 2)))
-      as (λ o. Sound (elim o [
-        | none ↦ err (t + 2) (unknownItem m)
-        | some k ↦ innerItem ts (t + 2) (entryAt k .value) (walk ts (suc n) k (t + 2))
-      ])) [
-        | none ↦ h 0 (omega arith)
-        | some k ↦ inner-sound (t + 2) (entryAt k .value) (walk ts (suc n) k (t + 2)) (h 0 (omega arith))
-            (walk-sound (suc n) k (t + 2) (λ j l.
-            let on : t + 2 * suc (suc j) ≡ t + 2 + 2 * suc j = omega arith in rw on at (h (suc j) (omega arith))))
-      ]
+  walk-sound (suc (suc n)) m t h e =
+      go (lookup m (nameAt ts (t + 2))) (lookup-named m (nameAt ts (t + 2))) (λ k. walk-sound (suc n) k (t + 2) (λ j i.
+      let on : t + 2 * suc (suc j) ≡ t + 2 + 2 * suc j = omega arith in rw on at (h (suc j) (omega arith))))
+    where
+      go : (o : Option ℕ) → NamedIf o → ((k : ℕ) → NamedEntry k → Sound (walk ts (suc n) k (t + 2)))
+          → Sound (elim o [
+            | none ↦ err (t + 2) (unknownItem m)
+            | some k ↦ innerItem ts (t + 2) (entryAt k .value) (walk ts (suc n) k (t + 2))
+          ])
+      go none l f = (h 0 (omega arith), e)
+      go (some k) l f = inner-sound (t + 2) (entryAt k .value) (walk ts (suc n) k (t + 2)) (h 0 (omega arith)) (f k l)
 
-  below-sound : (t n : ℕ) (o : Option Import) → is ts t (name []) ≡ true → Names t n → Sound (below ts t n o)
-  below-sound t n none a h = a
-  below-sound t n (some i) a h =
-      elim (i .found) as (λ o. Sound (elim o [ none ↦ poisoned | some m ↦ walk ts n m t ])) [ none ↦ tt | some m ↦ walk-sound n m t h ]
+  below-sound : (t n : ℕ) (o : Option Import) → is ts t (name []) ≡ true → Names t n → FoundIf o → Sound (below ts t n o)
+  below-sound t n none a h f = a
+  below-sound t n (some i) a h f = go (i .found) f
+    where
+      go : (o : Option ℕ) → NamedIf o → Sound (elim o [ none ↦ poisoned | some m ↦ walk ts n m t ])
+      go none l = tt
+      go (some m) l = walk-sound n m t h l
 
   -- ---- expressions
 
@@ -219,25 +289,23 @@ module _ (ts : List Content) where
     cut-fine at i =
         each-side (Each Stands) (isTruncated i) (of-one tt) of-none
 
-    right-fine : (ip at : ℕ) (v : Value) → Fine (rightOf ts n ip at v)
-    right-fine ip at (isInteger i) = record { out = tt; warns = cut-fine at i }
-    right-fine ip at (isSized t i) = record { out = tt; warns = cut-fine at i }
-    right-fine ip at (isBool b) = record { out = tt; warns = cut-fine at (bit b) }
-    right-fine ip at (isIp4 i) = alone tt
-    right-fine ip at (isSock4 i p) = alone tt
-    right-fine ip at (isString t) = alone tt
-    right-fine ip at (isText a b) = alone tt
-    right-fine ip at (isFunction k) = alone tt
+    right-fine : (ip at : ℕ) (v : Value) → Right v → Fine (rightOf ts n ip at v)
+    right-fine ip at v r =
+        elim (integerOf v)
+        as (λ o. Fine (elim o [
+          | some i ↦ judgement (val (isSock4 ip (low16 i))) (cut ts n at i)
+          | none ↦ judgement (err at (operandType right (tyInt u16) (typeOf v))) []
+        ])) [
+          | some i ↦ record { out = tt; warns = cut-fine at i }
+          | none ↦ alone (type-named v r)
+        ]
 
-    left-fine : (at : ℕ) (f : ℕ → Judgement) (v : Value) → ((i : ℕ) → Fine (f i)) → Fine (leftOf ts at f v)
-    left-fine at f (isIp4 i) h = h i
-    left-fine at f (isInteger i) h = alone tt
-    left-fine at f (isSized t i) h = alone tt
-    left-fine at f (isBool b) h = alone tt
-    left-fine at f (isSock4 i p) h = alone tt
-    left-fine at f (isString t) h = alone tt
-    left-fine at f (isText a b) h = alone tt
-    left-fine at f (isFunction k) h = alone tt
+    left-fine : (at : ℕ) (f : ℕ → Judgement) (v : Value) → Right v → ((i : ℕ) → Fine (f i)) → Fine (leftOf ts at f v)
+    left-fine at f v r h =
+        elim (ip4Of v) as (λ o. Fine (elim o [ some i ↦ f i | none ↦ judgement (err at (operandType left tyIp4 (typeOf v))) [] ])) [
+          | some i ↦ h i
+          | none ↦ alone (type-named v r)
+        ]
 
     module _ (k : Known) (sure : Sure k) where
       chain-fine : {d at next : ℕ} {e : Expr} → Chain ts d at e next → Fine (judge ts n k e)
@@ -246,10 +314,11 @@ module _ (ts : List Content) where
       chain-fine (is-address {at = at} a b) = alone (literal-right at (content ts at) refl)
       chain-fine (is-sock4 a b c) = alone tt
       chain-fine (is-local {at = at} a b) =
-          alone (bound-sound at (find (k .bindings) (nameAt ts at)) (a .passes) (find-bound (k .bindings) (nameAt ts at) sure))
+          alone (bound-sound at (find (k .bindings) (nameAt ts at)) (a .passes) (find-bound (k .bindings) (nameAt ts at) (sure .values)))
       chain-fine (is-path {at = at} {n = m} a p l b) =
-          alone (below-sound at m (findImport (k .imports) (nameAt ts at)) (a .passes) (names-at at (a .after) p))
-      chain-fine (is-member {e = e} c a b) = then-fine (judge ts n k e) _ (chain-fine c) (λ v h. alone tt)
+          alone (below-sound at m (findImport (k .imports) (nameAt ts at)) (a .passes) (names-at at (a .after) p)
+          (find-import (k .imports) (nameAt ts at) (sure .modules)))
+      chain-fine (is-member {e = e} c a b) = then-fine (judge ts n k e) _ (chain-fine c) (λ v h. alone (type-named v h))
       chain-fine (is-call c l) = alone tt
 
       slashed-fine : {d at next : ℕ} {e : Expr} → Slashed ts d at e next → Fine (judge ts n k e)
@@ -257,7 +326,7 @@ module _ (ts : List Content) where
       slashed-fine (is-chain c) = chain-fine c
       slashed-fine (is-slash {e = e} {r} c a q) =
           then-fine (judge ts n k e) _ (slashed-fine c) (λ v h.
-          left-fine (firstOf e) _ v (λ ip. then-fine (judge ts n k r) _ (chain-fine q) (λ w l. right-fine ip (firstOf r) w)))
+          left-fine (firstOf e) _ v h (λ ip. then-fine (judge ts n k r) _ (chain-fine q) (λ w l. right-fine ip (firstOf r) w l)))
 
       expr-fine : {d at next : ℕ} {e : Expr} → Expression ts d at e next → Fine (judge ts n k e)
       expr-fine (is-expression c l) = slashed-fine c
@@ -272,18 +341,27 @@ module _ (ts : List Content) where
   Turned (full t) = Unit {0}
 
   module _ (n : ℕ) (k : Known) (sure : Sure k) where
-    imported-turned : (t : ℕ) (o : Option ℕ) → is ts t (name []) ≡ true → Turned (imported ts n k t o)
-    imported-turned t (some m) a = (sure, of-none, of-none)
-    imported-turned t none a = (sure, of-one a, of-none)
+    -- with a value or a module more
+    more-values : (b : Binding) → Bound b → Sure (known (k .imports) (k .bindings ++ b ∷ []))
+    more-values b h = record { values = of-both (sure .values) (of-one h); modules = sure .modules }
+
+    more-modules : (i : Import) → Found i → Sure (known (k .imports ++ i ∷ []) (k .bindings))
+    more-modules i h = record { values = sure .values; modules = of-both (sure .modules) (of-one h) }
+
+    imported-turned : (t : ℕ) (o : Option ℕ) → is ts t (name []) ≡ true → NamedIf o → Turned (imported ts n k t o)
+    imported-turned t (some m) a l = (more-modules _ l, of-none, of-none)
+    imported-turned t none a l = (more-modules _ tt, of-one a, of-none)
 
     import-turned : (t : ℕ) (o : Option Import) → is ts t (name []) ≡ true → Turned (importStmt ts n k t o)
     import-turned t (some i) a = (sure, of-one a, of-none)
-    import-turned t none a = each-side Turned (ltb (length (k .imports)) mostImports) (imported-turned t (lookup 0 (nameAt ts t)) a) tt
+    import-turned t none a =
+        each-side Turned (ltb (length (k .imports)) mostImports)
+        (imported-turned t (lookup 0 (nameAt ts t)) a (lookup-named 0 (nameAt ts t))) tt
 
     bound-turned : (t : ℕ) (o : Judged) (ws : List Diag) → Sound o → Each Stands ws → Turned (bound ts n k t o ws)
-    bound-turned t (val v) ws h l = (of-both sure (of-one h), l, of-none)
-    bound-turned t (err at w) ws h l = (of-both sure (of-one tt), of-both l (of-one h), of-none)
-    bound-turned t poisoned ws h l = (of-both sure (of-one tt), l, of-none)
+    bound-turned t (val v) ws h l = (more-values _ h, l, of-none)
+    bound-turned t (err at w) ws h l = (more-values _ tt, of-both l (of-one h), of-none)
+    bound-turned t poisoned ws h l = (more-values _ tt, l, of-none)
 
     let-turned : (t : ℕ) (e : Expr) (o : Option Binding) → is ts t (name []) ≡ true → Fine (judge ts n k e)
         → Turned (letStmt ts n k t e o)
@@ -293,7 +371,7 @@ module _ (ts : List Content) where
         (bound-turned t (judge ts n k e .out) (judge ts n k e .warns) (f .out) (f .warns)) tt
 
     discarded-turned : (at : ℕ) (o : Option Value) (ws : List Diag) → RightIf o → Each Stands ws → Turned (discarded ts n k at o ws)
-    discarded-turned at (some v) ws h l = (sure, of-both l (of-one tt), of-one h)
+    discarded-turned at (some v) ws h l = (sure, of-both l (of-one (type-named v h)), of-one h)
     discarded-turned at none ws h l = (sure, of-both l (of-one tt), of-none)
 
     told-turned : (at : ℕ) (o : Judged) (ws : List Diag) → Sound o → Each Stands ws → Turned (told ts n k at o ws)
@@ -333,7 +411,7 @@ module _ (ts : List Content) where
   -- whatever the contents are, and if they are no program nothing is found
   parsed-grounded : (o : Out (List Stmt)) → Every (λ ss next x. Program ts 0 ss next) o → Grounded (judgeAll ts (statementsOf o))
   unfolding run
-  parsed-grounded (ok ss at x) h = run-grounded (h .holds) 1 (known [] []) [] [] of-none of-none of-none
+  parsed-grounded (ok ss at x) h = run-grounded (h .holds) 1 (known [] []) [] [] (record { values = of-none; modules = of-none }) of-none of-none
   parsed-grounded (no n m at) h = record { found = of-none; kept = of-none }
 
   pub outcome-grounded : Grounded (judgeAll ts (statementsOf (program ts)))

@@ -10,7 +10,7 @@ use borrow.Author.Tests.{lt-ltb, le-ltb, leb-true}
 use lib.Dec.{ltb}
 use lib.ListN.{length, getD, length-append, List·getD-append}
 use Rattle.language.specs.Choice.{if′}
-use Rattle.language.specs.Integers.{limit, valueFrom, valueOf, digitsIn, digits, mostDigits, decimal, IntType, u8, u16, u32, u64, bits, smallest, DecimalIsRight, DecimalUnfolds, SmallestHolds}
+use Rattle.language.specs.Integers.{limit, valueFrom, valueOf, digitsIn, digits, mostDigits, decimal, hexadecimal, IntType, u8, u16, u32, u64, bits, smallest, DigitsRight, DecimalIsRight, HexadecimalIsRight, DecimalUnfolds, HexadecimalUnfolds, SmallestHolds}
 
 -- ---- digits in a base, one step
 
@@ -41,24 +41,6 @@ module _ (base : ℕ) (two : 1 < base) where
           | yes lt ↦ rw (few-in base (suc k) n lt) (one (suc k) n lt)
           | no ge ↦ rw (many-in base (suc k) n (omega arith)) (more (suc k) n _ (omega arith) (each-in k (n / base) (fewer (suc k) n h)))
         ]
-
--- ---- and in base 10
-
-pub few : (k n : ℕ) → n < 10 → digits (suc k) n ≡ n ∷ []
-few = few-in 10
-
-pub many : (k n : ℕ) → 10 ≤ n → digits (suc k) n ≡ digits k (n / 10) ++ (n % 10 ∷ [])
-many = many-in 10
-
--- a tenth has a place fewer
-pub tenth : (k n : ℕ) → n < 10 ^ suc k → n / 10 < 10 ^ k
-tenth = fewer 10 (omega arith)
-
-module _ (P : ℕ → ℕ → List ℕ → Type 0)
-    (one : (k n : ℕ) → n < 10 → P (suc k) n (n ∷ []))
-    (more : (k n : ℕ) (ds : List ℕ) → 10 ≤ n → P k (n / 10) ds → P (suc k) n (ds ++ (n % 10 ∷ []))) where
-  pub each : (k n : ℕ) → n < 10 ^ suc k → P (suc k) n (digits (suc k) n)
-  each = each-in 10 (omega arith) P one more
 
 -- ---- what the digits say
 
@@ -105,49 +87,68 @@ module _ (base : ℕ) (two : 1 < base) where
   pub right : (k n : ℕ) → n < base ^ suc k → Right base (suc k) n (digitsIn base (suc k) n)
   right = each-in base two (Right base) right-one right-more
 
-zero-first : (k n : ℕ) → Right 10 (suc k) n (digits (suc k) n) → getD (digits (suc k) n) 0 0 ≡ 0 → digits (suc k) n ≡ 0 ∷ []
-zero-first k n r e =
-    elim (decLt 0 n) [
-      | yes p ↦ absurd (omega (arith, r .first p))
-      | no q ↦
-          let z : n ≡ 0 = omega arith in
-          few k n (omega arith) ∙ ap (λ (d : ℕ). d ∷ []) z
-    ]
+  zero-first : (k n : ℕ) → Right base (suc k) n (digitsIn base (suc k) n) → getD (digitsIn base (suc k) n) 0 0 ≡ 0
+      → digitsIn base (suc k) n ≡ 0 ∷ []
+  zero-first k n r e =
+      elim (decLt 0 n) [
+        | yes p ↦ absurd (omega (arith, r .first p))
+        | no q ↦
+            let z : n ≡ 0 = omega arith in
+            few-in base k n (omega arith) ∙ ap (λ (d : ℕ). d ∷ []) z
+      ]
 
--- 2^127 has 39 digits
+  -- the claim of a base
+  digits-right : (k n : ℕ) → n < base ^ suc k → DigitsRight base (suc k) n (digitsIn base (suc k) n)
+  digits-right k n h =
+      let r = right k n h in
+      (r .value, λ i l. r .small i, r .some-digit, r .in-room, λ e. zero-first k n r e)
+
+-- 2^127 has 39 decimal digits, and 32 hexadecimal ones
 pub has-room : (n : ℕ) → n < limit → n < 10 ^ mostDigits
 has-room n h = lt-of-lt-of-le h (leb-true limit (10 ^ mostDigits) refl)
 
+pub hex-room : (n : ℕ) → n < limit → n < 16 ^ 32
+hex-room n h = lt-of-lt-of-le h (leb-true limit (16 ^ 32) refl)
+
 pub decimal-is-right : DecimalIsRight
 unfolding decimal
-decimal-is-right n h =
-    let r : Right 10 39 n (digits 39 n) = right 10 (omega arith) 38 n (has-room n h) in
-    (r .value, λ i l. r .small i, r .some-digit, r .in-room, λ e. zero-first 38 n r e)
+decimal-is-right n h = digits-right 10 (omega arith) 38 n (has-room n h)
+
+pub hexadecimal-is-right : HexadecimalIsRight
+unfolding hexadecimal
+hexadecimal-is-right n h = digits-right 16 (omega arith) 31 n (hex-room n h)
 
 -- ---- the equation without a bound
 
 -- more places than there are digits change nothing
-Same : ℕ → ℕ → List ℕ → Type 0
-Same k n ds = (j : ℕ) → n < 10 ^ suc j → ds ≡ digits (suc j) n
+abbrev pub Same : ℕ → ℕ → List ℕ → Type 0
+Same base n ds = (j : ℕ) → n < base ^ suc j → ds ≡ digitsIn base (suc j) n
 
-same-one : (k n : ℕ) → n < 10 → Same (suc k) n (n ∷ [])
-unfolding Same
-same-one k n h j b = sym (few j n h)
+module _ (base : ℕ) (two : 1 < base) where
+  pub same-one : (n : ℕ) → n < base → Same base n (n ∷ [])
+  same-one n h j b = sym (few-in base j n h)
 
-same-more : (k n : ℕ) (ds : List ℕ) → 10 ≤ n → Same k (n / 10) ds → Same (suc k) n (ds ++ (n % 10 ∷ []))
-unfolding Same
-same-more k n ds g r zero b = absurd (omega arith)
-same-more k n ds g r (suc j) b = rw (many (suc j) n g, r j (tenth (suc j) n b))
+  pub same-more : (n : ℕ) (ds : List ℕ) → base ≤ n → Same base (n / base) ds → Same base n (ds ++ (n % base ∷ []))
+  same-more n ds g r zero b = absurd (omega (arith, rw (pow-suc, pow-zero, one-mul) at b))
+  same-more n ds g r (suc j) b = rw (many-in base (suc j) n g, r j (fewer base two (suc j) n b))
 
-pub room : (k j n : ℕ) → n < 10 ^ suc k → n < 10 ^ suc j → digits (suc k) n ≡ digits (suc j) n
-unfolding Same
-room k j n a b = each Same same-one same-more k n a j b
+  pub room : (k j n : ℕ) → n < base ^ suc k → n < base ^ suc j → digitsIn base (suc k) n ≡ digitsIn base (suc j) n
+  room k j n a b = each-in base two (λ k. Same base) (λ k. same-one) (λ k. same-more) k n a j b
+
+  -- of a number with room for its digits
+  unfolds : (k n : ℕ) → n < base ^ suc (suc k)
+      → digitsIn base (suc (suc k)) n
+      ≡ if′ (ltb n base) (n ∷ []) (digitsIn base (suc (suc k)) (n / base) ++ (n % base ∷ []))
+  unfolding digitsIn
+  unfolds k n b = rw (room k (suc k) (n / base) (fewer base two (suc k) n b) (lt-of-le-of-lt (div-le-self n base) b))
 
 pub decimal-unfolds : DecimalUnfolds
-unfolding decimal digitsIn
-decimal-unfolds n h =
-    let b : n < 10 ^ 39 = has-room n h in
-    rw (room 37 38 (n / 10) (tenth 38 n b) (lt-of-le-of-lt (div-le-self n 10) b))
+unfolding decimal
+decimal-unfolds n h = unfolds 10 (omega arith) 37 n (has-room n h)
+
+pub hexadecimal-unfolds : HexadecimalUnfolds
+unfolding hexadecimal
+hexadecimal-unfolds n h = unfolds 16 (omega arith) 30 n (hex-room n h)
 
 -- ---- the smallest type
 

@@ -40,7 +40,7 @@ blanks-fit zero (b ∷ s) = go (charAt (b ∷ s)) refl (λ skip. blanks-fit skip
         rw (e, blankRun) (by-cases (λ (m : ℕ). m ≤ suc (length s)) (isBlank n) (λ _. omega (arith, more (size - 1))) (λ _. omega arith))
 
 -- a byte that is not 0 stands within the list
-stands : (s : List ℕ) (n c : ℕ) → ltb 0 c ≡ true → eqb (getD s n 0) c ≡ true → n < length s
+pub stands : (s : List ℕ) (n c : ℕ) → ltb 0 c ≡ true → eqb (getD s n 0) c ≡ true → n < length s
 stands s n c h e =
     elim (decLt n (length s)) [
       | yes l ↦ l

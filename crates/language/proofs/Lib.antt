@@ -23,6 +23,7 @@ pub mod SpellingDigits
 pub mod SpellingQuads
 pub mod CanonicalUtf8
 pub mod CanonicalGood
+pub mod LexemeTexts
 pub mod CanonicalNumbers
 pub mod CanonicalSound
 pub mod CanonicalLines
@@ -61,3 +62,4 @@ pub mod JudgementExamples
 pub mod JudgementClaims
 pub mod FindingTokens
 pub mod CheckClaims
+pub mod ShownNames

@@ -2,12 +2,14 @@
 use Prim.Native.Nat.{ℕ, _+_, _-_, _≤_, _<_}
 use mathlib.Core.Path.{_≡_, refl, sym, _∙_}
 use mathlib.Core.Bool.{Bool, true, false, _&&_, _||_, false≢true, and-false}
+use mathlib.Core.List.{List, [], _∷_}
 use mathlib.Core.Logic.{_⊎_, inl, inr}
 use native.Mathlib.Omega.{arith}
 use native.Mathlib.Decide.{decLe}
-use borrow.Author.Tests.{leb-true, le-leb, lt-leb}
-use lib.Dec.{leb}
+use borrow.Author.Tests.{eqb-true, leb-true, le-leb, lt-leb}
+use lib.Dec.{leb, eqb}
 use Rattle.language.specs.Choice.{if′, within}
+use Rattle.language.specs.Lexemes.{same}
 
 -- what would make 0 and 1 equal cannot be
 pub never : {A : Type 0} → _≡_ {A = ℕ} 0 1 → A
@@ -22,6 +24,15 @@ both false b e = absurd (false≢true e)
 pub either : (a b : Bool) → a || b ≡ true → (a ≡ true) ⊎ (b ≡ true)
 either true b e = inl refl
 either false b e = inr e
+
+-- lists that pass the test are equal
+pub same-equal : (v w : List ℕ) → same v w ≡ true → v ≡ w
+same-equal [] [] e = refl
+same-equal [] (y ∷ ys) e = absurd (false≢true e)
+same-equal (x ∷ xs) [] e = absurd (false≢true e)
+same-equal (x ∷ xs) (y ∷ ys) e =
+    let h = both (eqb x y) (same xs ys) e in
+    rw (eqb-true x y (h .0), same-equal xs ys (h .1))
 
 -- what holds of both branches holds of the choice
 pub each-side : {A : Type 0} (P : A → Type 0) (t : Bool) {a b : A} → P a → P b → P (if′ t a b)

@@ -6,10 +6,13 @@ use mathlib.Core.Option.{Option, none, some}
 use mathlib.Core.Logic.{_⊎_, inl, inr}
 use native.Mathlib.Omega.{arith}
 use lib.ListN.{length, drop, length-append, length-drop}
-use lib.Seq.{take-at, drop-at, drop-drop}
+use lib.Seq.{take-append-seam, take-at, drop-at, drop-drop}
 use Rattle.language.specs.Lexemes.{Tok, lParen, rParen, dot, doubleColon, colon, semiColon, equals, comma, slash, importKeyword, letKeyword, identifier, booleanLiteral, ipv4Literal, hexLiteral, decLiteral, unexpectedChar, Kind, trivia, str, tok, error, lexemeOf, lexeme}
 use Rattle.language.specs.Tables.{contentKind}
 use Rattle.language.specs.Tokens.{eof, plain, name, string, Token, contentOf, unquoted, Item, items, Pending, joined, pendingToken, flushed, itemToken, tokensFrom, tokens, eofToken, Place, placeOf, between, PlacesRight, Ordered, ordered-none, ordered-one, TokensInOrder, NamesHeld, bodyOf, bodiesIn, BodiesHeld}
+use Rattle.language.specs.Canonical.{spell, AsSpelt}
+use Rattle.language.proofs.Tests.{never}
+use Rattle.language.proofs.LexemeTexts.{lexeme-spelt}
 use Rattle.language.proofs.CutLexemes.{newline}
 use Rattle.language.proofs.TokenBodies.{Held, held-none, held-more, bodies-of}
 use Rattle.language.proofs.TokenPlaces.{place, itemAt, Walk, walk-end, walk-newline, walk-item, source-walk}
@@ -73,6 +76,8 @@ module _ (source : List ℕ) where
     kinded : contentKind (t .content) ≡ 13 → (bs : List ℕ) × (t .content ≡ name bs)
     named : (bs : List ℕ) → t .content ≡ name bs → between source (t .start) (t .end) ≡ bs
     bodied : (b : List ℕ) (bs : List (List ℕ)) → t .content ≡ string b bs → bodiesIn (between source (t .start) (t .end)) ≡ b ∷ bs
+    spelt : ((n : ℕ) → t .content ≡ plain (hexLiteral n) → ⊥) → ((b : List ℕ) (bs : List (List ℕ)) → t .content ≡ string b bs → ⊥)
+        → spell (t .content) ≡ between source (t .start) (t .end)
 
   -- tokens from `at` on, in order
   data Told : ℕ → List Token → Type 0 where
@@ -127,6 +132,7 @@ module _ (source : List ℕ) where
                 kinded = λ k. absurd (omega arith);
                 named = λ bs e. cc;
                 bodied = λ b bs e. rw span (cc (bodies-of w));
+                spelt = λ _ other. absurd (other first others refl);
               };
           behind = l;
           before = omega arith;
@@ -166,9 +172,14 @@ module _ (source : List ℕ) where
         rw to at (busy (ended (p .start) text s (rw length-append (omega arith)) q′ from (p .line) (p .column) (p .first)
         (p .others ++ unquoted x ∷ []) (w .good .right) (w .behind) held′))
 
-    -- it is a token
-    good-item : (n c : ℕ) (t : Tok) → placeOf source at ≡ place n c → Good (itemToken (itemAt n c at (tok t) x) (contentOf t x))
-    good-item n c t r =
+    -- it is a token, spelt with its bytes but for hexadecimals
+    spelt-item : (t : Tok) → k ≡ tok t → ((n : ℕ) → t ≡ hexLiteral n → ⊥) → spell (contentOf t x) ≡ x
+    spelt-item t e other =
+        let b = rw (rule, e, take-append-seam x s) at (lexeme-spelt (x ++ s)) in
+        b other
+
+    good-item : (n c : ℕ) (t : Tok) → k ≡ tok t → placeOf source at ≡ place n c → Good (itemToken (itemAt n c at (tok t) x) (contentOf t x))
+    good-item n c t is r =
         record {
           right = r;
           some-byte = omega arith;
@@ -177,6 +188,7 @@ module _ (source : List ℕ) where
           kinded = λ k. (x, kind-cases t x .0 k);
           named = λ bs e. elim (content-cases t x) [ inl f ↦ rw (span at x s h q) (cc) | inr f ↦ cc ];
           bodied = λ b bs e. elim (content-cases t x) [ inl f ↦ cc | inr f ↦ cc ];
+          spelt = λ other _. rw (span at x s h q) (spelt-item t is (λ i e. other i (ap (λ (u : Tok). contentOf u x) e)));
         }
 
   -- the tokens of a walk
@@ -192,7 +204,7 @@ module _ (source : List ℕ) where
   told {at} (walk-item {s} n c str x r h g v) from p q w =
       told v from (some (joined p (itemAt n c at str x) (unquoted x))) (reads-on at x s h q) (literal at str x s h g q n c refl r w)
   told {at} (walk-item {s} n c (tok t) x r h g v) from p q w =
-      flush w (λ f l. told-one _ l (good-item at (tok t) x s h g q n c t r) (told v (at + length x) none (reads-on at x s h q) (idle (omega arith))))
+      flush w (λ f l. told-one _ l (good-item at (tok t) x s h g q n c t refl r) (told v (at + length x) none (reads-on at x s h q) (idle (omega arith))))
 
   -- all tokens
   all-told : Told 0 (tokensFrom none (items source))
@@ -225,13 +237,16 @@ pub not-end : (s : List ℕ) (t : Token) → List·Memᴰ t (tokensFrom none (it
 not-end s t m e = omega (arith, not-end-kind s t m, ap contentKind e)
 
 -- a token is good, or it is the end
-good-or-end : (s : List ℕ) (t : Token) → List·Memᴰ t (tokens s) → Good s t ⊎ (t .content ≡ eof)
+good-or-last : (s : List ℕ) (t : Token) → List·Memᴰ t (tokens s) → Good s t ⊎ (t ≡ eofToken s)
 unfolding tokens
-good-or-end s t m =
+good-or-last s t m =
     elim (List·Memᴰ·append-cases (tokensFrom none (items s)) m) [
       | inl n ↦ inl (each-good s (all-told s) n)
-      | inr n ↦ inr (ap (λ (u : Token). u .content) (List·Memᴰ·eq-of-singleton n))
+      | inr n ↦ inr (List·Memᴰ·eq-of-singleton n)
     ]
+
+good-or-end : (s : List ℕ) (t : Token) → List·Memᴰ t (tokens s) → Good s t ⊎ (t .content ≡ eof)
+good-or-end s t m = elim (good-or-last s t m) [ inl g ↦ inl g | inr e ↦ inr (ap (λ (u : Token). u .content) e) ]
 
 pub names-held : NamesHeld
 names-held s t bs m e = elim (good-or-end s t m) [ inl g ↦ g .named bs e | inr f ↦ cc ]
@@ -243,3 +258,15 @@ bodies-held s t b bs m e = elim (good-or-end s t m) [ inl g ↦ g .bodied b bs e
 pub name-kind : (s : List ℕ) (t : Token) → List·Memᴰ t (tokens s) → contentKind (t .content) ≡ 13
     → (bs : List ℕ) × (t .content ≡ name bs)
 name-kind s t m k = elim (good-or-end s t m) [ inl g ↦ g .kinded k | inr f ↦ absurd (omega (arith, rw f at k)) ]
+
+-- a token that is not the end has a byte, and its span lies in the source
+pub span-held : (s : List ℕ) (t : Token) → List·Memᴰ t (tokens s) → (t .content ≡ eof → ⊥) → (t .start < t .end) × (t .end ≤ length s)
+span-held s t m n = elim (good-or-end s t m) [ inl g ↦ (g .some-byte, g .in-room) | inr f ↦ absurd (n f) ]
+
+-- the end is spelt with no bytes
+spelt-last : (s : List ℕ) → spell eof ≡ between s (length s) (length s)
+unfolding spell
+spelt-last s = let n : length s - length s ≡ 0 = omega arith in rw n
+
+pub as-spelt : AsSpelt
+as-spelt s t m f g = elim (good-or-last s t m) [ inl h ↦ h .spelt f g | inr e ↦ rw e (spelt-last s) ]

@@ -1,7 +1,8 @@
--- The bytes of a name and the bodies of a string, by the index of their token: the contents decide them.
+-- The bytes of a name and the bodies of a string, by the index of their token: the contents decide them. Both are parts of
+-- the source.
 use Prim.Native.Nat.{ℕ}
 use mathlib.Core.Path.{_≡_, refl, sym, ap, _∙_}
-use mathlib.Core.Bool.{true, false}
+use mathlib.Core.Bool.{true, false, false≢true}
 use mathlib.Core.List.{List, [], _∷_, List·Memᴰ}
 use native.Mathlib.Omega.{arith}
 use borrow.Author.Tests.{eqb-true}
@@ -12,10 +13,10 @@ use Rattle.language.specs.Tables.{contentKind}
 use Rattle.language.specs.Sentences.{is}
 use Rattle.language.specs.Judgements.{nameAt, nameIn}
 use Rattle.language.specs.Numbers.{tokenOf}
-use Rattle.language.specs.Checks.{bodiesAt}
+use Rattle.language.specs.Checks.{bodiesAt, PartOf}
 use Rattle.language.proofs.TokenContents.{as-many}
 use Rattle.language.proofs.TokensAt.{mem-at, content-of}
-use Rattle.language.proofs.TokenClaims.{names-held, bodies-held, name-kind}
+use Rattle.language.proofs.TokenClaims.{names-held, bodies-held, name-kind, span-held}
 use Rattle.language.proofs.SentenceOutcomes.{before-end}
 
 module _ (s : List ℕ) (t : ℕ) where
@@ -33,3 +34,9 @@ module _ (s : List ℕ) (t : ℕ) where
 
   pub bodies-shown : (b : List ℕ) (bs : List (List ℕ)) → getD (contents (tokens s)) t eof ≡ string b bs → bodiesAt s t ≡ b ∷ bs
   bodies-shown b bs e = bodies-held s (tokenOf s t) b bs (inside (string b bs) refl (rw e)) (sym (content-of s t) ∙ e)
+
+  -- and it is a part of the source
+  pub part-shown : (c : Content) → eqb 1 (contentKind c) ≡ false → is (contents (tokens s)) t c ≡ true
+      → PartOf s (tokenOf s t .start) (tokenOf s t .end)
+  part-shown c k e =
+      span-held s (tokenOf s t) (inside c k e) (λ f. false≢true (sym k ∙ (rw (content-of s t, f) at e)))

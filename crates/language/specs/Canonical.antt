@@ -2,7 +2,7 @@
 use Prim.Native.Nat.{ℕ, _+_, _/_, _%_, _≤_}
 use mathlib.Core.Path.{_≡_}
 use mathlib.Core.Bool.{Bool, true, false}
-use mathlib.Core.List.{List, [], _∷_, _++_}
+use mathlib.Core.List.{List, [], _∷_, _++_, List·Memᴰ}
 use mathlib.Core.Option.{Option, none, some}
 use lib.Dec.{ltb}
 use lib.ListN.{length}
@@ -10,7 +10,7 @@ use Rattle.language.specs.Choice.{if′}
 use Rattle.language.specs.Integers.{decimal, hexadecimal}
 use Rattle.language.specs.Lexemes.{Tok, lParen, rParen, dot, doubleColon, colon, semiColon, equals, comma, slash, importKeyword, letKeyword, identifier, booleanLiteral, ipv4Literal, hexLiteral, decLiteral, import′, let′, true′, false′}
 use Rattle.language.specs.Utf8.{firstBad}
-use Rattle.language.specs.Tokens.{Content, eof, plain, name, string, items, firstWrong, tokens, contents}
+use Rattle.language.specs.Tokens.{Content, eof, plain, name, string, Token, items, firstWrong, tokens, contents, between}
 
 -- ---- a token's spelling
 
@@ -136,3 +136,13 @@ abbrev pub SameText : Type 0
 SameText =
     (s t : List ℕ) → Fits s → Fits t
     → (text s ≡ text t → contents (tokens s) ≡ contents (tokens t)) × (contents (tokens s) ≡ contents (tokens t) → text s ≡ text t)
+
+-- "so an identity copy or empty text is excluded as well": a source whose text is neither
+abbrev pub NotACopy : Type 0
+NotACopy = (s : List ℕ) × Fits s × (text s ≡ s → ⊥) × (text s ≡ [] → ⊥)
+
+-- "Words, punctuation and quads as spelt, decimals plain": all but hexadecimals and strings are spelt as the source has them
+abbrev pub AsSpelt : Type 0
+AsSpelt =
+    (s : List ℕ) (t : Token) → List·Memᴰ t (tokens s) → ((n : ℕ) → t .content ≡ plain (hexLiteral n) → ⊥)
+    → ((b : List ℕ) (bs : List (List ℕ)) → t .content ≡ string b bs → ⊥) → spell (t .content) ≡ between s (t .start) (t .end)

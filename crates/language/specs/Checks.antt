@@ -2,18 +2,18 @@
 -- "checking the text with the same rooms gives the same answer (refusals too, with the same number and kind), the same
 -- counts, and the same diagnostics and statements in the same order, places aside, names and string bodies compared by
 -- their bytes".
-use Prim.Native.Nat.{ℕ}
+use Prim.Native.Nat.{ℕ, _≤_, _<_}
 use mathlib.Core.Path.{_≡_}
-use mathlib.Core.List.{List, [], List·Memᴰ}
+use mathlib.Core.List.{List, [], _∷_, List·Memᴰ}
 use lib.Dec.{eqb}
-use lib.ListN.{drop}
+use lib.ListN.{length, drop}
 use Rattle.table.specs.Table.{tabled}
 use Rattle.language.specs.Choice.{if′}
-use Rattle.language.specs.Tokens.{tokens, contents, between, bodiesIn}
+use Rattle.language.specs.Tokens.{string, tokens, contents, between, bodiesIn}
 use Rattle.language.specs.Canonical.{text, Lexes, Fits}
-use Rattle.language.specs.Values.{isString}
-use Rattle.language.specs.Judgements.{What, alreadyBound, Diag, errorsIn, Held}
-use Rattle.language.specs.Findings.{Detail, detail, diagRow, diagWidth, stmtRow, stmtWidth}
+use Rattle.language.specs.Values.{Value, isString, tableText}
+use Rattle.language.specs.Judgements.{What, unknownItem, alreadyBound, Diag, errorsIn, Held, nameAt}
+use Rattle.language.specs.Findings.{Detail, detail, diagRow, diagWidth, valueText, shownLow, shownHigh, stmtRow, stmtWidth}
 use Rattle.language.specs.Numbers.{Checked, checkAnswer, checkNodes, checkDiags, checkStmts, checked, foundBy, heldBy, tokenOf, whereDone, SamePlace}
 
 -- ---- answers
@@ -102,3 +102,33 @@ CheckedByContents = (s u : List ℕ) → Lexes s → Lexes u → contents (token
 -- and so are a source and its canonical text: "for sources that lex without refusal and whose canonical text fits"
 abbrev pub TextChecked : Type 0
 TextChecked = (s : List ℕ) → Fits s → CheckedAlike (text s) s
+
+-- ---- names that are shown
+
+-- from one place of a text to a later one
+abbrev pub PartOf : List ℕ → ℕ → ℕ → Type 0
+PartOf text start end = (start < end) × (end ≤ length text)
+
+-- "A name shown in a diagnostic is a part of the source or of the table's text": in the source it is the name of the token
+-- where the finding stands. An unknown item shows its module's name too, by its first two numbers.
+pub record NameShown (s : List ℕ) (d : Diag) (a : Detail) : Type 0 where
+  pub known : a .text ≤ 2
+  pub source : a .text ≡ 1 → PartOf s (a .start) (a .end) × (between s (a .start) (a .end) ≡ nameAt (contents (tokens s)) (d .at))
+  pub table : a .text ≡ 2 → PartOf tableText (a .start) (a .end)
+  pub inside : (m : ℕ) → d .what ≡ unknownItem m → PartOf tableText (a .first) (a .second)
+
+-- a statement's text: in the source a string by its token, whose span lies there and holds its bodies; else a part of the
+-- table's text, the bytes or the function's name
+pub record TextShown (s : List ℕ) (v : Value) : Type 0 where
+  pub known : valueText v ≤ 2
+  pub source : valueText v ≡ 1
+      → (b : List ℕ) × (bs : List (List ℕ)) × (tokenOf s (shownLow v) .content ≡ string b bs) × (bodiesAt s (shownLow v) ≡ b ∷ bs)
+      × PartOf s (tokenOf s (shownLow v) .start) (tokenOf s (shownLow v) .end)
+  pub table : valueText v ≡ 2 → PartOf tableText (shownLow v) (shownHigh v)
+
+-- of every finding, and of every statement that is held
+abbrev pub NamesShown : Type 0
+NamesShown =
+    (s : List ℕ)
+    → ((d : Diag) → List·Memᴰ d (foundBy (checked s)) → NameShown s d (detail (tokenOf s) (d .at) (d .what)))
+    × ((h : Held) → List·Memᴰ h (heldBy (checked s)) → TextShown s (h .value))

@@ -79,19 +79,32 @@ isTruncated n = not (eqb (low16 n) n)
 
 -- ---- the claims
 
+-- digits of a base
+abbrev pub AllBelow : ℕ → List ℕ → Type 0
+AllBelow base ds = (i : ℕ) → i < length ds → getD ds i 0 < base
+
 abbrev pub AllDigits : List ℕ → Type 0
-AllDigits ds = (i : ℕ) → i < length ds → getD ds i 0 < 10
+AllDigits ds = AllBelow 10 ds
 
--- the decimal digits have the number as their value, are digits, and the first is 0 for the number 0 alone
+-- the digits of a number in a base: they have it as their value, are digits, one at the least and `most` at the most, and
+-- the first is 0 for the number 0 alone
+abbrev pub DigitsRight : ℕ → ℕ → ℕ → List ℕ → Type 0
+DigitsRight base most n ds =
+    (valueOf base ds ≡ n) × AllBelow base ds × (0 < length ds) × (length ds ≤ most) × ((getD ds 0 0 ≡ 0) → ds ≡ 0 ∷ [])
+
 abbrev pub DecimalIsRight : Type 0
-DecimalIsRight =
-    (n : ℕ) → n < limit
-    → (valueOf 10 (decimal n) ≡ n) × AllDigits (decimal n) × (0 < length (decimal n)) × (length (decimal n) ≤ mostDigits)
-    × ((getD (decimal n) 0 0 ≡ 0) → decimal n ≡ 0 ∷ [])
+DecimalIsRight = (n : ℕ) → n < limit → DigitsRight 10 mostDigits n (decimal n)
 
--- the equation without a bound that a reader expects of decimal digits
+-- "no leading zeros (zero is `0x0`)"
+abbrev pub HexadecimalIsRight : Type 0
+HexadecimalIsRight = (n : ℕ) → n < limit → DigitsRight 16 32 n (hexadecimal n)
+
+-- the equations without a bound that a reader expects of digits
 abbrev pub DecimalUnfolds : Type 0
 DecimalUnfolds = (n : ℕ) → n < limit → decimal n ≡ if′ (ltb n 10) (n ∷ []) (decimal (n / 10) ++ (n % 10 ∷ []))
+
+abbrev pub HexadecimalUnfolds : Type 0
+HexadecimalUnfolds = (n : ℕ) → n < limit → hexadecimal n ≡ if′ (ltb n 16) (n ∷ []) (hexadecimal (n / 16) ++ (n % 16 ∷ []))
 
 -- the type that is found holds the number, and none that is smaller does; none is found where none holds it
 abbrev pub SmallestHolds : Type 0

@@ -1,0 +1,117 @@
+-- What a row shows is a part of the source or of the table's text.
+use Prim.Native.Nat.{ℕ, _≤_}
+use mathlib.Core.Path.{_≡_, refl, sym, ap, _∙_}
+use mathlib.Core.Bool.{true}
+use mathlib.Core.List.{List, []}
+use native.Mathlib.Omega.{arith}
+use Rattle.language.specs.Tokens.{Content, name, string, tokens, contents}
+use Rattle.language.specs.Sentences.{is}
+use Rattle.language.specs.Values.{Value, isInteger, isBool, isSized, isIp4, isSock4, isString, isText, isFunction, Ty, tyBool, tyInt, tyIp4, tySock4, tyBytes, tyFunction, tyInteger, tableText, entryAt}
+use Rattle.language.specs.Judgements.{What, unknownName, unknownItem, unknownModule, notImported, notAModule, notAValue, alreadyBound, noMembers, operandType, integralTooLarge, multipleImports, discardedValue, truncated, diag}
+use Rattle.language.specs.Findings.{whatKind, tyEntry, tyText, named, typed, detail, valueText, shownLow, shownHigh}
+use Rattle.language.specs.Numbers.{checked, tokenOf}
+use Rattle.language.specs.Checks.{PartOf, NameShown, TextShown, NamesShown}
+use Rattle.language.proofs.Tests.{never}
+use Rattle.language.proofs.TokensAt.{content-of}
+use Rattle.language.proofs.TokenTexts.{name-shown, bodies-shown, part-shown}
+use Rattle.language.proofs.FindingTokens.{NamedTy, Shown, Right, outcome-grounded}
+use Rattle.language.proofs.CheckClaims.{no-source}
+
+-- a type's text is none, or the name of a function
+text-known : (t : Ty) → tyText t ≤ 2
+text-known tyBool = omega arith
+text-known (tyInt t) = omega arith
+text-known tyIp4 = omega arith
+text-known tySock4 = omega arith
+text-known tyBytes = omega arith
+text-known (tyFunction k) = omega arith
+text-known tyInteger = omega arith
+
+text-named : (t : Ty) → NamedTy t → tyText t ≡ 2 → PartOf tableText (entryAt (tyEntry t) .start) (entryAt (tyEntry t) .end)
+text-named (tyFunction k) h e = h
+text-named tyBool h e = absurd (omega arith)
+text-named (tyInt t) h e = absurd (omega arith)
+text-named tyIp4 h e = absurd (omega arith)
+text-named tySock4 h e = absurd (omega arith)
+text-named tyBytes h e = absurd (omega arith)
+text-named tyInteger h e = absurd (omega arith)
+
+module _ (s : List ℕ) where
+  abbrev cs : List Content
+  cs = contents (tokens s)
+
+  -- ---- findings
+
+  module _ (n at : ℕ) where
+    -- the name of a token, and no other
+    shows-name : (w : What) (a b : ℕ) → is cs at (name []) ≡ true → ((m : ℕ) → w ≡ unknownItem m → PartOf tableText a b)
+        → NameShown s (diag n at w) (named w (tokenOf s at) a b)
+    shows-name w a b h more =
+        record {
+          known = omega arith;
+          source = λ _. (part-shown s at (name []) refl h, name-shown s at h);
+          table = λ e. absurd (omega arith);
+          inside = more;
+        }
+
+    -- a type
+    shows-type : (w : What) (t : Ty) (a b c : ℕ) → (whatKind w ≡ 2 → ⊥) → NamedTy t → NameShown s (diag n at w) (typed w t a b c)
+    shows-type w t a b c o h =
+        record {
+          known = text-known t;
+          source = λ e. absurd (no-source t e);
+          table = text-named t h;
+          inside = λ m e. absurd (o (ap whatKind e));
+        }
+
+    finding-shown : (w : What) → Shown cs w at → NameShown s (diag n at w) (detail (tokenOf s) at w)
+    finding-shown unknownName h = shows-name unknownName 0 0 h (λ m e. never (cc))
+    finding-shown (unknownItem m) h =
+        shows-name (unknownItem m) (entryAt m .start) (entryAt m .end) (h .0) (λ k e. let z : m ≡ k = cc in h .1)
+    finding-shown unknownModule h = shows-name unknownModule 0 0 h (λ m e. never (cc))
+    finding-shown notImported h = shows-name notImported 0 0 h (λ m e. never (cc))
+    finding-shown notAModule h = shows-name notAModule 0 0 h (λ m e. never (cc))
+    finding-shown notAValue h = shows-name notAValue 0 0 h (λ m e. never (cc))
+    finding-shown multipleImports h = shows-name multipleImports 0 0 h (λ m e. never (cc))
+    finding-shown (alreadyBound t) h = shows-name (alreadyBound t) _ _ h (λ m e. never (cc))
+    finding-shown (noMembers t) h = shows-type (noMembers t) t 0 0 0 (omega arith) h
+    finding-shown (operandType x t f) h = shows-type (operandType x t f) f _ _ 1 (omega arith) h
+    finding-shown (discardedValue t) h = shows-type (discardedValue t) t 0 0 0 (omega arith) h
+    finding-shown (truncated k t) h = shows-type (truncated k t) t _ _ 0 (omega arith) h
+    finding-shown integralTooLarge h =
+        record { known = omega arith; source = λ e. absurd (omega arith); table = λ e. absurd (omega arith); inside = λ m e. never (cc) }
+
+  -- ---- statements
+
+  -- no text
+  no-text : (v : Value) → valueText v ≡ 0 → TextShown s v
+  no-text v e =
+      record { known = omega arith; source = λ f. absurd (omega arith); table = λ f. absurd (omega arith) }
+
+  -- a part of the table's text
+  table-text : (v : Value) → valueText v ≡ 2 → PartOf tableText (shownLow v) (shownHigh v) → TextShown s v
+  table-text v e h = record { known = omega arith; source = λ f. absurd (omega arith); table = λ _. h }
+
+  held-shown : (v : Value) → Right cs v → TextShown s v
+  held-shown (isString t) (b, bs, h) =
+      record {
+        known = omega arith;
+        source = λ _. (b, bs, sym (content-of s t) ∙ h, bodies-shown s t b bs h, part-shown s t (string b bs) refl (rw h));
+        table = λ e. absurd (omega arith);
+      }
+  held-shown (isText a b) h = table-text (isText a b) refl h
+  held-shown (isFunction k) h = table-text (isFunction k) refl h
+  held-shown (isInteger n) h = no-text (isInteger n) refl
+  held-shown (isBool b) h = no-text (isBool b) refl
+  held-shown (isSized t n) h = no-text (isSized t n) refl
+  held-shown (isIp4 n) h = no-text (isIp4 n) refl
+  held-shown (isSock4 n p) h = no-text (isSock4 n p) refl
+
+pub names-shown : NamesShown
+unfolding checked
+names-shown s =
+    let g = outcome-grounded (contents (tokens s)) in
+    (
+      λ d m. finding-shown s (d .statement) (d .at) (d .what) (g .found .holds d m),
+      λ h m. held-shown s (h .value) (g .kept .holds h m),
+    )
