@@ -1,8 +1,8 @@
 -- Each call's answer goes by the rows of 01's table.
-use Prim.Native.Nat.{ℕ, suc}
+use Prim.Native.Nat.{ℕ, suc, _<_}
 use mathlib.Core.Path.{_≡_, refl}
 use mathlib.Core.List.{List, _++_}
-use mathlib.Core.Logic.{_↔_}
+use mathlib.Core.Logic.{_↔_, inl, inr}
 use native.Mathlib.Omega.{arith}
 use lib.Dec.{ltb, eqb}
 use lib.ListN.{length, drop}
@@ -14,9 +14,11 @@ use Rattle.language.specs.Sentences.{Out, ok, no, Stmt, nodes}
 use Rattle.language.specs.Judgements.{Outcome, judged, refused, errorsIn}
 use Rattle.language.specs.Numbers.{mostBytes, Verdict, verdict, placed, lexical, tokenPlace, Scanned, scanned, scanAnswer, Lexed, lexed, lexAnswer, Parsed, parsedAs, parseAnswer, parsedNodes, Canonised, canonAnswer, Checked, refusedCheck, firstCall, statementsOf, checked, judgedWithin, checkAnswer}
 use Rattle.language.specs.Names.{FirstTooMany}
-use Rattle.language.specs.Exactly.{TooLong, NotUtf8, WrongLexeme, TokensExceed, Stops, NodesExceed, bare, stopping, done, lexing, sentences, judging, parse, Reason, unexpectedToken, intOutOfRange, oneTooMany, scanRows, lexRows, parseRows, canonRows, checkRows, ScanExactly, LexExactly, ParseExactly, CanonExactly, CheckExactly}
+use Rattle.language.specs.Exactly.{TooLong, NotUtf8, WrongLexeme, TokensExceed, Unexpected, OneMore, NodesExceed, bare, done, lexing, sentences, judging, parse, Reason, unexpectedToken, intOutOfRange, oneTooMany, scanRows, lexRows, parseRows, canonRows, checkRows, ScanExactly, LexExactly, ParseExactly, CanonExactly, CheckExactly}
 use Rattle.language.proofs.Tests.{never}
 use Rattle.language.proofs.SentenceRefusals.{stops-for}
+use Rattle.language.proofs.Bounds.{earlier-decides, as-alone}
+use Rattle.language.proofs.Counted.{counted}
 use Rattle.language.proofs.Names.{names-refused}
 use Rattle.language.proofs.ExactlyRows.{absent, Met, here, later, rowOf, exactly, less, equal, tested, one-tested, both-tested, finds, after}
 
@@ -63,19 +65,47 @@ stops-once e f = cc
 ends : {o : Out (List Stmt)} {ss : List Stmt} {at x n k u : ℕ} → o ≡ ok ss at x → o ≡ no n k u → ⊥
 ends e f = never (cc)
 
+-- it stops with 5 and with 7 just where the rows say
+module _ (s : List ℕ) where
+  refused-five : (k at : ℕ) → parse s ≡ no 5 k at → Unexpected s
+  refused-five k at e =
+      let f = as-alone (contents (tokens s)) .0 k at e in
+      record {
+        kind = k;
+        token = at;
+        found = f;
+        earlier = λ t q.
+        let n : ¬ (t < at) = λ l. let z = stops-once e (counted (contents (tokens s)) t .1 (q, rw f l)) in omega arith in
+        omega (arith, n);
+      }
+
+  five-refused : (h : Unexpected s) → parse s ≡ no 5 (h .kind) (h .token)
+  five-refused h =
+      elim (earlier-decides (contents (tokens s)) .0 (h .kind) (h .token) (h .found)) [
+        | inl e ↦ e
+        | inr e ↦ absurd (omega (arith, h .earlier (e .0) (counted (contents (tokens s)) (e .0) .0 (e .2) .0), e .1))
+      ]
+
+  refused-seven : (at : ℕ) → parse s ≡ no 7 0 at → OneMore s
+  refused-seven at e = let f = counted (contents (tokens s)) at .0 e in record { token = at; found = f .0; earlier = f .1 }
+
+  seven-refused : (h : OneMore s) → parse s ≡ no 7 0 (h .token)
+  seven-refused h = counted (contents (tokens s)) (h .token) .1 (h .found, h .earlier)
+
 module _ (s : List ℕ) (room count : ℕ) where
   stopped : (n k at : ℕ) → Reason n k → parse s ≡ no n k at
       → Met (parsedAs s room count (no n k at) .verdict) (sentences s room ++ done)
-  stopped n k at unexpectedToken e = here (stopping 5 s) (record { kind = 1; token = at; found = e }) refl refl
-  stopped n k at intOutOfRange e = here (stopping 5 s) (record { kind = 2; token = at; found = e }) refl refl
+  unfolding refused-five refused-seven
+  stopped n k at unexpectedToken e = here (rowOf 5 (sentences s room)) (refused-five s 1 at e) refl refl
+  stopped n k at intOutOfRange e = here (rowOf 5 (sentences s room)) (refused-five s 2 at e) refl refl
   stopped n k at oneTooMany e =
-      later (λ h. let z = stops-once e (h .found) in omega arith)
-      (here (stopping 7 s) (record { kind = 0; token = at; found = e }) refl refl)
+      later (λ h. let z = stops-once e (five-refused s h) in omega arith)
+      (here (rowOf 7 (sentences s room)) (refused-seven s at e) refl refl)
 
   parsed-met : (o : Out (List Stmt)) → parse s ≡ o → Met (parsedAs s room count o .verdict) (sentences s room ++ done)
   parsed-met (no n k at) e = stopped n k at (stops-for (contents (tokens s)) n k at e) e
   parsed-met (ok ss at x) e =
-      later (λ h. ends e (h .found)) (later (λ h. ends e (h .found))
+      later (λ h. ends e (five-refused s h)) (later (λ h. ends e (seven-refused s h))
       (rw e (tested (λ (a : Parsed). a .verdict) 6 (ltb room (length (nodes ss))) (less room (length (nodes ss))) refl all-done)))
 
 parse-met : (s : List ℕ) (t n : ℕ) → Met (parseAnswer s t n .verdict) (parseRows s t n)
@@ -128,5 +158,5 @@ check-exactly s t n k =
 
 six : (s : List ℕ) (t n : ℕ)
     → parseAnswer s t n .verdict .number ≡ 6
-    ↔ (¬ TooLong s) × ((¬ NotUtf8 s) × ((¬ WrongLexeme s) × ((¬ TokensExceed s t) × ((¬ Stops 5 s) × ((¬ Stops 7 s) × NodesExceed s n)))))
+    ↔ (¬ TooLong s) × ((¬ NotUtf8 s) × ((¬ WrongLexeme s) × ((¬ TokensExceed s t) × ((¬ Unexpected s) × ((¬ OneMore s) × NodesExceed s n)))))
 six s t n = parse-exactly s t n .given 6

@@ -13,6 +13,8 @@ use Rattle.language.specs.Lexemes.{LexErrorKind, scan}
 use Rattle.language.specs.Tokens.{Content, Item, wrong, Wrong, items, firstWrong, tokens, contents, placeOf}
 use Rattle.language.specs.Canonical.{text}
 use Rattle.language.specs.Sentences.{Out, no, Stmt, Node, callKind, program}
+use Rattle.language.specs.Bounds.{alone, reached}
+use Rattle.language.specs.Counted.{tooMany}
 use Rattle.language.specs.Judgements.{errorsIn}
 use Rattle.language.specs.Numbers.{mostBytes, Verdict, verdict, placed, lexical, tokenPlace, scanAnswer, lexAnswer, parseAnswer, parsedNodes, canonAnswer, firstCall, statementsOf, checked, foundBy, heldBy, checkAnswer}
 use Rattle.language.specs.Names.{FirstTooMany}
@@ -44,14 +46,20 @@ LexemesExceed line room = room < length (scan line)
 abbrev pub parse : List ℕ → Out (List Stmt)
 parse s = program (contents (tokens s))
 
--- parsing stops at a token: with 5 for "`UnexpectedToken` or the parser's `IntOutOfRange`", which its kind says, and with 7 at
--- "a 33rd open list or a 65th step". That "between 5 and 7 the earlier token decides" is `EarlierDecides` (Bounds.antt): where
--- the grammar without bounds refuses a token, it is 5 there or 7 at a token before it. Which token is a 33rd open list or a 65th
--- step is a plain count over the tokens (`tooMany`), and `Counted` says that 7 goes by it (Counted.antt).
-pub record Stops (n : ℕ) (s : List ℕ) : Type 0 where
+-- "`UnexpectedToken` or the parser's `IntOutOfRange`", which its kind says: the grammar without bounds (`alone`) refuses the token,
+-- and no token before it is a list or a step too many. "Between 5 and 7 the earlier token decides"
+pub record Unexpected (s : List ℕ) : Type 0 where
   pub kind : ℕ
   pub token : ℕ
-  pub found : parse s ≡ no n kind token
+  pub found : alone (contents (tokens s)) ≡ no 5 kind token
+  pub earlier : (t : ℕ) → tooMany (contents (tokens s)) ≡ some t → token ≤ t
+
+-- "a 33rd open list or a 65th step": the first token that a plain count over the tokens finds to be one; and the grammar without
+-- bounds comes past it
+pub record OneMore (s : List ℕ) : Type 0 where
+  pub token : ℕ
+  pub found : tooMany (contents (tokens s)) ≡ some token
+  pub earlier : token < reached (alone (contents (tokens s)))
 
 -- the numbers with which parsing stops, and their kinds: "Number 5 names which of its two kinds it is"
 pub data Reason : ℕ → ℕ → Type 0 where
@@ -96,13 +104,6 @@ row n C f = record { number = n; when = C; told = f }
 abbrev pub bare : ℕ → Type 0 → Row
 bare n C = row n C (λ _. verdict n 0 0)
 
--- "that token"
-abbrev pub stopping : ℕ → List ℕ → Row
-stopping n s =
-    row n (Stops n s) (λ h.
-    let p = tokenPlace s (h .token) in
-    record { number = n; kind = h .kind; line = p .line; column = p .column; character = 0 })
-
 -- "done"
 abbrev pub done : List Row
 done = bare 0 Unit ∷ []
@@ -117,7 +118,13 @@ lexing s room =
     ∷ []
 
 abbrev pub sentences : List ℕ → ℕ → List Row
-sentences s room = stopping 5 s ∷ stopping 7 s ∷ bare 6 (NodesExceed s room) ∷ []
+sentences s room =
+    row 5 (Unexpected s) (λ h.
+    let p = tokenPlace s (h .token) in
+    record { number = 5; kind = h .kind; line = p .line; column = p .column; character = 0 })
+    ∷ row 7 (OneMore s) (λ h. placed 7 (tokenPlace s (h .token)))
+    ∷ bare 6 (NodesExceed s room)
+    ∷ []
 
 abbrev pub judging : List ℕ → ℕ → List Row
 judging s room =
