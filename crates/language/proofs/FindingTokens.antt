@@ -10,7 +10,6 @@ use native.Mathlib.Decide.{decLt}
 use borrow.Author.Tests.{ltb-true, leb-true}
 use lib.Dec.{ltb, leb, eqb}
 use lib.ListN.{length, getD}
-use Rattle.language.specs.Choice.{if′}
 use Rattle.language.specs.Integers.{u16, smallest, low16, isTruncated}
 use Rattle.language.specs.Lexemes.{Tok, lParen, rParen, dot, doubleColon, colon, semiColon, equals, comma, slash, importKeyword, letKeyword, identifier, booleanLiteral, ipv4Literal, hexLiteral, decLiteral, same}
 use Rattle.language.specs.Tokens.{Content, eof, plain, name, string}
@@ -314,7 +313,8 @@ module _ (ts : List Content) where
       chain-fine (is-address {at = at} a b) = alone (literal-right at (content ts at) refl)
       chain-fine (is-sock4 a b c) = alone tt
       chain-fine (is-local {at = at} a b) =
-          alone (bound-sound at (find (k .bindings) (nameAt ts at)) (a .passes) (find-bound (k .bindings) (nameAt ts at) (sure .values)))
+          alone (bound-sound at (find (k .bindings) (nameAt ts at)) (a .passes)
+          (find-bound (k .bindings) (nameAt ts at) (sure .values)))
       chain-fine (is-path {at = at} {n = m} a p l b) =
           alone (below-sound at m (findImport (k .imports) (nameAt ts at)) (a .passes) (names-at at (a .after) p)
           (find-import (k .imports) (nameAt ts at) (sure .modules)))
@@ -411,7 +411,8 @@ module _ (ts : List Content) where
   -- whatever the contents are, and if they are no program nothing is found
   parsed-grounded : (o : Out (List Stmt)) → Every (λ ss next x. Program ts 0 ss next) o → Grounded (judgeAll ts (statementsOf o))
   unfolding run
-  parsed-grounded (ok ss at x) h = run-grounded (h .holds) 1 (known [] []) [] [] (record { values = of-none; modules = of-none }) of-none of-none
+  parsed-grounded (ok ss at x) h =
+      run-grounded (h .holds) 1 (known [] []) [] [] (record { values = of-none; modules = of-none }) of-none of-none
   parsed-grounded (no n m at) h = record { found = of-none; kept = of-none }
 
   pub outcome-grounded : Grounded (judgeAll ts (statementsOf (program ts)))

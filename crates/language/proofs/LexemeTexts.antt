@@ -1,16 +1,15 @@
 -- A lexeme that is a token is spelt with its bytes, hexadecimals aside.
 use Prim.Native.Nat.{ℕ, zero, suc, _<_}
 use mathlib.Core.Path.{_≡_, refl, sym, ap}
-use mathlib.Core.Bool.{Bool, true, false}
+use mathlib.Core.Bool.{true, false}
 use mathlib.Core.List.{List, [], _∷_}
 use mathlib.Core.Option.{Option, none, some}
 use native.Mathlib.Omega.{arith}
 use borrow.Author.Tests.{eqb-true}
 use lib.Dec.{ltb, eqb}
 use lib.ListN.{length, getD, take, drop}
-use Rattle.language.specs.Choice.{if′}
 use Rattle.language.specs.Utf8.{Char, char, noChar, charAt}
-use Rattle.language.specs.Lexemes.{Tok, lParen, rParen, dot, doubleColon, colon, semiColon, equals, comma, slash, importKeyword, letKeyword, identifier, booleanLiteral, ipv4Literal, hexLiteral, decLiteral, Kind, trivia, str, tok, error, Lexeme, isBlank, isDigit, isWordStart, isWord, isBody, run, same, import′, let′, true′, false′, word, Number, value, wrong, readDigits, numbered, startsHex, startsZero, integer, Quad, quad, notQuad, quadFrom, quadLexeme, number, punctuation, ascii, lexemeAt, lexeme}
+use Rattle.language.specs.Lexemes.{Tok, hexLiteral, decLiteral, Kind, trivia, str, tok, error, Lexeme, isBlank, isDigit, isWordStart, isWord, isBody, run, same, import′, let′, true′, false′, word, Number, value, wrong, readDigits, numbered, startsHex, startsZero, integer, Quad, quad, notQuad, quadFrom, quadLexeme, number, punctuation, ascii, lexemeAt, lexeme}
 use Rattle.language.specs.Lexemes as lexemes
 use Rattle.language.specs.Tokens.{contentOf}
 use Rattle.language.specs.Canonical.{spellTok, spell}

@@ -79,7 +79,12 @@ module _ (s : List ℕ) where
     finding-shown (discardedValue t) h = shows-type (discardedValue t) t 0 0 0 (omega arith) h
     finding-shown (truncated k t) h = shows-type (truncated k t) t _ _ 0 (omega arith) h
     finding-shown integralTooLarge h =
-        record { known = omega arith; source = λ e. absurd (omega arith); table = λ e. absurd (omega arith); inside = λ m e. never (cc) }
+        record {
+          known = omega arith;
+          source = λ e. absurd (omega arith);
+          table = λ e. absurd (omega arith);
+          inside = λ m e. never (cc);
+        }
 
   -- ---- statements
 

@@ -174,11 +174,10 @@ module _ (source : List ℕ) where
 
     -- it is a token, spelt with its bytes but for hexadecimals
     spelt-item : (t : Tok) → k ≡ tok t → ((n : ℕ) → t ≡ hexLiteral n → ⊥) → spell (contentOf t x) ≡ x
-    spelt-item t e other =
-        let b = rw (rule, e, take-append-seam x s) at (lexeme-spelt (x ++ s)) in
-        b other
+    spelt-item t e = rw (rule, e, take-append-seam x s) at (lexeme-spelt (x ++ s))
 
-    good-item : (n c : ℕ) (t : Tok) → k ≡ tok t → placeOf source at ≡ place n c → Good (itemToken (itemAt n c at (tok t) x) (contentOf t x))
+    good-item : (n c : ℕ) (t : Tok) → k ≡ tok t → placeOf source at ≡ place n c
+        → Good (itemToken (itemAt n c at (tok t) x) (contentOf t x))
     good-item n c t is r =
         record {
           right = r;
@@ -204,7 +203,8 @@ module _ (source : List ℕ) where
   told {at} (walk-item {s} n c str x r h g v) from p q w =
       told v from (some (joined p (itemAt n c at str x) (unquoted x))) (reads-on at x s h q) (literal at str x s h g q n c refl r w)
   told {at} (walk-item {s} n c (tok t) x r h g v) from p q w =
-      flush w (λ f l. told-one _ l (good-item at (tok t) x s h g q n c t refl r) (told v (at + length x) none (reads-on at x s h q) (idle (omega arith))))
+      flush w (λ f l. told-one _ l (good-item at (tok t) x s h g q n c t refl r)
+      (told v (at + length x) none (reads-on at x s h q) (idle (omega arith))))
 
   -- all tokens
   all-told : Told 0 (tokensFrom none (items source))
