@@ -12,9 +12,11 @@ ghost use Rattle.wide.specs.Wide.{valueOf};
 ghost use Rattle.canon.specs.Writing.{Writes, literalsText, literalText, markOf, boolText, fixedText, rowText, gapText, RowFits, Lexes, WritesText};
 ghost use Rattle.canon.specs.Entry.{CanonSource};
 use lex::Lexer;
+use lex::TokenRow;
 use scan::LexemeKind;
 use scan::Scanner;
 use scan::Step;
+use scan::Tok;
 use scan::Verdict;
 use wide::Wide;
 
@@ -58,9 +60,9 @@ fn decimal_text(v: Wide, text: &mut [u8], at: usize) -> usize
     ensures { λ r. ⌜ Writes (now (text .entry)) at (spellDigits (decimal (valueOf v))) r (now (text .exit)) ⌝ }
     ensures { λ r. ⌜ r ≤ at + 39 ⌝ }
 {
-    let mut digits = [0u8; 39];
+    let mut digits = [0u8; Wide::MOST_DIGITS];
     let start = v.decimal(&mut digits);
-    copy(&digits, start, 39, text, at)
+    copy(&digits, start, Wide::MOST_DIGITS, text, at)
 }
 
 fn octet_text(n: u64, text: &mut [u8], at: usize) -> usize
@@ -78,11 +80,11 @@ fn hex_text(v: Wide, text: &mut [u8], at: usize) -> usize
     ensures { λ r. ⌜ Writes (now (text .entry)) at (48 ∷ 120 ∷ spellDigits (hexadecimal (valueOf v))) r (now (text .exit)) ⌝ }
     ensures { λ r. ⌜ r ≤ at + 34 ⌝ }
 {
-    let mut digits = [0u8; 32];
+    let mut digits = [0u8; Wide::MOST_HEX_DIGITS];
     let start = v.hexadecimal(&mut digits);
     let a = put(48, text, at);
     let b = put(120, text, a);
-    copy(&digits, start, 32, text, b)
+    copy(&digits, start, Wide::MOST_HEX_DIGITS, text, b)
 }
 
 // Four numbers with dots between.
@@ -155,14 +157,14 @@ fn mark(kind: u64) -> u8
     ensures { λ r. ⌜ r ≡ markOf kind ⌝ }
 {
     match kind {
-        2 => 40,
-        3 => 41,
-        4 => 46,
-        6 => 58,
-        7 => 59,
-        8 => 61,
-        9 => 44,
-        _ => 47,
+        Tok::LPAREN => b'(',
+        Tok::RPAREN => b')',
+        Tok::DOT => b'.',
+        Tok::COLON => b':',
+        Tok::SEMI_COLON => b';',
+        Tok::EQUALS => b'=',
+        Tok::COMMA => b',',
+        _ => b'/',
     }
 }
 
@@ -184,10 +186,10 @@ fn fixed_text(kind: u64, low: u64, text: &mut [u8], at: usize) -> usize
     ensures { λ r. ⌜ r ≤ at + 6 ⌝ }
 {
     match kind {
-        5 => copy(b"::", 0, 2, text, at),
-        11 => copy(b"import", 0, 6, text, at),
-        12 => copy(b"let", 0, 3, text, at),
-        14 => bool_text(low, text, at),
+        Tok::DOUBLE_COLON => copy(b"::", 0, 2, text, at),
+        Tok::IMPORT_KEYWORD => copy(b"import", 0, 6, text, at),
+        Tok::LET_KEYWORD => copy(b"let", 0, 3, text, at),
+        Tok::BOOLEAN_LITERAL => bool_text(low, text, at),
         _ => put(mark(kind), text, at),
     }
 }
@@ -199,16 +201,16 @@ fn token_text(source: &[u8], toks: &[u64], row: usize, text: &mut [u8], at: usiz
     ensures { λ r. ⌜ r ≤ at + 262144 ⌝ }
 {
     let kind = toks[row];
-    let start = toks[row + 3] as usize;
-    let end = toks[row + 4] as usize;
-    let low = toks[row + 5];
-    let high = toks[row + 6];
+    let start = toks[row + TokenRow::START] as usize;
+    let end = toks[row + TokenRow::END] as usize;
+    let low = toks[row + TokenRow::LOW];
+    let high = toks[row + TokenRow::HIGH];
     match kind {
-        13 => copy(source, start, end, text, at),
-        15 => quad_text(low, text, at),
-        16 => literals(&source[start..end], text, at),
-        17 => hex_text(Wide { hi: high, lo: low }, text, at),
-        18 => decimal_text(Wide { hi: high, lo: low }, text, at),
+        Tok::IDENTIFIER => copy(source, start, end, text, at),
+        Tok::IPV4_LITERAL => quad_text(low, text, at),
+        Tok::STRING_LITERAL => literals(&source[start..end], text, at),
+        Tok::HEX_LITERAL => hex_text(Wide { hi: high, lo: low }, text, at),
+        Tok::DEC_LITERAL => decimal_text(Wide { hi: high, lo: low }, text, at),
         _ => fixed_text(kind, low, text, at),
     }
 }
@@ -219,11 +221,11 @@ fn separator(kind: u64, next: u64, text: &mut [u8], at: usize) -> usize
     ensures { λ r. ⌜ Writes (now (text .entry)) at (gapText kind next) r (now (text .exit)) ⌝ }
     ensures { λ r. ⌜ r ≤ at + 1 ⌝ }
 {
-    if kind == 7 {
+    if kind == Tok::SEMI_COLON {
         return put(10, text, at);
     }
     // nothing before `Eof`
-    if next == 1 {
+    if next == Tok::EOF {
         return at;
     }
     put(32, text, at)
@@ -269,7 +271,7 @@ fn too_long(toks: &mut [u64], written: &mut [u8]) -> Canonised
 {
     table::clear(toks);
     table::clear_bytes(written);
-    refused(Verdict::new(10, 0, 0))
+    refused(Verdict::new(Verdict::TEXT_ROOM, 0, 0))
 }
 
 // Lexes a source into a lent table of tokens, and writes its canonical text to a lent text.

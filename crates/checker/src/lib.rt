@@ -16,16 +16,15 @@ ghost use Rattle.judging.specs.Judging.{tokenAs, Lexed, keyOf, Keyed, Ready, Kn
 ghost use Rattle.checker.specs.Checking.{plusError, plusStatement, plusName, plusImport, entryRow, HeldRow, bareAs, Narrow, Shown, Tells, Exprs, Turns, Binds, Room, StmtFits, StmtsAt, RowFits, RowTurns, noCounts, Grows, Comes};
 ghost use Rattle.scan.specs.Scanning.{verdictAs};
 ghost use Rattle.checker.specs.Entry.{refusal, callAs, GivesUp, Parses, CheckSource};
-use constants::Constants;
+use constants::{Constants, Ty};
 use lex::Lexer;
-use parse::Parser;
-use scan::Verdict;
-use judging::{Counts, Detail, Fault, Judged, Judgement, Text, Token, Value};
+use parse::{NodeKind, NodeRow, Parser};
+use scan::{Tok, Verdict};
+use judging::{Counts, Detail, Entry, Fault, Judged, Judgement, Name, Text, Token, Value};
 use wide::{Size, Wide};
 
 // The checker's state: two arrays of empty entries for the names that are bound and imported, filled in order of binding,
-// and `Counts`, which says how many of each are filled. An entry holds where the name's span starts and ends, its token,
-// its value as three words, and the name's key (crate `judging`).
+// and `Counts`, which says how many of each are filled.
 pub struct Checker {}
 
 impl Checker {
@@ -36,18 +35,21 @@ impl Checker {
     pub const DIAGNOSTIC_WORDS: usize = Fault::WORDS;
     pub const STATEMENT_WORDS: usize = 7;
 
+    // The kind of a statement that is held: hir.rs `StmtKind::Discard`.
+    pub const DISCARD: u64 = 1;
+
     // An entry with no name and no value.
-    pub const EMPTY: [u64; 7] = [0; 7];
+    pub const EMPTY: Entry = [0; Name::WORDS];
 
     // No names yet.
-    pub fn names() -> [[u64; 7]; Checker::NAMES]
+    pub fn names() -> [Entry; Checker::NAMES]
         ensures { λ r. ⌜ length r ≡ 512 ⌝ }
     {
         [Checker::EMPTY; Checker::NAMES]
     }
 
     // No imports yet.
-    pub fn modules() -> [[u64; 7]; Checker::IMPORTS]
+    pub fn modules() -> [Entry; Checker::IMPORTS]
         ensures { λ r. ⌜ length r ≡ 64 ⌝ }
     {
         [Checker::EMPTY; Checker::IMPORTS]
@@ -145,7 +147,7 @@ fn held_one(counts: Counts) -> Counts
 fn name_span(tok: Token) -> Span
     ensures { λ r. ⌜ ((s : List ℕ) (t : ℕ) → tok ≡ tokenAs (tokenOf s t) → between s (r .start) (r .end) ≡ nameAt (contents (tokens s)) t) ⌝ }
 {
-    if tok.kind == 13 {
+    if tok.kind == Tok::IDENTIFIER {
         return Span {
             start: tok.start,
             end: tok.end,
@@ -162,33 +164,32 @@ fn key_at(source: &[u8], tok: Token) -> u64
 }
 
 // Writes an entry of a table of names.
-fn put_entry(entries: &mut [[u64; 7]], row: usize, name: Span, key: u64, t: u64, v: Value)
+fn put_entry(entries: &mut [Entry], row: usize, name: Span, key: u64, t: u64, v: Value)
     requires { ⌜ row < length (now entries) ⌝ }
     ensures { λ _. ⌜ now (entries .exit) ≡ set (now (entries .entry)) row (entryRow (name .start) (name .end) key t v) ⌝ }
 {
     entries[row] = [name.start, name.end, t, v.kind, v.lo, v.hi, key];
 }
 
-// What is shown of a value that a statement discards: which text (0 none, 1 the source, 2 the constant table's), and two
-// words.
+// What is shown of a value that a statement discards: which text, and two words.
 fn shown(v: Value) -> Text
     ensures { λ r. ⌜ Shown v r ⌝ }
 {
     let kind = v.kind;
     match kind {
-        14 => judging::type_text(v),
-        17 => Text {
-            from: 2,
+        Ty::FUNCTION => judging::type_text(v),
+        Ty::TABLE_BYTES => Text {
+            from: Text::TABLE,
             start: v.lo,
             end: v.hi,
         },
-        9 => Text {
-            from: 1,
+        Ty::BYTES => Text {
+            from: Text::SOURCE,
             start: v.lo,
             end: v.hi,
         },
         _ => Text {
-            from: 0,
+            from: Text::NONE,
             start: v.lo,
             end: v.hi,
         },
@@ -203,7 +204,7 @@ fn put_stmt(stmts: &mut [u64], row: usize, tok: Token, v: Value)
     let words: [u64; Checker::STATEMENT_WORDS] = [
         tok.line,
         tok.column,
-        1,
+        Checker::DISCARD,
         judging::type_kind(v),
         text.from,
         text.start,
@@ -238,12 +239,12 @@ fn bare(kind: u64, tok: Token) -> Fault
     ensures { λ r. ⌜ r ≡ bareAs kind tok ⌝ }
 {
     let detail = Detail {
-        severity: 1,
+        severity: Fault::ERROR,
         kind,
-        text: 0,
+        text: Text::NONE,
         start: 0,
         end: 0,
-        ty: 0,
+        ty: Ty::NONE,
         first: 0,
         second: 0,
         third: 0,
@@ -261,16 +262,16 @@ fn bare(kind: u64, tok: Token) -> Fault
 fn narrow(v: Value) -> Narrowed
     ensures { λ r. ⌜ Narrow v r ⌝ }
 {
-    if v.kind != 16 {
+    if v.kind != Ty::INTEGER {
         return Narrowed::Fits(v);
     }
     let n = Wide { hi: v.hi, lo: v.lo };
     let lo = v.lo;
     match n.smallest() {
-        Size::U8 => Narrowed::Fits(Value { kind: 3, lo, hi: 0 }),
-        Size::U16 => Narrowed::Fits(Value { kind: 4, lo, hi: 0 }),
-        Size::U32 => Narrowed::Fits(Value { kind: 5, lo, hi: 0 }),
-        Size::U64 => Narrowed::Fits(Value { kind: 6, lo, hi: 0 }),
+        Size::U8 => Narrowed::Fits(Value { kind: Ty::U8, lo, hi: 0 }),
+        Size::U16 => Narrowed::Fits(Value { kind: Ty::U16, lo, hi: 0 }),
+        Size::U32 => Narrowed::Fits(Value { kind: Ty::U32, lo, hi: 0 }),
+        Size::U64 => Narrowed::Fits(Value { kind: Ty::U64, lo, hi: 0 }),
         Size::TooLarge => Narrowed::TooLarge,
     }
 }
@@ -285,26 +286,26 @@ fn tell(toks: &[u64], diags: &mut [u64], stmts: &mut [u64], t: u64, v: Value, co
     match narrow(v) {
         Narrowed::Fits(w) => {
             put_stmt(stmts, counts.statements, tok, w);
-            held_one(warn(diags, judging::typed(2, 24, tok, w, 0, 0, 0), counts))
+            held_one(warn(diags, judging::typed(Fault::WARNING, Fault::DISCARDED_VALUE, tok, w, 0, 0, 0), counts))
         }
-        Narrowed::TooLarge => error(diags, bare(22, tok), counts),
+        Narrowed::TooLarge => error(diags, bare(Fault::INTEGRAL_TOO_LARGE, tok), counts),
     }
 }
 
 // An expression as a statement: row i.
-fn expr_stmt(source: &[u8], toks: &[u64], nodes: &[u64], bindings: &[[u64; 7]], imports: &[[u64; 7]], diags: &mut [u64], stmts: &mut [u64], i: usize, counts: Counts) -> Counts
+fn expr_stmt(source: &[u8], toks: &[u64], nodes: &[u64], bindings: &[Entry], imports: &[Entry], diags: &mut [u64], stmts: &mut [u64], i: usize, counts: Counts) -> Counts
     requires { ⌜ Ready (now source) (now toks) (now bindings) (now imports) counts ⌝ }
     requires { ⌜ StmtFits (now nodes) i counts × (5 * i + 5 ≤ length (now nodes)) ⌝ }
     ensures { λ r. ⌜ ((n : ℕ) (k : Known) (e : Expr) → Knows (now (source .entry)) (now (bindings .entry)) (now (imports .entry)) counts k
         → RepAt (now (nodes .entry)) (word (now (nodes .entry)) i 2) e
         → Exprs (now (source .entry)) n k e counts (now (diags .entry)) (now (stmts .entry)) r (now (diags .exit)) (now (stmts .exit))) ⌝ }
 {
-    let e = judging::word(nodes, i, 2) as usize;
+    let e = judging::word(nodes, i, NodeRow::FIRST) as usize;
     let j = judging::judge(source, toks, nodes, bindings, imports, diags, e, counts);
     let out = j.out;
     let found = j.counts;
     match out {
-        Judged::Val(v) => tell(toks, diags, stmts, judging::word(nodes, e, 1), v, found),
+        Judged::Val(v) => tell(toks, diags, stmts, judging::word(nodes, e, NodeRow::TOKEN), v, found),
         Judged::Err(f) => error(diags, f, found),
         Judged::Poisoned => found,
     }
@@ -321,7 +322,7 @@ fn module_at(source: &[u8], tok: Token) -> u64
 }
 
 // `import` of the name at the token t. A failed import poisons its name, as a failed `let` does.
-fn import(source: &[u8], toks: &[u64], imports: &mut [[u64; 7]], diags: &mut [u64], t: u64, counts: Counts) -> Turn
+fn import(source: &[u8], toks: &[u64], imports: &mut [Entry], diags: &mut [u64], t: u64, counts: Counts) -> Turn
     requires { ⌜ Lexed (now source) (now toks) × (64 ≤ length (now imports)) × (counts .imported ≤ 64) × Keyed (now source) (now imports) (counts .imported) ⌝ }
     requires { ⌜ Room counts ⌝ }
     ensures { λ r. ⌜ ((n : ℕ) (k : Known) (b : List (List ℕ)) (u : List ℕ) → Knows (now (source .entry)) b (now (imports .entry)) counts k
@@ -333,7 +334,7 @@ fn import(source: &[u8], toks: &[u64], imports: &mut [[u64; 7]], diags: &mut [u6
     let imported = counts.imported;
     let i = judging::find(source, imports, imported, judging::name_at(source, tok));
     if i < imported {
-        return Turn::Went(warn(diags, judging::named(2, 23, tok, 0, 0), counts));
+        return Turn::Went(warn(diags, judging::named(Fault::WARNING, Fault::MULTIPLE_IMPORTS, tok, 0, 0), counts));
     }
     if Checker::IMPORTS <= imported {
         return Turn::Full(t);
@@ -343,13 +344,13 @@ fn import(source: &[u8], toks: &[u64], imports: &mut [[u64; 7]], diags: &mut [u6
     put_entry(imports, imported, name_span(tok), key_at(source, tok), t, v);
     let more = imported_one(counts);
     if kind == 0 {
-        return Turn::Went(error(diags, judging::named(1, 4, tok, 0, 0), more));
+        return Turn::Went(error(diags, judging::named(Fault::ERROR, Fault::UNKNOWN_MODULE, tok, 0, 0), more));
     }
     Turn::Went(more)
 }
 
 // Binds a name to what its value came to; where that failed, to nothing.
-fn bind(bindings: &mut [[u64; 7]], diags: &mut [u64], name: Span, key: u64, t: u64, j: Judgement) -> Counts
+fn bind(bindings: &mut [Entry], diags: &mut [u64], name: Span, key: u64, t: u64, j: Judgement) -> Counts
     requires { ⌜ (j .counts .used < 512) × (512 ≤ length (now bindings)) ⌝ }
     requires { ⌜ Room (j .counts) ⌝ }
     ensures { λ r. ⌜ Binds (now (bindings .entry)) (now (diags .entry)) (name .start) (name .end) key t j r (now (bindings .exit)) (now (diags .exit)) ⌝ }
@@ -357,7 +358,7 @@ fn bind(bindings: &mut [[u64; 7]], diags: &mut [u64], name: Span, key: u64, t: u
     let out = j.out;
     let counts = j.counts;
     let none = Value {
-        kind: 0,
+        kind: Ty::NONE,
         lo: 0,
         hi: 0,
     };
@@ -378,7 +379,7 @@ fn bind(bindings: &mut [[u64; 7]], diags: &mut [u64], name: Span, key: u64, t: u
 }
 
 // `let` in row i. `AlreadyBound` is found before the value is read.
-fn let_stmt(source: &[u8], toks: &[u64], nodes: &[u64], bindings: &mut [[u64; 7]], imports: &[[u64; 7]], diags: &mut [u64], i: usize, counts: Counts) -> Turn
+fn let_stmt(source: &[u8], toks: &[u64], nodes: &[u64], bindings: &mut [Entry], imports: &[Entry], diags: &mut [u64], i: usize, counts: Counts) -> Turn
     requires { ⌜ Ready (now source) (now toks) (now bindings) (now imports) counts × (length (now bindings) ≡ 512) ⌝ }
     requires { ⌜ StmtFits (now nodes) i counts × (5 * i + 5 ≤ length (now nodes)) ⌝ }
     ensures { λ r. ⌜ ((n : ℕ) (k : Known) (e : Expr) (u : List ℕ) → Knows (now (source .entry)) (now (bindings .entry)) (now (imports .entry)) counts k
@@ -386,24 +387,28 @@ fn let_stmt(source: &[u8], toks: &[u64], nodes: &[u64], bindings: &mut [[u64; 7]
         → Turns (now (source .entry)) (now (toks .entry)) counts (now (diags .entry)) u r (now (bindings .exit)) (now (imports .entry)) (now (diags .exit)) u
             (stmt (contents (tokens (now (source .entry)))) n k (let′ (word (now (nodes .entry)) i 1) e))) ⌝ }
 {
-    let t = judging::word(nodes, i, 1);
+    let t = judging::word(nodes, i, NodeRow::TOKEN);
     let tok = judging::token_at(toks, t);
     let used = counts.used;
     let at = judging::find(source, bindings, used, judging::name_at(source, tok));
     if at < used {
-        let first = judging::token_at(toks, bindings[at][2]);
-        return Turn::Went(error(diags, judging::named(1, 8, tok, first.line, first.column), counts));
+        let first = judging::token_at(toks, bindings[at][Name::TOKEN]);
+        return Turn::Went(error(
+            diags,
+            judging::named(Fault::ERROR, Fault::ALREADY_BOUND, tok, first.line, first.column),
+            counts,
+        ));
     }
     if Checker::NAMES <= used {
         return Turn::Full(t);
     }
-    let e = judging::word(nodes, i, 2) as usize;
+    let e = judging::word(nodes, i, NodeRow::FIRST) as usize;
     let j = judging::judge(source, toks, nodes, bindings, imports, diags, e, counts);
     Turn::Went(bind(bindings, diags, name_span(tok), key_at(source, tok), t, j))
 }
 
 // Row i: a statement takes its turn, a row of an expression is passed.
-fn stmt(source: &[u8], toks: &[u64], nodes: &[u64], bindings: &mut [[u64; 7]], imports: &mut [[u64; 7]], diags: &mut [u64], stmts: &mut [u64], i: usize, counts: Counts) -> Turn
+fn stmt(source: &[u8], toks: &[u64], nodes: &[u64], bindings: &mut [Entry], imports: &mut [Entry], diags: &mut [u64], stmts: &mut [u64], i: usize, counts: Counts) -> Turn
     requires { ⌜ Ready (now source) (now toks) (now bindings) (now imports) counts × (length (now bindings) ≡ 512) × (length (now imports) ≡ 64) ⌝ }
     requires { ⌜ RowFits (now nodes) i counts × (5 * i + 5 ≤ length (now nodes)) ⌝ }
     ensures { λ r. ⌜ ((n : ℕ) (k : Known) (ss : List Stmt) → Knows (now (source .entry)) (now (bindings .entry)) (now (imports .entry)) counts k
@@ -411,10 +416,10 @@ fn stmt(source: &[u8], toks: &[u64], nodes: &[u64], bindings: &mut [[u64; 7]], i
         → RowTurns (now (source .entry)) (now (toks .entry)) (now (nodes .entry)) i n k counts (now (bindings .entry)) (now (imports .entry)) (now (diags .entry)) (now (stmts .entry))
             r (now (bindings .exit)) (now (imports .exit)) (now (diags .exit)) (now (stmts .exit)) ss) ⌝ }
 {
-    match judging::word(nodes, i, 0) {
-        11 => import(source, toks, imports, diags, judging::word(nodes, i, 1), counts),
-        12 => let_stmt(source, toks, nodes, bindings, imports, diags, i, counts),
-        13 => Turn::Went(expr_stmt(source, toks, nodes, bindings, imports, diags, stmts, i, counts)),
+    match judging::word(nodes, i, NodeRow::KIND) {
+        NodeKind::IMPORT => import(source, toks, imports, diags, judging::word(nodes, i, NodeRow::TOKEN), counts),
+        NodeKind::LET => let_stmt(source, toks, nodes, bindings, imports, diags, i, counts),
+        NodeKind::EXPRESSION => Turn::Went(expr_stmt(source, toks, nodes, bindings, imports, diags, stmts, i, counts)),
         _ => Turn::Went(counts),
     }
 }
@@ -480,8 +485,8 @@ fn first_call(nodes: &[u64]) -> Call
     let mut i = nodes.len() / Parser::ROW_WORDS;
     while 0 < i {
         i -= 1;
-        if judging::word(nodes, i, 0) == 8 {
-            found = sooner(judging::word(nodes, i, 4), found);
+        if judging::word(nodes, i, NodeRow::KIND) == NodeKind::CALL {
+            found = sooner(judging::word(nodes, i, NodeRow::THIRD), found);
         }
     }
     found
@@ -506,7 +511,7 @@ fn done(counts: Counts, count: usize, rows: usize, statements: usize) -> CheckAn
     ensures { λ r. ⌜ r ≡ record { verdict = verdictAs (verdict 0 0 0); tokens = count; nodes = rows; errors = counts .errors; warnings = counts .warnings; statements = statements } ⌝ }
 {
     CheckAnswer {
-        verdict: Verdict::new(0, 0, 0),
+        verdict: Verdict::new(Verdict::DONE, 0, 0),
         tokens: count as u64,
         nodes: rows as u64,
         errors: counts.errors as u64,
@@ -550,7 +555,7 @@ fn conclude(counts: Counts, count: usize, rows: usize, toks: &mut [u64], nodes: 
         return done(counts, count, rows, 0);
     }
     if stmts.len() / Checker::STATEMENT_WORDS < counts.statements {
-        return give_up(Verdict::new(11, 0, 0), toks, nodes, diags, stmts);
+        return give_up(Verdict::new(Verdict::STATEMENT_ROOM, 0, 0), toks, nodes, diags, stmts);
     }
     done(counts, count, rows, counts.statements)
 }
@@ -568,7 +573,7 @@ fn check_statements(source: &[u8], toks: &mut [u64], nodes: &mut [u64], diags: &
     match run(source, &toks[..token_words], &nodes[..node_words], diags, stmts) {
         Turn::Went(counts) => conclude(counts, count, rows, toks, nodes, diags, stmts),
         Turn::Full(t) => {
-            let found = at_token(toks, count, 9, t);
+            let found = at_token(toks, count, Verdict::NAMES, t);
             give_up(found, toks, nodes, diags, stmts)
         }
     }
@@ -584,7 +589,7 @@ fn check_tree(source: &[u8], toks: &mut [u64], nodes: &mut [u64], diags: &mut [u
     let node_words = Parser::ROW_WORDS * rows;
     match first_call(&nodes[..node_words]) {
         Call::At(t) => {
-            let found = at_token(toks, count, 8, t);
+            let found = at_token(toks, count, Verdict::CALLS, t);
             give_up(found, toks, nodes, diags, stmts)
         }
         Call::Nowhere => check_statements(source, toks, nodes, diags, stmts, count, rows),
@@ -600,7 +605,7 @@ pub fn check_source(source: &[u8], toks: &mut [u64], nodes: &mut [u64], diags: &
     table::clear(stmts);
     let parsed = parse::parse_source(source, toks, nodes);
     let verdict = parsed.verdict;
-    if verdict.number != 0 {
+    if verdict.number != Verdict::DONE {
         return refused(verdict);
     }
     check_tree(source, toks, nodes, diags, stmts, parsed.tokens as usize, parsed.nodes as usize)

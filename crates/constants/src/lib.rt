@@ -11,6 +11,27 @@ ghost use Rattle.language.specs.Tokens.{between};
 ghost use Rattle.language.specs.Values.{tableText, lookup};
 ghost use Rattle.constants.specs.Constants.{tableRows, orZero, isHit, entryWord, textOf};
 
+// The types of values, by their numbers: in the order of check.rs `Ty`, where those between are types that no value has yet.
+pub struct Ty {}
+
+impl Ty {
+    // of a module, and of a name whose statement failed
+    pub const NONE: u64 = 0;
+    pub const BOOL: u64 = 2;
+    pub const U8: u64 = 3;
+    pub const U16: u64 = 4;
+    pub const U32: u64 = 5;
+    pub const U64: u64 = 6;
+    pub const IP4: u64 = 7;
+    pub const SOCK4: u64 = 8;
+    pub const BYTES: u64 = 9;
+    pub const FUNCTION: u64 = 14;
+    // an integer that has no size yet
+    pub const INTEGER: u64 = 16;
+    // bytes that are in the table's text; their type is shown as `BYTES`
+    pub const TABLE_BYTES: u64 = 17;
+}
+
 pub struct Constants {
     pub rows: [u64; Constants::WORDS],
     pub text: [u8; Constants::BYTES],
@@ -22,21 +43,31 @@ impl Constants {
     pub const WORDS: usize = 54;
     pub const BYTES: usize = 38;
 
+    // The number of the last entry.
+    pub const LAST: u64 = Constants::ENTRIES as u64;
+
+    // The words of a row, after the module's number.
+    pub const NAME_START: usize = 1;
+    pub const NAME_END: usize = 2;
+    pub const KIND: usize = 3;
+    pub const LOW: usize = 4;
+    pub const HIGH: usize = 5;
+
     // A copy of the table, to be lent: a constant array is made anew wherever it is named.
     pub fn new() -> Self
         ensures { λ r. ⌜ (r .rows ≡ tableRows) × (r .text ≡ tableText) ⌝ }
     {
         Constants {
             rows: [
-                0, 0, 5, 0, 0, 0, // bench
-                1, 5, 9, 4, 80, 0, // HTTP
-                1, 9, 13, 7, 2130706433, 0, // LOOP
-                1, 13, 16, 5, 70000, 0, // BIG
-                1, 16, 18, 2, 1, 0, // ON
-                1, 18, 24, 17, 24, 26, // BANNER
-                1, 26, 30, 14, 7, 0, // ping
-                1, 30, 34, 0, 0, 0, // deep
-                8, 34, 38, 3, 0, 0, // ZERO
+                0, 0, 5, Ty::NONE, 0, 0, // bench
+                1, 5, 9, Ty::U16, 80, 0, // HTTP
+                1, 9, 13, Ty::IP4, 2130706433, 0, // LOOP
+                1, 13, 16, Ty::U32, 70000, 0, // BIG
+                1, 16, 18, Ty::BOOL, 1, 0, // ON
+                1, 18, 24, Ty::TABLE_BYTES, 24, 26, // BANNER
+                1, 26, 30, Ty::FUNCTION, 7, 0, // ping
+                1, 30, 34, Ty::NONE, 0, 0, // deep
+                8, 34, 38, Ty::U8, 0, 0, // ZERO
             ],
             text: *b"benchHTTPLOOPBIGONBANNERokpingdeepZERO",
         }
@@ -94,7 +125,7 @@ pub fn entry_word(rows: &[u64; Constants::WORDS], k: u64, j: usize) -> u64
     if k == 0 {
         return 0;
     }
-    if 9 < k {
+    if Constants::LAST < k {
         return 0;
     }
     rows[(k as usize - 1) * Constants::ROW_WORDS + j]
@@ -115,8 +146,8 @@ fn is_hit(
     if rows[at] != inside {
         return false;
     }
-    let a = rows[at + 1] as usize;
-    let e = rows[at + 2] as usize;
+    let a = rows[at + Constants::NAME_START] as usize;
+    let e = rows[at + Constants::NAME_END] as usize;
     same(part(text, a, e), name)
 }
 

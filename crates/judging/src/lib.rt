@@ -1,9 +1,5 @@
 // Judging expressions: what the rows of a tree come to. Ports the expression part of check.rs; the definitions are
 // `Judgements` and `Findings` of the crate `language`. Warnings are written as they are found, an error is handed back.
-//
-// Kinds of nodes: 2 a literal, 3 an address with a port, 4 a name, 5 a path, 6 a member, 7 `/`, 8 a call.
-// Kinds of values: 2 a bool, 3 to 6 an integer of 8 to 64 bits, 7 an address, 8 an address with a port, 9 a string, 14 a
-// function, 16 an integer with no size yet, 17 bytes of the constant table; 0 stands for none.
 ghost use mathlib.Core.Path.{_≡_};
 ghost use mathlib.Core.List.{List, []};
 ghost use Prim.Native.Nat.{ℕ, _+_, _*_, _<_, _≤_};
@@ -17,7 +13,10 @@ ghost use Rattle.language.specs.Values.{entryAt};
 ghost use Rattle.language.specs.Judgements.{Known, nameAt, literalAt, err, unknownItem, lastItem, walk, judge};
 ghost use Rattle.constants.specs.Constants.{tableRows};
 ghost use Rattle.judging.specs.Judging.{tokenAs, rowToken, Lexed, valueAs, sock4As, judgedAs, namedAs, TypeShown, TypeText, TypedFault, truncatedAs, faultRow, isIntegral, keyOf, nameWord, nameOf, Keyed, namesIn, place, heldAs, LocalIs, PathIs, Ready, Knows, Agrees, LeafIs, Members, Operand, Narrows, Integral, word, RepAt, Fits, SlashFits, plusWarnings};
-use constants::Constants;
+use constants::{Constants, Ty};
+use lex::{Lexer, TokenRow};
+use parse::{NodeKind, NodeRow, Parser};
+use scan::Tok;
 use wide::Wide;
 
 // A row of the token table.
@@ -31,12 +30,7 @@ pub struct Token {
     pub hi: u64,
 }
 
-impl Token {
-    // How many words a row has.
-    pub const WORDS: usize = 7;
-}
-
-// A value: its kind, and two words.
+// A value: its kind, which is a number of `Ty`, and two words.
 pub struct Value {
     pub kind: u64,
     pub lo: u64,
@@ -66,6 +60,30 @@ pub struct Fault {
 impl Fault {
     // How many words a row of the diagnostic table has.
     pub const WORDS: usize = 11;
+
+    // The severities.
+    pub const ERROR: u64 = 1;
+    pub const WARNING: u64 = 2;
+
+    // The kinds, in the order of check.rs, `SemanticErrorKind` first, then `WarningKind`. Those between are not given yet.
+    pub const UNKNOWN_NAME: u64 = 1;
+    pub const UNKNOWN_ITEM: u64 = 2;
+    pub const UNKNOWN_MODULE: u64 = 4;
+    pub const NOT_IMPORTED: u64 = 5;
+    pub const NOT_A_MODULE: u64 = 6;
+    pub const NOT_A_VALUE: u64 = 7;
+    pub const ALREADY_BOUND: u64 = 8;
+    pub const NO_MEMBERS: u64 = 9;
+    pub const OPERAND_TYPE: u64 = 10;
+    pub const INTEGRAL_TOO_LARGE: u64 = 22;
+    pub const MULTIPLE_IMPORTS: u64 = 23;
+    pub const DISCARDED_VALUE: u64 = 24;
+    pub const TRUNCATED: u64 = 25;
+
+    // The sides of an operand, and the operator.
+    pub const LEFT: u64 = 1;
+    pub const RIGHT: u64 = 2;
+    pub const SLASH: u64 = 1;
 }
 
 // What an expression comes to. A name whose `let` or `import` failed poisons what it stands in.
@@ -90,12 +108,38 @@ pub struct Judgement {
     pub counts: Counts,
 }
 
-// Which text is shown (0 none, 2 the constant table's), and where in it.
+// Which text is shown, and where in it.
 pub struct Text {
     pub from: u64,
     pub start: u64,
     pub end: u64,
 }
+
+impl Text {
+    pub const NONE: u64 = 0;
+    // in the source
+    pub const SOURCE: u64 = 1;
+    // in the constant table's text
+    pub const TABLE: u64 = 2;
+}
+
+// A name that is bound or imported: where it starts and ends in the source, its token, three words of what it stands for,
+// which are a value or the number of a module, 0 where its statement failed; and the name's key.
+pub struct Name {}
+
+impl Name {
+    // How many words its entry in a table of names has, and which they are.
+    pub const WORDS: usize = 7;
+    pub const START: usize = 0;
+    pub const END: usize = 1;
+    pub const TOKEN: usize = 2;
+    pub const KIND: usize = 3;
+    pub const LOW: usize = 4;
+    pub const HIGH: usize = 5;
+    pub const KEY: usize = 6;
+}
+
+pub type Entry = [u64; Name::WORDS];
 
 // ---- tokens
 
@@ -103,15 +147,15 @@ fn token_row(toks: &[u64], i: usize) -> Token
     requires { ⌜ 7 * i + 7 ≤ length (now toks) ⌝ }
     ensures { λ r. ⌜ r ≡ rowToken (now (toks .entry)) i ⌝ }
 {
-    let at = Token::WORDS * i;
+    let at = Lexer::ROW_WORDS * i;
     Token {
         kind: toks[at],
-        line: toks[at + 1],
-        column: toks[at + 2],
-        start: toks[at + 3],
-        end: toks[at + 4],
-        lo: toks[at + 5],
-        hi: toks[at + 6],
+        line: toks[at + TokenRow::LINE],
+        column: toks[at + TokenRow::COLUMN],
+        start: toks[at + TokenRow::START],
+        end: toks[at + TokenRow::END],
+        lo: toks[at + TokenRow::LOW],
+        hi: toks[at + TokenRow::HIGH],
     }
 }
 
@@ -120,7 +164,7 @@ pub fn token_at(toks: &[u64], t: u64) -> Token
     requires { ⌜ 7 ≤ length (now toks) ⌝ }
     ensures { λ r. ⌜ ((s : List ℕ) → Lexed s (now (toks .entry)) → r ≡ tokenAs (tokenOf s t)) ⌝ }
 {
-    let count = toks.len() / Token::WORDS;
+    let count = toks.len() / Lexer::ROW_WORDS;
     let i = t as usize;
     if i < count {
         return token_row(toks, i);
@@ -133,7 +177,7 @@ fn two_after(toks: &[u64], t: u64) -> Token
     requires { ⌜ 7 ≤ length (now toks) ⌝ }
     ensures { λ r. ⌜ ((s : List ℕ) → Lexed s (now (toks .entry)) → r ≡ tokenAs (tokenOf s (t + 2))) ⌝ }
 {
-    let count = toks.len() / Token::WORDS;
+    let count = toks.len() / Lexer::ROW_WORDS;
     if (t as usize) < count {
         return token_at(toks, t + 2);
     }
@@ -144,7 +188,7 @@ fn two_after(toks: &[u64], t: u64) -> Token
 pub fn name_at(source: &[u8], tok: Token) -> &[u8]
     ensures { λ r. ⌜ ((t : ℕ) → tok ≡ tokenAs (tokenOf (now (source .entry)) t) → now r ≡ nameAt (contents (tokens (now (source .entry)))) t) ⌝ }
 {
-    if tok.kind == 13 {
+    if tok.kind == Tok::IDENTIFIER {
         return constants::part(source, tok.start as usize, tok.end as usize);
     }
     constants::part(source, 0, 0)
@@ -159,10 +203,10 @@ pub fn named(severity: u64, kind: u64, tok: Token, a: u64, b: u64) -> Fault
     let detail = Detail {
         severity,
         kind,
-        text: 1,
+        text: Text::SOURCE,
         start: tok.start,
         end: tok.end,
-        ty: 0,
+        ty: Ty::NONE,
         first: a,
         second: b,
         third: 0,
@@ -178,8 +222,8 @@ pub fn named(severity: u64, kind: u64, tok: Token, a: u64, b: u64) -> Fault
 pub fn type_kind(v: Value) -> u64
     ensures { λ r. ⌜ TypeShown v r ⌝ }
 {
-    if v.kind == 17 {
-        return 9;
+    if v.kind == Ty::TABLE_BYTES {
+        return Ty::BYTES;
     }
     v.kind
 }
@@ -188,9 +232,9 @@ pub fn type_kind(v: Value) -> u64
 pub fn type_text(v: Value) -> Text
     ensures { λ r. ⌜ TypeText v r ⌝ }
 {
-    if v.kind != 14 {
+    if v.kind != Ty::FUNCTION {
         return Text {
-            from: 0,
+            from: Text::NONE,
             start: 0,
             end: 0,
         };
@@ -198,9 +242,9 @@ pub fn type_text(v: Value) -> Text
     let table = Constants::new();
     let rows = table.rows;
     Text {
-        from: 2,
-        start: constants::entry_word(&rows, v.lo, 1),
-        end: constants::entry_word(&rows, v.lo, 2),
+        from: Text::TABLE,
+        start: constants::entry_word(&rows, v.lo, Constants::NAME_START),
+        end: constants::entry_word(&rows, v.lo, Constants::NAME_END),
     }
 }
 
@@ -232,12 +276,12 @@ fn truncated(tok: Token, v: Value) -> Fault
     ensures { λ r. ⌜ r ≡ truncatedAs tok (v .lo) (v .hi) ⌝ }
 {
     let detail = Detail {
-        severity: 2,
-        kind: 25,
-        text: 0,
+        severity: Fault::WARNING,
+        kind: Fault::TRUNCATED,
+        text: Text::NONE,
         start: 0,
         end: 0,
-        ty: 4,
+        ty: Ty::U16,
         first: v.lo,
         second: v.hi,
         third: 0,
@@ -276,9 +320,6 @@ pub fn put_diag(diags: &mut [u64], row: usize, f: Fault)
 
 // ---- names
 
-// A table of names has entries of seven words: where the name starts and ends in the source, its token, three words of what
-// it stands for, which are a value or the number of a module, 0 where its statement failed; and the name's key.
-
 // A number made of a name's bytes: where two keys differ, so do the names. What is kept of it at each step leaves room for
 // the next byte.
 pub fn key_of(name: &[u8]) -> u64
@@ -294,21 +335,21 @@ pub fn key_of(name: &[u8]) -> u64
 }
 
 // Whether entry i has a name. An entry with another key is passed without a look at its bytes.
-fn is_named(source: &[u8], entries: &[[u64; 7]], i: usize, key: u64, name: &[u8]) -> bool
+fn is_named(source: &[u8], entries: &[Entry], i: usize, key: u64, name: &[u8]) -> bool
     requires { ⌜ i < length (now entries) ⌝ }
     ensures { λ r. ⌜ (nameWord (now (entries .entry)) i 6 ≡ keyOf (nameOf (now (source .entry)) (now (entries .entry)) i) → key ≡ keyOf (now (name .entry))
         → r ≡ same (nameOf (now (source .entry)) (now (entries .entry)) i) (now (name .entry))) ⌝ }
 {
-    if entries[i][6] != key {
+    if entries[i][Name::KEY] != key {
         return false;
     }
-    let a = entries[i][0] as usize;
-    let e = entries[i][1] as usize;
+    let a = entries[i][Name::START] as usize;
+    let e = entries[i][Name::END] as usize;
     constants::same(constants::part(source, a, e), name)
 }
 
 // The first of the used entries with a name: its number, or `used` where there is none.
-pub fn find(source: &[u8], entries: &[[u64; 7]], used: usize, name: &[u8]) -> usize
+pub fn find(source: &[u8], entries: &[Entry], used: usize, name: &[u8]) -> usize
     requires { ⌜ (used ≤ length (now entries)) × Keyed (now source) (now entries) used ⌝ }
     ensures { λ r. ⌜ r ≡ place (namesIn (now (source .entry)) (now (entries .entry)) used 0) (now (name .entry)) ⌝ }
 {
@@ -327,22 +368,22 @@ pub fn find(source: &[u8], entries: &[[u64; 7]], used: usize, name: &[u8]) -> us
 fn held(kind: u64, lo: u64, hi: u64) -> Judged
     ensures { λ r. ⌜ r ≡ heldAs kind lo hi ⌝ }
 {
-    if kind == 0 {
+    if kind == Ty::NONE {
         return Judged::Poisoned;
     }
     Judged::Val(Value { kind, lo, hi })
 }
 
 // A name that stands for its value.
-fn local(source: &[u8], bindings: &[[u64; 7]], used: usize, tok: Token) -> Judged
+fn local(source: &[u8], bindings: &[Entry], used: usize, tok: Token) -> Judged
     requires { ⌜ (used ≤ length (now bindings)) × Keyed (now source) (now bindings) used ⌝ }
     ensures { λ r. ⌜ LocalIs (now (source .entry)) (now (bindings .entry)) used tok r ⌝ }
 {
     let i = find(source, bindings, used, name_at(source, tok));
     if i < used {
-        return held(bindings[i][3], bindings[i][4], bindings[i][5]);
+        return held(bindings[i][Name::KIND], bindings[i][Name::LOW], bindings[i][Name::HIGH]);
     }
-    Judged::Err(named(1, 1, tok, 0, 0))
+    Judged::Err(named(Fault::ERROR, Fault::UNKNOWN_NAME, tok, 0, 0))
 }
 
 // A path below a module of the constant table: `left` more names, each two tokens after the one before, which is t.
@@ -362,12 +403,12 @@ fn walk(source: &[u8], toks: &[u64], top: u64, t: u64, names: u64) -> Judged
         if k == 0 {
             return unknown_item(&rows, tok, inside);
         }
-        let kind = constants::entry_word(&rows, k, 3);
+        let kind = constants::entry_word(&rows, k, Constants::KIND);
         if left == 1 {
             return last_item(&rows, tok, k);
         }
-        if kind != 0 {
-            return Judged::Err(named(1, 6, tok, 0, 0));
+        if kind != Ty::NONE {
+            return Judged::Err(named(Fault::ERROR, Fault::NOT_A_MODULE, tok, 0, 0));
         }
         inside = k;
         at += 2;
@@ -376,44 +417,44 @@ fn walk(source: &[u8], toks: &[u64], top: u64, t: u64, names: u64) -> Judged
     Judged::Poisoned
 }
 
-fn unknown_item(rows: &[u64; 54], tok: Token, inside: u64) -> Judged
+fn unknown_item(rows: &[u64; Constants::WORDS], tok: Token, inside: u64) -> Judged
     requires { ⌜ now rows ≡ tableRows ⌝ }
     ensures { λ r. ⌜ ((s : List ℕ) (t : ℕ) → tok ≡ tokenAs (tokenOf s t) → r ≡ judgedAs s (err t (unknownItem inside))) ⌝ }
 {
-    let start = constants::entry_word(rows, inside, 1);
-    let end = constants::entry_word(rows, inside, 2);
-    Judged::Err(named(1, 2, tok, start, end))
+    let start = constants::entry_word(rows, inside, Constants::NAME_START);
+    let end = constants::entry_word(rows, inside, Constants::NAME_END);
+    Judged::Err(named(Fault::ERROR, Fault::UNKNOWN_ITEM, tok, start, end))
 }
 
 // A path's last name is a value.
-fn last_item(rows: &[u64; 54], tok: Token, k: u64) -> Judged
+fn last_item(rows: &[u64; Constants::WORDS], tok: Token, k: u64) -> Judged
     requires { ⌜ now rows ≡ tableRows ⌝ }
     ensures { λ r. ⌜ ((s : List ℕ) (t : ℕ) → tok ≡ tokenAs (tokenOf s t) → r ≡ judgedAs s (lastItem (contents (tokens s)) t (entryAt k .value))) ⌝ }
 {
-    let kind = constants::entry_word(rows, k, 3);
-    if kind == 0 {
-        return Judged::Err(named(1, 7, tok, 0, 0));
+    let kind = constants::entry_word(rows, k, Constants::KIND);
+    if kind == Ty::NONE {
+        return Judged::Err(named(Fault::ERROR, Fault::NOT_A_VALUE, tok, 0, 0));
     }
-    let lo = constants::entry_word(rows, k, 4);
-    let hi = constants::entry_word(rows, k, 5);
+    let lo = constants::entry_word(rows, k, Constants::LOW);
+    let hi = constants::entry_word(rows, k, Constants::HIGH);
     Judged::Val(Value { kind, lo, hi })
 }
 
 // `module::inner*::item`, through the imports.
-fn path(source: &[u8], toks: &[u64], imports: &[[u64; 7]], imported: usize, t: u64, names: u64) -> Judged
+fn path(source: &[u8], toks: &[u64], imports: &[Entry], imported: usize, t: u64, names: u64) -> Judged
     requires { ⌜ Lexed (now source) (now toks) × (imported ≤ length (now imports)) × Keyed (now source) (now imports) imported ⌝ }
     ensures { λ r. ⌜ PathIs (now (source .entry)) (now (imports .entry)) imported t names r ⌝ }
 {
     let tok = token_at(toks, t);
     let i = find(source, imports, imported, name_at(source, tok));
     if i < imported {
-        let top = imports[i][3];
+        let top = imports[i][Name::KIND];
         if top == 0 {
             return Judged::Poisoned;
         }
         return walk(source, toks, top, t, names);
     }
-    Judged::Err(named(1, 5, tok, 0, 0))
+    Judged::Err(named(Fault::ERROR, Fault::NOT_IMPORTED, tok, 0, 0))
 }
 
 // ---- literals
@@ -425,23 +466,23 @@ fn literal(toks: &[u64], t: u64) -> Value
     let tok = token_at(toks, t);
     let kind = tok.kind;
     match kind {
-        14 => Value {
-            kind: 2,
+        Tok::BOOLEAN_LITERAL => Value {
+            kind: Ty::BOOL,
             lo: tok.lo,
             hi: 0,
         },
-        15 => Value {
-            kind: 7,
+        Tok::IPV4_LITERAL => Value {
+            kind: Ty::IP4,
             lo: tok.lo,
             hi: 0,
         },
-        16 => Value {
-            kind: 9,
+        Tok::STRING_LITERAL => Value {
+            kind: Ty::BYTES,
             lo: t,
             hi: 0,
         },
         _ => Value {
-            kind: 16,
+            kind: Ty::INTEGER,
             lo: tok.lo,
             hi: tok.hi,
         },
@@ -456,7 +497,7 @@ fn sock4(toks: &[u64], t: u64) -> Value
     let ip = token_at(toks, t);
     let port = two_after(toks, t);
     Value {
-        kind: 8,
+        kind: Ty::SOCK4,
         lo: ip.lo,
         hi: port.lo,
     }
@@ -469,23 +510,23 @@ pub fn word(nodes: &[u64], i: usize, j: usize) -> u64
     requires { ⌜ (5 * i + 5 ≤ length (now nodes)) × (j < 5) ⌝ }
     ensures { λ r. ⌜ r ≡ word (now (nodes .entry)) i j ⌝ }
 {
-    nodes[5 * i + j]
+    nodes[Parser::ROW_WORDS * i + j]
 }
 
-// An expression that holds no other: row i, of a kind below 6.
-fn leaf(source: &[u8], toks: &[u64], nodes: &[u64], bindings: &[[u64; 7]], imports: &[[u64; 7]], i: usize, counts: Counts) -> Judged
+// An expression that holds no other: row i, of a kind below `MEMBER`.
+fn leaf(source: &[u8], toks: &[u64], nodes: &[u64], bindings: &[Entry], imports: &[Entry], i: usize, counts: Counts) -> Judged
     requires { ⌜ Ready (now source) (now toks) (now bindings) (now imports) counts ⌝ }
     requires { ⌜ 5 * i + 5 ≤ length (now nodes) ⌝ }
     ensures { λ r. ⌜ ((n : ℕ) (k : Known) (e : Expr) → Knows (now (source .entry)) (now (bindings .entry)) (now (imports .entry)) counts k
         → RepAt (now (nodes .entry)) i e → word (now (nodes .entry)) i 0 < 6
         → LeafIs (now (source .entry)) r (judge (contents (tokens (now (source .entry)))) n k e)) ⌝ }
 {
-    let t = word(nodes, i, 1);
-    match word(nodes, i, 0) {
-        2 => Judged::Val(literal(toks, t)),
-        3 => Judged::Val(sock4(toks, t)),
-        4 => local(source, bindings, counts.used, token_at(toks, t)),
-        _ => path(source, toks, imports, counts.imported, t, word(nodes, i, 2)),
+    let t = word(nodes, i, NodeRow::TOKEN);
+    match word(nodes, i, NodeRow::KIND) {
+        NodeKind::LITERAL => Judged::Val(literal(toks, t)),
+        NodeKind::SOCK4 => Judged::Val(sock4(toks, t)),
+        NodeKind::LOCAL => local(source, bindings, counts.used, token_at(toks, t)),
+        _ => path(source, toks, imports, counts.imported, t, word(nodes, i, NodeRow::FIRST)),
     }
 }
 
@@ -512,7 +553,7 @@ fn member(toks: &[u64], t: u64, left: Judgement) -> Judgement
     let counts = left.counts;
     match out {
         Judged::Val(v) => Judgement {
-            out: Judged::Err(typed(1, 9, token_at(toks, t), v, 0, 0, 0)),
+            out: Judged::Err(typed(Fault::ERROR, Fault::NO_MEMBERS, token_at(toks, t), v, 0, 0, 0)),
             counts,
         },
         Judged::Err(_) => left,
@@ -520,19 +561,19 @@ fn member(toks: &[u64], t: u64, left: Judgement) -> Judgement
     }
 }
 
-// A value that is no operand of `/`: its side (1 left, 2 right), and the type that is wanted there.
+// A value that is no operand of `/`: its side, and the type that is wanted there.
 fn operand(toks: &[u64], t: u64, v: Value, side: u64, wanted: u64) -> Judged
     requires { ⌜ 7 ≤ length (now toks) ⌝ }
     ensures { λ r. ⌜ ((s : List ℕ) → Lexed s (now (toks .entry)) → Operand s t v side wanted r) ⌝ }
 {
-    Judged::Err(typed(1, 10, token_at(toks, t), v, side, wanted, 1))
+    Judged::Err(typed(Fault::ERROR, Fault::OPERAND_TYPE, token_at(toks, t), v, side, wanted, Fault::SLASH))
 }
 
 // Integers of any size, and bools.
 fn is_integral(kind: u64) -> bool
     ensures { λ r. ⌜ r ≡ isIntegral kind ⌝ }
 {
-    ((2 <= kind) & (kind <= 6)) | (kind == 16)
+    ((Ty::BOOL <= kind) & (kind <= Ty::U64)) | (kind == Ty::INTEGER)
 }
 
 // The right operand of `/` keeps its low 16 bits, with a warning where that changes it.
@@ -543,7 +584,7 @@ fn narrow_to(toks: &[u64], diags: &mut [u64], ip: u64, t: u64, v: Value, counts:
 {
     if !is_integral(v.kind) {
         return Judgement {
-            out: operand(toks, t, v, 2, 4),
+            out: operand(toks, t, v, Fault::RIGHT, Ty::U16),
             counts,
         };
     }
@@ -551,7 +592,7 @@ fn narrow_to(toks: &[u64], diags: &mut [u64], ip: u64, t: u64, v: Value, counts:
     let low = n.low16();
     let port = low.value;
     let out = Judged::Val(Value {
-        kind: 8,
+        kind: Ty::SOCK4,
         lo: ip,
         hi: port,
     });
@@ -583,7 +624,7 @@ fn integral(toks: &[u64], diags: &mut [u64], ip: u64, t: u64, right: Judgement) 
 }
 
 // `left / right`, after its left operand was judged: row i.
-fn slash(source: &[u8], toks: &[u64], nodes: &[u64], bindings: &[[u64; 7]], imports: &[[u64; 7]], diags: &mut [u64], i: usize, left: Judgement) -> Judgement
+fn slash(source: &[u8], toks: &[u64], nodes: &[u64], bindings: &[Entry], imports: &[Entry], diags: &mut [u64], i: usize, left: Judgement) -> Judgement
     requires { ⌜ Ready (now source) (now toks) (now bindings) (now imports) (left .counts) ⌝ }
     requires { ⌜ SlashFits (now nodes) i (left .counts .errors + left .counts .warnings) ⌝ }
     ensures { λ r. ⌜ ((n : ℕ) (k : Known) (a b : Expr) (x : List ℕ) (c : Counts) → Knows (now (source .entry)) (now (bindings .entry)) (now (imports .entry)) (left .counts) k
@@ -595,15 +636,15 @@ fn slash(source: &[u8], toks: &[u64], nodes: &[u64], bindings: &[[u64; 7]], impo
     match out {
         Judged::Val(v) => {
             let counts = left.counts;
-            if v.kind != 7 {
+            if v.kind != Ty::IP4 {
                 return Judgement {
-                    out: operand(toks, word(nodes, i, 1), v, 1, 7),
+                    out: operand(toks, word(nodes, i, NodeRow::TOKEN), v, Fault::LEFT, Ty::IP4),
                     counts,
                 };
             }
-            let b = word(nodes, i, 3) as usize;
+            let b = word(nodes, i, NodeRow::SECOND) as usize;
             let right = judge(source, toks, nodes, bindings, imports, diags, b, counts);
-            integral(toks, diags, v.lo, word(nodes, b, 1), right)
+            integral(toks, diags, v.lo, word(nodes, b, NodeRow::TOKEN), right)
         }
         Judged::Err(_) => left,
         Judged::Poisoned => left,
@@ -611,29 +652,29 @@ fn slash(source: &[u8], toks: &[u64], nodes: &[u64], bindings: &[[u64; 7]], impo
 }
 
 // Judges the expression at row i.
-pub fn judge(source: &[u8], toks: &[u64], nodes: &[u64], bindings: &[[u64; 7]], imports: &[[u64; 7]], diags: &mut [u64], i: usize, counts: Counts) -> Judgement
+pub fn judge(source: &[u8], toks: &[u64], nodes: &[u64], bindings: &[Entry], imports: &[Entry], diags: &mut [u64], i: usize, counts: Counts) -> Judgement
     requires { ⌜ Ready (now source) (now toks) (now bindings) (now imports) counts ⌝ }
     requires { ⌜ Fits (now nodes) i (counts .errors + counts .warnings) ⌝ }
     ensures { λ r. ⌜ ((n : ℕ) (k : Known) (e : Expr) → Knows (now (source .entry)) (now (bindings .entry)) (now (imports .entry)) counts k
         → RepAt (now (nodes .entry)) i e
         → Agrees (now (source .entry)) r (now (diags .entry)) (now (diags .exit)) counts (judge (contents (tokens (now (source .entry)))) n k e)) ⌝ }
 {
-    let kind = word(nodes, i, 0);
-    if kind < 6 {
+    let kind = word(nodes, i, NodeRow::KIND);
+    if kind < NodeKind::MEMBER {
         let out = leaf(source, toks, nodes, bindings, imports, i, counts);
         return Judgement { out, counts };
     }
     // a call, which was refused before
-    if kind == 8 {
+    if kind == NodeKind::CALL {
         return Judgement {
             out: Judged::Poisoned,
             counts,
         };
     }
-    let a = word(nodes, i, 2) as usize;
+    let a = word(nodes, i, NodeRow::FIRST) as usize;
     let left = judge(source, toks, nodes, bindings, imports, diags, a, counts);
-    if kind == 6 {
-        return member(toks, word(nodes, i, 3), left);
+    if kind == NodeKind::MEMBER {
+        return member(toks, word(nodes, i, NodeRow::SECOND), left);
     }
     slash(source, toks, nodes, bindings, imports, diags, i, left)
 }

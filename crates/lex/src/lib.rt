@@ -47,6 +47,18 @@ pub struct Spot {
     pub column: u64,
 }
 
+// A row of the token table: its words in their order, the first of which is the token's kind.
+pub struct TokenRow {}
+
+impl TokenRow {
+    pub const LINE: usize = 1;
+    pub const COLUMN: usize = 2;
+    pub const START: usize = 3;
+    pub const END: usize = 4;
+    pub const LOW: usize = 5;
+    pub const HIGH: usize = 6;
+}
+
 pub struct Lexed {
     pub verdict: Verdict,
     pub count: u64,
@@ -122,7 +134,7 @@ impl Lexer {
         if p.bodies == 0 {
             return self;
         }
-        let row = [16, p.line, p.column, p.start, p.end, p.bodies, 0];
+        let row = [Tok::STRING_LITERAL, p.line, p.column, p.start, p.end, p.bodies, 0];
         table::put_row(table, self.count, &row);
         Lexer {
             lno: self.lno,
@@ -207,7 +219,7 @@ impl Lexer {
         ensures { λ r. ⌜ Finishes self (now (table .entry)) size r (now (table .exit)) ⌝ }
     {
         let lexer = self.flush(table);
-        let row = [1, lexer.lno + 1, 1, size as u64, size as u64, 0, 0];
+        let row = [Tok::EOF, lexer.lno + 1, 1, size as u64, size as u64, 0, 0];
         table::put_row(table, lexer.count, &row);
         Lexer {
             lno: lexer.lno,
@@ -223,7 +235,7 @@ fn lexical(e: LexErrorKind, lno: u64, from: usize) -> Verdict
     ensures { λ r. ⌜ r ≡ record { number = 3; kind = errorNumber e; line = lno; column = from + 1; character = errorChar e } ⌝ }
 {
     Verdict {
-        number: 3,
+        number: Verdict::LEXICAL,
         kind: e.kind(),
         line: lno,
         column: from as u64 + 1,
@@ -297,12 +309,12 @@ pub fn lex_source(source: &[u8], table: &mut [u64]) -> Lexed
     let room = table.len() / Lexer::ROW_WORDS;
     table::clear(table);
     if Scanner::MOST_BYTES < source.len() {
-        return refused(Verdict::new(1, 0, 0));
+        return refused(Verdict::new(Verdict::TOO_LONG, 0, 0));
     }
     let bad = utf8::first_bad(source);
     if let Bad::At(at) = bad {
         let s = spot_of(source, at);
-        return refused(Verdict::new(2, s.line, s.column));
+        return refused(Verdict::new(Verdict::NOT_UTF8, s.line, s.column));
     }
     let fed = feed_lines(source, table);
     match fed {
@@ -314,10 +326,10 @@ pub fn lex_source(source: &[u8], table: &mut [u64]) -> Lexed
             let done = lexer.finish(source.len(), table);
             if room < done.count {
                 table::clear(table);
-                return refused(Verdict::new(4, 0, 0));
+                return refused(Verdict::new(Verdict::TOKEN_ROOM, 0, 0));
             }
             Lexed {
-                verdict: Verdict::new(0, 0, 0),
+                verdict: Verdict::new(Verdict::DONE, 0, 0),
                 count: done.count as u64,
             }
         }

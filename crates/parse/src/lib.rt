@@ -2,11 +2,6 @@
 // A node is stored after its children, so a child is named by its row, which is always a smaller number. A store past the
 // table's end is lost, and every node is counted. Expressions, lists of arguments and arguments call each other: each list
 // that is opened leaves one list less to open.
-//
-// Kinds of tokens: 1 `Eof`, 2 `(`, 3 `)`, 4 `.`, 5 `::`, 6 `:`, 7 `;`, 8 `=`, 9 `,`, 10 `/`, 11 `import`, 12 `let`, 13 a name,
-// 14 a bool, 15 an address, 16 a string, 17 and 18 integers, of which 18 is decimal.
-// Kinds of nodes: 1 a further name of a path, 2 a literal, 3 an address with a port, 4 a name, 5 a path, 6 a member, 7 `/`,
-// 8 a call, 9 an argument, 10 a named argument, 11 `import`, 12 `let`, 13 an expression as a statement.
 ghost use mathlib.Core.Path.{_≡_};
 ghost use mathlib.Core.List.{List, [], _∷_, _++_};
 ghost use Prim.Native.Nat.{ℕ, _+_, _*_, _<_, _≤_};
@@ -15,8 +10,43 @@ ghost use Rattle.language.specs.Tokens.{Content};
 ghost use Rattle.language.specs.Sentences.{Stmt, Node, node, mostSteps, primary, address, named′, links, chainAt, slashes, exprAt, argOf, listAt, ended, importAt, letAt, stmtAt, program};
 ghost use Rattle.parse.specs.Entry.{GivesUp, Lexes, ParseSource};
 ghost use Rattle.parse.specs.Parsing.{kindAt, literalKind, portAt, portAs, portTokOf, isNamed, argKind, valueFrom, Room, Rep, Holds, Pushes, withStmt, exprStmt, After, AfterExpr, AfterArgs, MetExpr, MetArg, MetArgs, MetStmt, MetAll, Ahead, AheadList, rowVerdict, verdictAt};
-use scan::Verdict;
+use lex::{Lexer, TokenRow};
+use scan::{Tok, Verdict};
 use wide::Wide;
+
+// The kinds of nodes, by their numbers; docs/TABLES.md has what each row holds.
+pub struct NodeKind {}
+
+impl NodeKind {
+    // a further name of a path
+    pub const NAME: u64 = 1;
+    pub const LITERAL: u64 = 2;
+    // an address with a port
+    pub const SOCK4: u64 = 3;
+    // a name that is no path
+    pub const LOCAL: u64 = 4;
+    pub const PATH: u64 = 5;
+    pub const MEMBER: u64 = 6;
+    pub const SLASH: u64 = 7;
+    pub const CALL: u64 = 8;
+    pub const ARGUMENT: u64 = 9;
+    pub const NAMED_ARGUMENT: u64 = 10;
+    pub const IMPORT: u64 = 11;
+    pub const LET: u64 = 12;
+    // an expression as a statement
+    pub const EXPRESSION: u64 = 13;
+}
+
+// A row of the node table: its words in their order.
+pub struct NodeRow {}
+
+impl NodeRow {
+    pub const KIND: usize = 0;
+    pub const TOKEN: usize = 1;
+    pub const FIRST: usize = 2;
+    pub const SECOND: usize = 3;
+    pub const THIRD: usize = 4;
+}
 
 // What a part of the grammar came to.
 pub enum Parsed {
@@ -72,16 +102,16 @@ impl Parser {
 
 // ---- tokens
 
-// The kind of a token, the first of the 7 words of its row: `Eof` past the last row.
+// The kind of a token, the first word of its row: `Eof` past the last row.
 fn kind_at(toks: &[u64], at: usize) -> u64
     requires { ⌜ at ≤ 4294967296 ⌝ }
     ensures { λ r. ⌜ r ≡ kindAt (now (toks .entry)) at ⌝ }
 {
-    let i = 7 * at;
-    if i + 7 <= toks.len() {
+    let i = Lexer::ROW_WORDS * at;
+    if i + Lexer::ROW_WORDS <= toks.len() {
         return toks[i];
     }
-    1
+    Tok::EOF
 }
 
 // The token where a port is expected, with its value, whose high word is the last of the row.
@@ -89,13 +119,13 @@ fn port_tok(toks: &[u64], at: usize) -> PortTok
     requires { ⌜ at ≤ 4294967296 ⌝ }
     ensures { λ r. ⌜ r ≡ portTokOf (kindAt (now (toks .entry)) at) (getD (now (toks .entry)) (7 * at + 5) 0) (getD (now (toks .entry)) (7 * at + 6) 0) ⌝ }
 {
-    if kind_at(toks, at) != 18 {
+    if kind_at(toks, at) != Tok::DEC_LITERAL {
         return PortTok::Other;
     }
-    let i = 7 * at;
+    let i = Lexer::ROW_WORDS * at;
     PortTok::DecLiteral(Wide {
-        hi: toks[i + 6],
-        lo: toks[i + 5],
+        hi: toks[i + TokenRow::HIGH],
+        lo: toks[i + TokenRow::LOW],
     })
 }
 
@@ -144,14 +174,14 @@ fn push(
 fn unexpected(at: usize) -> Parsed
     ensures { λ r. ⌜ r ≡ Parsed.Refused 5 1 at ⌝ }
 {
-    Parsed::Refused(5, 1, at)
+    Parsed::Refused(Verdict::SYNTAX, Verdict::UNEXPECTED_TOKEN, at)
 }
 
 // One step or one list more than there may be.
 fn too_deep(at: usize) -> Parsed
     ensures { λ r. ⌜ r ≡ Parsed.Refused 7 0 at ⌝ }
 {
-    Parsed::Refused(7, 0, at)
+    Parsed::Refused(Verdict::TOO_DEEP, 0, at)
 }
 
 // ---- primaries
@@ -166,16 +196,16 @@ fn module_path(toks: &[u64], nodes: &mut [u64], at: usize, count: usize, steps: 
     let mut next = at + 1;
     let mut have = count;
     let mut names: usize = 0;
-    while kind_at(toks, next) == 5 {
-        if kind_at(toks, next + 1) != 13 {
+    while kind_at(toks, next) == Tok::DOUBLE_COLON {
+        if kind_at(toks, next + 1) != Tok::IDENTIFIER {
             return unexpected(next + 1);
         }
-        push(nodes, have, 1, next + 1, 0, 0, 0);
+        push(nodes, have, NodeKind::NAME, next + 1, 0, 0, 0);
         have += 1;
         names += 1;
         next += 2;
     }
-    push(nodes, have, 5, at, names, 0, 0);
+    push(nodes, have, NodeKind::PATH, at, names, 0, 0);
     Parsed::Done(next, have + 1, steps)
 }
 
@@ -186,16 +216,16 @@ fn address(toks: &[u64], nodes: &mut [u64], at: usize, count: usize, steps: usiz
     ensures { λ r. ⌜ Ahead 1 (length (now (toks .entry))) at count steps r ⌝ }
     ensures { λ r. ⌜ After (now (toks .entry)) (now (nodes .entry)) count (λ ts ns. MetExpr r (now (nodes .exit)) ns at (address ts at steps)) ⌝ }
 {
-    if kind_at(toks, at + 1) != 6 {
-        push(nodes, count, 2, at, 0, 0, 0);
+    if kind_at(toks, at + 1) != Tok::COLON {
+        push(nodes, count, NodeKind::LITERAL, at, 0, 0, 0);
         return Parsed::Done(at + 1, count + 1, steps);
     }
     match port(toks, at + 2) {
         PortIs::Good => {
-            push(nodes, count, 3, at, 0, 0, 0);
+            push(nodes, count, NodeKind::SOCK4, at, 0, 0, 0);
             Parsed::Done(at + 3, count + 1, steps)
         }
-        PortIs::TooLarge => Parsed::Refused(5, 2, at + 2),
+        PortIs::TooLarge => Parsed::Refused(Verdict::SYNTAX, Verdict::INT_OUT_OF_RANGE, at + 2),
         PortIs::NotPort => unexpected(at + 2),
     }
 }
@@ -204,7 +234,9 @@ fn address(toks: &[u64], nodes: &mut [u64], at: usize, count: usize, steps: usiz
 fn is_literal(kind: u64) -> bool
     ensures { λ r. ⌜ r ≡ literalKind kind ⌝ }
 {
-    (kind == 14) | ((kind == 16) | ((kind == 17) | (kind == 18)))
+    (kind == Tok::BOOLEAN_LITERAL)
+        | ((kind == Tok::STRING_LITERAL)
+            | ((kind == Tok::HEX_LITERAL) | (kind == Tok::DEC_LITERAL)))
 }
 
 // A literal, an address, a name or a path.
@@ -215,16 +247,16 @@ fn primary(toks: &[u64], nodes: &mut [u64], at: usize, count: usize, steps: usiz
 {
     let kind = kind_at(toks, at);
     if is_literal(kind) {
-        push(nodes, count, 2, at, 0, 0, 0);
+        push(nodes, count, NodeKind::LITERAL, at, 0, 0, 0);
         return Parsed::Done(at + 1, count + 1, steps);
     }
     match kind {
-        15 => address(toks, nodes, at, count, steps),
-        13 => {
-            if kind_at(toks, at + 1) == 5 {
+        Tok::IPV4_LITERAL => address(toks, nodes, at, count, steps),
+        Tok::IDENTIFIER => {
+            if kind_at(toks, at + 1) == Tok::DOUBLE_COLON {
                 return module_path(toks, nodes, at, count, steps);
             }
-            push(nodes, count, 4, at, 0, 0, 0);
+            push(nodes, count, NodeKind::LOCAL, at, 0, 0, 0);
             Parsed::Done(at + 1, count + 1, steps)
         }
         _ => unexpected(at),
@@ -262,13 +294,13 @@ fn slashes(toks: &[u64], nodes: &mut [u64], p: Parser, start: usize, count: usiz
     let mut at = start;
     let mut have = count;
     let mut more = p.steps;
-    while kind_at(toks, at) == 10 {
+    while kind_at(toks, at) == Tok::SLASH {
         if more == 0 {
             return too_deep(at);
         }
         match chain(toks, nodes, at + 1, have, p.lists, more - 1) {
             Parsed::Done(next, m, s) => {
-                push(nodes, m, 7, p.first, have - 1, m - 1, 0);
+                push(nodes, m, NodeKind::SLASH, p.first, have - 1, m - 1, 0);
                 at = next;
                 have = m + 1;
                 more = s;
@@ -317,27 +349,27 @@ fn links(toks: &[u64], nodes: &mut [u64], p: Parser, start: usize, count: usize)
     let mut more = p.steps;
     loop {
         let t = kind_at(toks, at);
-        if t == 2 {
+        if t == Tok::LPAREN {
             if more == 0 {
                 return too_deep(at);
             }
             match list(toks, nodes, at, have, p.lists) {
                 Listed::Done(next, m, last) => {
-                    push(nodes, m, 8, p.first, have - 1, last, at);
+                    push(nodes, m, NodeKind::CALL, p.first, have - 1, last, at);
                     at = next;
                     have = m + 1;
                     more -= 1;
                 }
                 Listed::Refused(number, kind, a) => return Parsed::Refused(number, kind, a),
             }
-        } else if t == 4 {
+        } else if t == Tok::DOT {
             if more == 0 {
                 return too_deep(at);
             }
-            if kind_at(toks, at + 1) != 13 {
+            if kind_at(toks, at + 1) != Tok::IDENTIFIER {
                 return unexpected(at + 1);
             }
-            push(nodes, have, 6, p.first, have - 1, at + 1, 0);
+            push(nodes, have, NodeKind::MEMBER, p.first, have - 1, at + 1, 0);
             at += 2;
             have += 1;
             more -= 1;
@@ -355,15 +387,18 @@ fn arg_head(toks: &[u64], at: usize) -> ArgHead
     ensures { λ r. ⌜ (r .kind ≡ argKind (isNamed (now (toks .entry)) at)) × (r .value ≡ valueFrom (isNamed (now (toks .entry)) at) at) ⌝ }
     ensures { λ r. ⌜ (at ≤ r .value) × (7 * r .value ≤ length (now (toks .entry))) ⌝ }
 {
-    if kind_at(toks, at) == 13 {
-        if kind_at(toks, at + 1) == 6 {
+    if kind_at(toks, at) == Tok::IDENTIFIER {
+        if kind_at(toks, at + 1) == Tok::COLON {
             return ArgHead {
-                kind: 10,
+                kind: NodeKind::NAMED_ARGUMENT,
                 value: at + 2,
             };
         }
     }
-    ArgHead { kind: 9, value: at }
+    ArgHead {
+        kind: NodeKind::ARGUMENT,
+        value: at,
+    }
 }
 
 // One argument. Its node names the argument before it by `last`, that one's row plus 1, 0 where there is none. That node
@@ -397,23 +432,23 @@ fn list(toks: &[u64], nodes: &mut [u64], start: usize, count: usize, left: usize
     ensures { λ r. ⌜ After (now (toks .entry)) (now (nodes .entry)) count (λ ts ns. MetArgs r (now (nodes .exit)) ns (listAt ts left start)) ⌝ }
 {
     if left == 0 {
-        return Listed::Refused(7, 0, start);
+        return Listed::Refused(Verdict::TOO_DEEP, 0, start);
     }
     let mut at = start + 1;
     let mut have = count;
     let mut last: usize = 0;
-    while kind_at(toks, at) != 3 {
+    while kind_at(toks, at) != Tok::RPAREN {
         match arg(toks, nodes, at, have, left - 1, last) {
             Parsed::Done(next, m, _) => {
                 have = m;
                 last = m;
                 let t = kind_at(toks, next);
-                if t == 9 {
+                if t == Tok::COMMA {
                     at = next + 1;
-                } else if t == 3 {
+                } else if t == Tok::RPAREN {
                     return Listed::Done(next + 1, have, last);
                 } else {
-                    return Listed::Refused(5, 1, next);
+                    return Listed::Refused(Verdict::SYNTAX, Verdict::UNEXPECTED_TOKEN, next);
                 }
             }
             Parsed::Refused(number, kind, a) => return Listed::Refused(number, kind, a),
@@ -438,7 +473,7 @@ fn end_stmt(
     ensures { λ r. ⌜ Ahead 1 (length (now (toks .entry))) at count 0 r ⌝ }
     ensures { λ r. ⌜ After (now (toks .entry)) (now (nodes .entry)) count (λ ts ms. (ns : List Node) (s : Stmt) → ms ++ node kind tok first 0 0 ∷ [] ≡ withStmt ns s → MetStmt r (now (nodes .exit)) ns (ended ts s at)) ⌝ }
 {
-    if kind_at(toks, at) != 7 {
+    if kind_at(toks, at) != Tok::SEMI_COLON {
         return unexpected(at);
     }
     push(nodes, count, kind, tok, first, 0, 0);
@@ -451,10 +486,10 @@ fn import_stmt(toks: &[u64], nodes: &mut [u64], at: usize, count: usize) -> Pars
     ensures { λ r. ⌜ Ahead 1 (length (now (toks .entry))) at count 0 r ⌝ }
     ensures { λ r. ⌜ After (now (toks .entry)) (now (nodes .entry)) count (λ ts ns. MetStmt r (now (nodes .exit)) ns (importAt ts at)) ⌝ }
 {
-    if kind_at(toks, at + 1) != 13 {
+    if kind_at(toks, at + 1) != Tok::IDENTIFIER {
         return unexpected(at + 1);
     }
-    end_stmt(toks, nodes, at + 2, count, 11, at + 1, 0)
+    end_stmt(toks, nodes, at + 2, count, NodeKind::IMPORT, at + 1, 0)
 }
 
 // `let` name `=` expression `;`
@@ -463,14 +498,14 @@ fn let_stmt(toks: &[u64], nodes: &mut [u64], at: usize, count: usize) -> Parsed
     ensures { λ r. ⌜ Ahead 1 (length (now (toks .entry))) at count 0 r ⌝ }
     ensures { λ r. ⌜ After (now (toks .entry)) (now (nodes .entry)) count (λ ts ns. MetStmt r (now (nodes .exit)) ns (letAt ts at)) ⌝ }
 {
-    if kind_at(toks, at + 1) != 13 {
+    if kind_at(toks, at + 1) != Tok::IDENTIFIER {
         return unexpected(at + 1);
     }
-    if kind_at(toks, at + 2) != 8 {
+    if kind_at(toks, at + 2) != Tok::EQUALS {
         return unexpected(at + 2);
     }
     match expr(toks, nodes, at + 3, count, Parser::MOST_LISTS) {
-        Parsed::Done(next, n, _) => end_stmt(toks, nodes, next, n, 12, at + 1, n - 1),
+        Parsed::Done(next, n, _) => end_stmt(toks, nodes, next, n, NodeKind::LET, at + 1, n - 1),
         Parsed::Refused(number, kind, a) => Parsed::Refused(number, kind, a),
     }
 }
@@ -482,7 +517,7 @@ fn expr_stmt(toks: &[u64], nodes: &mut [u64], at: usize, count: usize) -> Parsed
     ensures { λ r. ⌜ After (now (toks .entry)) (now (nodes .entry)) count (λ ts ns. MetStmt r (now (nodes .exit)) ns (exprStmt ts at)) ⌝ }
 {
     match expr(toks, nodes, at, count, Parser::MOST_LISTS) {
-        Parsed::Done(next, n, _) => end_stmt(toks, nodes, next, n, 13, at, n - 1),
+        Parsed::Done(next, n, _) => end_stmt(toks, nodes, next, n, NodeKind::EXPRESSION, at, n - 1),
         Parsed::Refused(number, kind, a) => Parsed::Refused(number, kind, a),
     }
 }
@@ -493,8 +528,8 @@ fn stmt(toks: &[u64], nodes: &mut [u64], at: usize, count: usize) -> Parsed
     ensures { λ r. ⌜ After (now (toks .entry)) (now (nodes .entry)) count (λ ts ns. MetStmt r (now (nodes .exit)) ns (stmtAt ts at)) ⌝ }
 {
     match kind_at(toks, at) {
-        11 => import_stmt(toks, nodes, at, count),
-        12 => let_stmt(toks, nodes, at, count),
+        Tok::IMPORT_KEYWORD => import_stmt(toks, nodes, at, count),
+        Tok::LET_KEYWORD => let_stmt(toks, nodes, at, count),
         _ => expr_stmt(toks, nodes, at, count),
     }
 }
@@ -507,7 +542,7 @@ pub fn program(toks: &[u64], nodes: &mut [u64]) -> Parsed
 {
     let mut at: usize = 0;
     let mut have: usize = 0;
-    while kind_at(toks, at) != 1 {
+    while kind_at(toks, at) != Tok::EOF {
         match stmt(toks, nodes, at, have) {
             Parsed::Done(next, n, _) => {
                 at = next;
@@ -552,12 +587,12 @@ fn at_row(toks: &[u64], i: usize, number: u64, kind: u64) -> Verdict
     requires { ⌜ (7 * i + 7 ≤ length (now toks)) × (i ≤ 65536) ⌝ }
     ensures { λ r. ⌜ r ≡ rowVerdict (now (toks .entry)) number kind i ⌝ }
 {
-    let row = 7 * i;
+    let row = Lexer::ROW_WORDS * i;
     Verdict {
         number: number,
         kind: kind,
-        line: toks[row + 1],
-        column: toks[row + 2],
+        line: toks[row + TokenRow::LINE],
+        column: toks[row + TokenRow::COLUMN],
         character: 0,
     }
 }
@@ -579,7 +614,7 @@ fn parse_tokens(toks: &mut [u64], nodes: &mut [u64], count: usize) -> ParseAnswe
     ensures { λ r. ⌜ ((s : List ℕ) → Lexes s (now (toks .entry)) count → Holds (now (nodes .entry)) [] → ParseSource s (length (now (toks .entry))) (length (now (nodes .entry))) r (now (toks .exit)) (now (nodes .exit))) ⌝ }
 {
     let room = nodes.len() / Parser::ROW_WORDS;
-    let rows = 7 * count;
+    let rows = Lexer::ROW_WORDS * count;
     let parsed = program(&toks[..rows], nodes);
     match parsed {
         Parsed::Refused(number, kind, at) => {
@@ -588,10 +623,10 @@ fn parse_tokens(toks: &mut [u64], nodes: &mut [u64], count: usize) -> ParseAnswe
         }
         Parsed::Done(_, n, _) => {
             if room < n {
-                return give_up(Verdict::new(6, 0, 0), toks, nodes);
+                return give_up(Verdict::new(Verdict::NODE_ROOM, 0, 0), toks, nodes);
             }
             ParseAnswer {
-                verdict: Verdict::new(0, 0, 0),
+                verdict: Verdict::new(Verdict::DONE, 0, 0),
                 tokens: count as u64,
                 nodes: n as u64,
             }
@@ -606,7 +641,7 @@ pub fn parse_source(source: &[u8], toks: &mut [u64], nodes: &mut [u64]) -> Parse
     table::clear(nodes);
     let lexed = lex::lex_source(source, toks);
     let verdict = lexed.verdict;
-    if verdict.number != 0 {
+    if verdict.number != Verdict::DONE {
         return refused(verdict);
     }
     parse_tokens(toks, nodes, lexed.count as usize)

@@ -1,5 +1,7 @@
 // Tokens and lexical errors, by the numbers that tables hold for them.
 use crate::output;
+use scan::LexErrorKind;
+use scan::Tok;
 use wide::Wide;
 
 // What is shown of a token: its kind, where it starts and ends in the source, and its value.
@@ -50,10 +52,10 @@ pub fn show_value(source: &[u8], token: Token, out: &mut [u8], at: usize) -> usi
     let value = token.value;
     let kind = token.kind;
     match kind {
-        13 => output::text(out, at, span(source, token.start, token.end)),
-        14 => boolean(out, at, value.lo),
-        15 => output::quad(out, at, value.lo),
-        17 | 18 => output::wide(out, at, value),
+        Tok::IDENTIFIER => output::text(out, at, span(source, token.start, token.end)),
+        Tok::BOOLEAN_LITERAL => boolean(out, at, value.lo),
+        Tok::IPV4_LITERAL => output::quad(out, at, value.lo),
+        Tok::HEX_LITERAL | Tok::DEC_LITERAL => output::wide(out, at, value),
         _ => at,
     }
 }
@@ -61,7 +63,7 @@ pub fn show_value(source: &[u8], token: Token, out: &mut [u8], at: usize) -> usi
 // The name of a token, and its value unless it is a string.
 pub fn show(source: &[u8], token: Token, out: &mut [u8], at: usize) -> usize {
     let p = name(out, at, token.kind);
-    if token.kind < 13 || token.kind == 16 {
+    if token.kind < Tok::IDENTIFIER || token.kind == Tok::STRING_LITERAL {
         return p;
     }
     let q = output::byte(out, p, b' ');
@@ -71,7 +73,7 @@ pub fn show(source: &[u8], token: Token, out: &mut [u8], at: usize) -> usize {
 // The name of an error, and the character for one that was not expected.
 pub fn show_error(out: &mut [u8], at: usize, kind: u64, character: u64) -> usize {
     let p = error_name(out, at, kind);
-    if kind == 1 {
+    if kind == LexErrorKind::UNEXPECTED_CHAR {
         return output::field(out, p, character);
     }
     p

@@ -7,12 +7,12 @@ use scan::Verdict;
 fn kind_of(verdict: Verdict, out: &mut [u8], at: usize) -> usize {
     let number = verdict.number;
     match number {
-        3 => {
+        Verdict::LEXICAL => {
             let p = output::byte(out, at, b' ');
             token::show_error(out, p, verdict.kind, verdict.character)
         }
-        5 => {
-            if verdict.kind == 1 {
+        Verdict::SYNTAX => {
+            if verdict.kind == Verdict::UNEXPECTED_TOKEN {
                 return output::text(out, at, b" UnexpectedToken");
             }
             output::text(out, at, b" IntOutOfRange")

@@ -2,8 +2,30 @@
 // its own.
 ghost use Prim.Native.Nat.{_≤_};
 use crate::sources;
+use lex::Lexer;
+use parse::Parser;
 use printing::header::Mode;
 use printing::input::Unread;
+use scan::Scanner;
+use showing_check::Diagnostic;
+use showing_check::Statement;
+
+// How many rows each table has, and how many bytes a source and a text have.
+struct Lent {}
+
+impl Lent {
+    // one for each byte of a source, and one for its end
+    const TOKENS: u64 = 65537;
+
+    const NODES: u64 = 65536;
+
+    const DIAGNOSTICS: u64 = 4096;
+
+    const STATEMENTS: u64 = 4096;
+
+    // more than any source that is taken and any text that is given has, so that one which is too long is so here
+    const BYTES: u64 = 65600;
+}
 
 // A room, or the most that a table here has.
 fn at_most(room: u64, most: u64) -> usize
@@ -20,50 +42,47 @@ fn at_most(room: u64, most: u64) -> usize
 fn token_words(mode: Mode, rows: u64) -> usize
     ensures { λ r. ⌜ r ≤ 458759 ⌝ }
 {
-    let n = at_most(rows, 65537);
+    let n = at_most(rows, Lent::TOKENS);
     if let Mode::Scan = mode {
-        return n * 6;
+        return n * Scanner::ROW_WORDS;
     }
-    n * 7
+    n * Lexer::ROW_WORDS
 }
 
 // The words of so many rows of nodes.
 fn node_words(rows: u64) -> usize
     ensures { λ r. ⌜ r ≤ 327680 ⌝ }
 {
-    at_most(rows, 65536) * 5
+    at_most(rows, Lent::NODES) * Parser::ROW_WORDS
 }
 
 // The words of so many rows of diagnostics.
 fn diag_words(rows: u64) -> usize
     ensures { λ r. ⌜ r ≤ 45056 ⌝ }
 {
-    at_most(rows, 4096) * 11
+    at_most(rows, Lent::DIAGNOSTICS) * Diagnostic::ROW_WORDS
 }
 
 // The words of so many rows of statements.
 fn stmt_words(rows: u64) -> usize
     ensures { λ r. ⌜ r ≤ 28672 ⌝ }
 {
-    at_most(rows, 4096) * 7
+    at_most(rows, Lent::STATEMENTS) * Statement::ROW_WORDS
 }
 
 // Runs a mode, given the numbers of the first line. The second is for the nodes or, in the mode `canon`, for the text.
 pub fn run(mode: Mode, numbers: [u64; 4], chunk: &mut [u8], unread: Unread, out: &mut [u8]) {
     let token_end = token_words(mode, numbers[0]);
     let node_end = node_words(numbers[1]);
-    let text_end = at_most(numbers[1], 65600);
+    let text_end = at_most(numbers[1], Lent::BYTES);
     let diag_end = diag_words(numbers[2]);
     let stmt_end = stmt_words(numbers[3]);
-    // longer than any source that is taken, so that one which is too long is still too long here
-    let mut source = [0u8; 65600];
-    // 65,537 rows, for the end of a source is a token too
-    let mut tokens = [0u64; 458759];
-    let mut nodes = [0u64; 327680];
-    let mut diags = [0u64; 45056];
-    let mut stmts = [0u64; 28672];
-    // longer than any text that is given, so that one which is too long is refused for that
-    let mut text = [0u8; 65600];
+    let mut source = [0u8; Lent::BYTES as usize];
+    let mut tokens = [0u64; Lent::TOKENS as usize * Lexer::ROW_WORDS];
+    let mut nodes = [0u64; Lent::NODES as usize * Parser::ROW_WORDS];
+    let mut diags = [0u64; Lent::DIAGNOSTICS as usize * Diagnostic::ROW_WORDS];
+    let mut stmts = [0u64; Lent::STATEMENTS as usize * Statement::ROW_WORDS];
+    let mut text = [0u8; Lent::BYTES as usize];
     sources::answers(
         mode,
         chunk,

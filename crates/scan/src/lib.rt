@@ -55,27 +55,47 @@ pub enum LexErrorKind {
 }
 
 impl Tok {
-    // The number of its kind, in the order of lex.rs; 1 is `Eof` and 16 `StringLiteral`.
+    // The numbers of the kinds, in the order of lex.rs. The lexer makes `Eof` and `StringLiteral`, which no lexeme is.
+    pub const EOF: u64 = 1;
+    pub const LPAREN: u64 = 2;
+    pub const RPAREN: u64 = 3;
+    pub const DOT: u64 = 4;
+    pub const DOUBLE_COLON: u64 = 5;
+    pub const COLON: u64 = 6;
+    pub const SEMI_COLON: u64 = 7;
+    pub const EQUALS: u64 = 8;
+    pub const COMMA: u64 = 9;
+    pub const SLASH: u64 = 10;
+    pub const IMPORT_KEYWORD: u64 = 11;
+    pub const LET_KEYWORD: u64 = 12;
+    pub const IDENTIFIER: u64 = 13;
+    pub const BOOLEAN_LITERAL: u64 = 14;
+    pub const IPV4_LITERAL: u64 = 15;
+    pub const STRING_LITERAL: u64 = 16;
+    pub const HEX_LITERAL: u64 = 17;
+    pub const DEC_LITERAL: u64 = 18;
+
+    // The number of its kind.
     pub fn kind(self) -> u64
         ensures { λ r. ⌜ r ≡ tokNumber self ⌝ }
     {
         match self {
-            Tok::LParen => 2,
-            Tok::RParen => 3,
-            Tok::Dot => 4,
-            Tok::DoubleColon => 5,
-            Tok::Colon => 6,
-            Tok::SemiColon => 7,
-            Tok::Equals => 8,
-            Tok::Comma => 9,
-            Tok::Slash => 10,
-            Tok::ImportKeyword => 11,
-            Tok::LetKeyword => 12,
-            Tok::Identifier => 13,
-            Tok::BooleanLiteral(_) => 14,
-            Tok::IPv4Literal(_) => 15,
-            Tok::HexLiteral(_) => 17,
-            Tok::DecLiteral(_) => 18,
+            Tok::LParen => Tok::LPAREN,
+            Tok::RParen => Tok::RPAREN,
+            Tok::Dot => Tok::DOT,
+            Tok::DoubleColon => Tok::DOUBLE_COLON,
+            Tok::Colon => Tok::COLON,
+            Tok::SemiColon => Tok::SEMI_COLON,
+            Tok::Equals => Tok::EQUALS,
+            Tok::Comma => Tok::COMMA,
+            Tok::Slash => Tok::SLASH,
+            Tok::ImportKeyword => Tok::IMPORT_KEYWORD,
+            Tok::LetKeyword => Tok::LET_KEYWORD,
+            Tok::Identifier => Tok::IDENTIFIER,
+            Tok::BooleanLiteral(_) => Tok::BOOLEAN_LITERAL,
+            Tok::IPv4Literal(_) => Tok::IPV4_LITERAL,
+            Tok::HexLiteral(_) => Tok::HEX_LITERAL,
+            Tok::DecLiteral(_) => Tok::DEC_LITERAL,
         }
     }
 
@@ -100,17 +120,25 @@ impl Tok {
 }
 
 impl LexErrorKind {
-    // The number of its kind, in the order of lex.rs without its `StringLiteral`.
+    // The numbers of the kinds, in the order of lex.rs without its `StringLiteral`.
+    pub const UNEXPECTED_CHAR: u64 = 1;
+    pub const UNTERMINATED_STRING: u64 = 2;
+    pub const INT_OUT_OF_RANGE: u64 = 3;
+    pub const INT_LEADING_ZERO: u64 = 4;
+    pub const INT_INVALID_SUFFIX: u64 = 5;
+    pub const IPV4_LITERAL: u64 = 6;
+
+    // The number of its kind.
     pub fn kind(self) -> u64
         ensures { λ r. ⌜ r ≡ errorNumber self ⌝ }
     {
         match self {
-            LexErrorKind::UnexpectedChar(_) => 1,
-            LexErrorKind::UnterminatedString => 2,
-            LexErrorKind::IntOutOfRange => 3,
-            LexErrorKind::IntLeadingZero => 4,
-            LexErrorKind::IntInvalidSuffix => 5,
-            LexErrorKind::IPv4Literal => 6,
+            LexErrorKind::UnexpectedChar(_) => LexErrorKind::UNEXPECTED_CHAR,
+            LexErrorKind::UnterminatedString => LexErrorKind::UNTERMINATED_STRING,
+            LexErrorKind::IntOutOfRange => LexErrorKind::INT_OUT_OF_RANGE,
+            LexErrorKind::IntLeadingZero => LexErrorKind::INT_LEADING_ZERO,
+            LexErrorKind::IntInvalidSuffix => LexErrorKind::INT_INVALID_SUFFIX,
+            LexErrorKind::IPv4Literal => LexErrorKind::IPV4_LITERAL,
         }
     }
 
@@ -133,6 +161,14 @@ pub enum LexemeKind {
     Str,
     Tok(Tok),
     Error(LexErrorKind),
+}
+
+impl LexemeKind {
+    // The numbers of the classes.
+    pub const TRIVIA: u64 = 1;
+    pub const STR: u64 = 2;
+    pub const TOK: u64 = 3;
+    pub const ERROR: u64 = 4;
 }
 
 pub struct Lexeme {
@@ -813,6 +849,24 @@ pub struct Scanned {
 }
 
 impl Verdict {
+    // The numbers, in the order of 01's table; docs/TABLES.md says when each is given.
+    pub const DONE: u64 = 0;
+    pub const TOO_LONG: u64 = 1;
+    pub const NOT_UTF8: u64 = 2;
+    pub const LEXICAL: u64 = 3;
+    pub const TOKEN_ROOM: u64 = 4;
+    pub const SYNTAX: u64 = 5;
+    pub const NODE_ROOM: u64 = 6;
+    pub const TOO_DEEP: u64 = 7;
+    pub const CALLS: u64 = 8;
+    pub const NAMES: u64 = 9;
+    pub const TEXT_ROOM: u64 = 10;
+    pub const STATEMENT_ROOM: u64 = 11;
+
+    // The kinds of `SYNTAX`, which are those of parse.rs `ParseErrorKind`. The kinds of `LEXICAL` are of `LexErrorKind`.
+    pub const UNEXPECTED_TOKEN: u64 = 1;
+    pub const INT_OUT_OF_RANGE: u64 = 2;
+
     // A number with a place, and no more.
     pub fn new(number: u64, line: u64, column: u64) -> Self
         ensures { λ r. ⌜ r ≡ record { number = number; kind = 0; line = line; column = column; character = 0 } ⌝ }
@@ -831,10 +885,10 @@ fn class_of(kind: LexemeKind) -> u64
     ensures { λ r. ⌜ r ≡ classNumber kind ⌝ }
 {
     match kind {
-        LexemeKind::Trivia => 1,
-        LexemeKind::Str => 2,
-        LexemeKind::Tok(_) => 3,
-        LexemeKind::Error(_) => 4,
+        LexemeKind::Trivia => LexemeKind::TRIVIA,
+        LexemeKind::Str => LexemeKind::STR,
+        LexemeKind::Tok(_) => LexemeKind::TOK,
+        LexemeKind::Error(_) => LexemeKind::ERROR,
     }
 }
 
@@ -863,8 +917,8 @@ fn value_of(kind: LexemeKind) -> Wide
     }
 }
 
-// The six words of a lexeme's row.
-fn row_of(l: Lexeme) -> [u64; 6]
+// The words of a lexeme's row.
+fn row_of(l: Lexeme) -> [u64; Scanner::ROW_WORDS]
     ensures { λ r. ⌜ r ≡ rowOf l ⌝ }
 {
     let kind = l.kind;
@@ -909,14 +963,14 @@ pub fn scan_line(line: &[u8], table: &mut [u64]) -> Scanned
     table::clear(table);
     if Scanner::MOST_BYTES < line.len() {
         return Scanned {
-            verdict: Verdict::new(1, 0, 0),
+            verdict: Verdict::new(Verdict::TOO_LONG, 0, 0),
             count: 0,
         };
     }
     let bad = utf8::first_bad(line);
     if let Bad::At(at) = bad {
         return Scanned {
-            verdict: Verdict::new(2, 1, at as u64 + 1),
+            verdict: Verdict::new(Verdict::NOT_UTF8, 1, at as u64 + 1),
             count: 0,
         };
     }
@@ -924,12 +978,12 @@ pub fn scan_line(line: &[u8], table: &mut [u64]) -> Scanned
     if room < count {
         table::clear(table);
         return Scanned {
-            verdict: Verdict::new(4, 0, 0),
+            verdict: Verdict::new(Verdict::TOKEN_ROOM, 0, 0),
             count: 0,
         };
     }
     Scanned {
-        verdict: Verdict::new(0, 0, 0),
+        verdict: Verdict::new(Verdict::DONE, 0, 0),
         count: count,
     }
 }

@@ -2,6 +2,7 @@
 use printing::input;
 use printing::output;
 use printing::verdict;
+use scan::Verdict;
 
 pub fn answer(
     source: &[u8],
@@ -12,7 +13,7 @@ pub fn answer(
 ) -> usize {
     let made = canon::canonicalise(source, tokens, text);
     let v = made.verdict;
-    if v.number != 0 {
+    if v.number != Verdict::DONE {
         return verdict::refused(v, out, at);
     }
     let a = output::byte(out, at, b'x');

@@ -1,10 +1,14 @@
 // The mode `lex`: each token is a line of the answer. A string is shown as the list of its raw bodies.
 ghost use Prim.Native.Nat.{_+_, _≤_};
 ghost use lib.ListN.{length};
+use lex::Lexer;
+use lex::TokenRow;
 use printing::output;
 use printing::token;
 use printing::token::Token;
 use printing::verdict;
+use scan::Tok;
+use scan::Verdict;
 use wide::Wide;
 
 // A row of the table of tokens.
@@ -19,15 +23,15 @@ fn row_at(table: &[u64], at: usize) -> Row
     requires { ⌜ at + 7 ≤ length (now table) ⌝ }
 {
     Row {
-        line: table[at + 1],
-        column: table[at + 2],
+        line: table[at + TokenRow::LINE],
+        column: table[at + TokenRow::COLUMN],
         token: Token {
             kind: table[at],
-            start: table[at + 3] as usize,
-            end: table[at + 4] as usize,
+            start: table[at + TokenRow::START] as usize,
+            end: table[at + TokenRow::END] as usize,
             value: Wide {
-                hi: table[at + 6],
-                lo: table[at + 5],
+                hi: table[at + TokenRow::HIGH],
+                lo: table[at + TokenRow::LOW],
             },
         },
     }
@@ -56,7 +60,7 @@ fn bodies(source: &[u8], t: Token, out: &mut [u8], at: usize) -> usize {
 
 fn what(source: &[u8], t: Token, out: &mut [u8], at: usize) -> usize {
     let p = token::show(source, t, out, at);
-    if t.kind == 16 {
+    if t.kind == Tok::STRING_LITERAL {
         return bodies(source, t, out, p);
     }
     p
@@ -74,12 +78,12 @@ fn tokens(source: &[u8], table: &[u64], count: u64, out: &mut [u8], at: usize) -
     let mut left = count;
     let mut word: usize = 0;
     while 0 < left {
-        if table.len() - word < 7 {
+        if table.len() - word < Lexer::ROW_WORDS {
             return p;
         }
         let row = row_at(table, word);
         p = line_of(source, row, out, p);
-        word += 7;
+        word += Lexer::ROW_WORDS;
         left -= 1;
     }
     p
@@ -88,7 +92,7 @@ fn tokens(source: &[u8], table: &[u64], count: u64, out: &mut [u8], at: usize) -
 pub fn answer(source: &[u8], table: &mut [u64], out: &mut [u8], at: usize) -> usize {
     let lexed = lex::lex_source(source, table);
     let v = lexed.verdict;
-    if v.number != 0 {
+    if v.number != Verdict::DONE {
         return verdict::refused(v, out, at);
     }
     tokens(source, table, lexed.count, out, at)

@@ -5,6 +5,9 @@ use printing::output;
 use printing::token;
 use printing::token::Token;
 use printing::verdict;
+use scan::LexemeKind;
+use scan::Scanner;
+use scan::Verdict;
 use wide::Wide;
 
 // A row of the table of lexemes.
@@ -46,10 +49,10 @@ fn error(t: Token, out: &mut [u8], at: usize) -> usize {
 fn what(source: &[u8], row: Row, out: &mut [u8], at: usize) -> usize {
     let class = row.class;
     match class {
-        1 => output::text(out, at, b"Trivia"),
-        2 => string(source, row.token, out, at),
-        3 => token::show(source, row.token, out, at),
-        4 => error(row.token, out, at),
+        LexemeKind::TRIVIA => output::text(out, at, b"Trivia"),
+        LexemeKind::STR => string(source, row.token, out, at),
+        LexemeKind::TOK => token::show(source, row.token, out, at),
+        LexemeKind::ERROR => error(row.token, out, at),
         _ => at,
     }
 }
@@ -67,12 +70,12 @@ fn lexemes(source: &[u8], table: &[u64], count: u64, out: &mut [u8], at: usize) 
     let mut left = count;
     let mut word: usize = 0;
     while 0 < left {
-        if table.len() - word < 6 {
+        if table.len() - word < Scanner::ROW_WORDS {
             return p;
         }
         let row = row_at(table, word);
         p = lexeme(source, row, out, p);
-        word += 6;
+        word += Scanner::ROW_WORDS;
         left -= 1;
     }
     p
@@ -81,7 +84,7 @@ fn lexemes(source: &[u8], table: &[u64], count: u64, out: &mut [u8], at: usize) 
 pub fn answer(source: &[u8], table: &mut [u64], out: &mut [u8], at: usize) -> usize {
     let scanned = scan::scan_line(source, table);
     let v = scanned.verdict;
-    if v.number != 0 {
+    if v.number != Verdict::DONE {
         return verdict::refused(v, out, at);
     }
     lexemes(source, table, scanned.count, out, at)

@@ -46,7 +46,7 @@ pub fn report<'a>(
     out: &mut [u8],
     at: usize,
 ) -> usize {
-    if verdict.number != 0 {
+    if verdict.number != Verdict::DONE {
         return refused(verdict, out, at);
     }
     findings(source, text, diags, errors, warnings, out, at)
@@ -87,7 +87,7 @@ pub fn answer(
 ) -> usize {
     let checked = checker::check_source(source, tokens, nodes, diags, stmts);
     let v = checked.verdict;
-    if v.number != 0 {
+    if v.number != Verdict::DONE {
         return verdict::refused(v, out, at);
     }
     let table = Constants::new();

@@ -2,7 +2,10 @@
 ghost use Prim.Native.Nat.{_+_, _≤_};
 ghost use lib.ListN.{length};
 use checker::Checker;
+use constants::Ty;
 use crate::types;
+use judging::Fault;
+use judging::Text;
 use printing::output;
 use wide::Wide;
 
@@ -10,10 +13,9 @@ use wide::Wide;
 pub struct Diagnostic {
     line: u64,
     column: u64,
-    // 1 for an error, 2 for a warning
     severity: u64,
     kind: u64,
-    // where its name is: 1 in the source, 2 in the constant table's text
+    // where its name is
     text: u64,
     start: usize,
     end: usize,
@@ -49,7 +51,7 @@ fn row_at(table: &[u64], at: usize) -> Diagnostic
 }
 
 fn severity(out: &mut [u8], at: usize, n: u64) -> usize {
-    if n == 1 {
+    if n == Fault::ERROR {
         return output::text(out, at, b"E ");
     }
     output::text(out, at, b"W ")
@@ -78,7 +80,7 @@ fn named(out: &mut [u8], at: usize, name: &[u8]) -> usize {
 // The type: a function is shown with its name.
 fn typed(name: &[u8], d: Diagnostic, out: &mut [u8], at: usize) -> usize {
     let p = types::field(out, at, d.ty);
-    if d.ty == 14 {
+    if d.ty == Ty::FUNCTION {
         return named(out, p, name);
     }
     p
@@ -99,14 +101,14 @@ fn already_bound(name: &[u8], d: Diagnostic, out: &mut [u8], at: usize) -> usize
 }
 
 fn operator(out: &mut [u8], at: usize, n: u64) -> usize {
-    if n == 1 {
+    if n == Fault::SLASH {
         return output::text(out, at, b" /");
     }
     at
 }
 
 fn side(out: &mut [u8], at: usize, n: u64) -> usize {
-    if n == 1 {
+    if n == Fault::LEFT {
         return output::text(out, at, b" left");
     }
     output::text(out, at, b" right")
@@ -135,12 +137,17 @@ fn truncated(name: &[u8], d: Diagnostic, out: &mut [u8], at: usize) -> usize {
 fn fields(name: &[u8], text: &[u8], d: Diagnostic, out: &mut [u8], at: usize) -> usize {
     let kind = d.kind;
     match kind {
-        1 | 4 | 5 | 6 | 7 | 23 => named(out, at, name),
-        2 => unknown_item(name, text, d, out, at),
-        8 => already_bound(name, d, out, at),
-        9 | 24 => typed(name, d, out, at),
-        10 => operand_type(name, d, out, at),
-        25 => truncated(name, d, out, at),
+        Fault::UNKNOWN_NAME
+        | Fault::UNKNOWN_MODULE
+        | Fault::NOT_IMPORTED
+        | Fault::NOT_A_MODULE
+        | Fault::NOT_A_VALUE
+        | Fault::MULTIPLE_IMPORTS => named(out, at, name),
+        Fault::UNKNOWN_ITEM => unknown_item(name, text, d, out, at),
+        Fault::ALREADY_BOUND => already_bound(name, d, out, at),
+        Fault::NO_MEMBERS | Fault::DISCARDED_VALUE => typed(name, d, out, at),
+        Fault::OPERAND_TYPE => operand_type(name, d, out, at),
+        Fault::TRUNCATED => truncated(name, d, out, at),
         _ => at,
     }
 }
@@ -159,7 +166,7 @@ fn line_of<'a>(
     out: &mut [u8],
     at: usize,
 ) -> usize {
-    let from_table = d.text == 2;
+    let from_table = d.text == Text::TABLE;
     let name = constants::name_text(from_table, source, text, d.start, d.end);
     let p = start(d, out, at);
     let q = fields(name, text, d, out, p);

@@ -3,8 +3,11 @@
 ghost use Prim.Native.Nat.{_+_, _≤_};
 ghost use lib.ListN.{length};
 use checker::Checker;
+use constants::Ty;
 use crate::types;
+use judging::Text;
 use lex::Lexer;
+use lex::TokenRow;
 use printing::output;
 use printing::token;
 
@@ -14,7 +17,7 @@ pub struct Statement {
     column: u64,
     kind: u64,
     ty: u64,
-    // where its text is: 1 a string of the source, 2 the constant table's text
+    // where its text is: a string of the source, or the constant table's text
     text: u64,
     // what these mean depends on the type
     value: u64,
@@ -68,9 +71,9 @@ fn bodies(
 fn string_from(source: &[u8], tokens: &[u64], word: usize, out: &mut [u8], at: usize) -> usize
     requires { ⌜ word + 7 ≤ length (now tokens) ⌝ }
 {
-    let start = tokens[word + 3] as usize;
-    let end = tokens[word + 4] as usize;
-    bodies(source, start, end, tokens[word + 5], out, at)
+    let start = tokens[word + TokenRow::START] as usize;
+    let end = tokens[word + TokenRow::END] as usize;
+    bodies(source, start, end, tokens[word + TokenRow::LOW], out, at)
 }
 
 fn string(source: &[u8], tokens: &[u64], i: usize, out: &mut [u8], at: usize) -> usize {
@@ -102,12 +105,12 @@ fn sock4(s: Statement, out: &mut [u8], at: usize) -> usize {
 fn plain(text: &[u8], s: Statement, out: &mut [u8], at: usize) -> usize {
     let ty = s.ty;
     match ty {
-        2 => token::boolean(out, at, s.value),
-        3 | 4 | 5 | 6 => output::number(out, at, s.value),
-        7 => output::quad(out, at, s.value),
-        8 => sock4(s, out, at),
-        9 => bytes(text, s, out, at),
-        14 => output::text(out, at, table_text(text, s)),
+        Ty::BOOL => token::boolean(out, at, s.value),
+        Ty::U8 | Ty::U16 | Ty::U32 | Ty::U64 => output::number(out, at, s.value),
+        Ty::IP4 => output::quad(out, at, s.value),
+        Ty::SOCK4 => sock4(s, out, at),
+        Ty::BYTES => bytes(text, s, out, at),
+        Ty::FUNCTION => output::text(out, at, table_text(text, s)),
         _ => at,
     }
 }
@@ -121,7 +124,7 @@ fn value(
     out: &mut [u8],
     at: usize,
 ) -> usize {
-    if s.text == 1 {
+    if s.text == Text::SOURCE {
         return string(source, tokens, s.value as usize, out, at);
     }
     let p = output::byte(out, at, b' ');
@@ -129,7 +132,7 @@ fn value(
 }
 
 fn kind(out: &mut [u8], at: usize, n: u64) -> usize {
-    if n == 1 {
+    if n == Checker::DISCARD {
         return output::text(out, at, b"Discard ");
     }
     at

@@ -2,20 +2,23 @@
 use crate::rows;
 use crate::rows::Node;
 use crate::rows::TokenRow;
+use lex::Lexer;
+use parse::NodeKind;
 use printing::output;
 use printing::token;
 use printing::token::Token;
+use scan::Tok;
 
 // A bracket and the word for a node's kind: for a literal that for its token's kind, a number above every node's kind. Only
 // a statement has no blank before it.
 fn open(tokens: &[u64], n: Node, out: &mut [u8], at: usize) -> usize {
     let kind = n.kind;
     match kind {
-        2 => {
+        NodeKind::LITERAL => {
             let t = rows::token_at(tokens, n.token).token;
             opened(out, at, b" (", t.kind)
         }
-        11 | 12 | 13 => opened(out, at, b"(", kind),
+        NodeKind::IMPORT | NodeKind::LET | NodeKind::EXPRESSION => opened(out, at, b"(", kind),
         _ => opened(out, at, b" (", kind),
     }
 }
@@ -54,8 +57,10 @@ pub fn start(source: &[u8], tokens: &[u64], n: Node, out: &mut [u8], at: usize) 
     let p = open(tokens, n, out, at);
     let kind = n.kind;
     match kind {
-        9 | 13 => p,
-        10 | 11 | 12 => name(source, tokens, n.token, out, p),
+        NodeKind::ARGUMENT | NodeKind::EXPRESSION => p,
+        NodeKind::NAMED_ARGUMENT | NodeKind::IMPORT | NodeKind::LET => {
+            name(source, tokens, n.token, out, p)
+        }
         _ => place(rows::token_at(tokens, n.token), out, p),
     }
 }
@@ -80,7 +85,7 @@ fn bodies(source: &[u8], t: Token, out: &mut [u8], at: usize) -> usize {
 }
 
 fn literal(source: &[u8], t: Token, out: &mut [u8], at: usize) -> usize {
-    if t.kind == 16 {
+    if t.kind == Tok::STRING_LITERAL {
         return bodies(source, t, out, at);
     }
     value(source, t, out, at)
@@ -90,7 +95,7 @@ fn literal(source: &[u8], t: Token, out: &mut [u8], at: usize) -> usize {
 fn sock4(source: &[u8], tokens: &[u64], i: usize, out: &mut [u8], at: usize) -> usize {
     let p = value(source, rows::token_at(tokens, i).token, out, at);
     let q = output::byte(out, p, b':');
-    if i < tokens.len() / 7 {
+    if i < tokens.len() / Lexer::ROW_WORDS {
         return token::show_value(source, rows::token_at(tokens, i + 2).token, out, q);
     }
     q
@@ -131,10 +136,10 @@ fn contents(
 ) -> usize {
     let kind = n.kind;
     match kind {
-        2 => literal(source, rows::token_at(tokens, n.token).token, out, at),
-        3 => sock4(source, tokens, n.token, out, at),
-        4 => value(source, rows::token_at(tokens, n.token).token, out, at),
-        5 => names(source, tokens, nodes, i, n, out, at),
+        NodeKind::LITERAL => literal(source, rows::token_at(tokens, n.token).token, out, at),
+        NodeKind::SOCK4 => sock4(source, tokens, n.token, out, at),
+        NodeKind::LOCAL => value(source, rows::token_at(tokens, n.token).token, out, at),
+        NodeKind::PATH => names(source, tokens, nodes, i, n, out, at),
         _ => at,
     }
 }

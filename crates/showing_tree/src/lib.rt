@@ -5,6 +5,7 @@ mod rows;
 mod tree;
 
 use printing::verdict;
+use scan::Verdict;
 
 pub fn answer(
     source: &[u8],
@@ -15,7 +16,7 @@ pub fn answer(
 ) -> usize {
     let parsed = parse::parse_source(source, tokens, nodes);
     let v = parsed.verdict;
-    if v.number != 0 {
+    if v.number != Verdict::DONE {
         return verdict::refused(v, out, at);
     }
     tree::statements(source, tokens, nodes, parsed.nodes as usize, out, at)

@@ -2,6 +2,10 @@
 // be one that the parser left.
 ghost use Prim.Native.Nat.{_+_, _<_, _≤_};
 ghost use lib.ListN.{length};
+use lex::Lexer;
+use parse::NodeKind;
+use parse::NodeRow;
+use parse::Parser;
 use printing::token::Token;
 use wide::Wide;
 
@@ -24,15 +28,15 @@ fn token_from(tokens: &[u64], at: usize) -> TokenRow
     requires { ⌜ at + 7 ≤ length (now tokens) ⌝ }
 {
     TokenRow {
-        line: tokens[at + 1],
-        column: tokens[at + 2],
+        line: tokens[at + lex::TokenRow::LINE],
+        column: tokens[at + lex::TokenRow::COLUMN],
         token: Token {
             kind: tokens[at],
-            start: tokens[at + 3] as usize,
-            end: tokens[at + 4] as usize,
+            start: tokens[at + lex::TokenRow::START] as usize,
+            end: tokens[at + lex::TokenRow::END] as usize,
             value: Wide {
-                hi: tokens[at + 6],
-                lo: tokens[at + 5],
+                hi: tokens[at + lex::TokenRow::HIGH],
+                lo: tokens[at + lex::TokenRow::LOW],
             },
         },
     }
@@ -52,8 +56,8 @@ fn no_token() -> TokenRow {
 }
 
 pub fn token_at(tokens: &[u64], i: usize) -> TokenRow {
-    if i < tokens.len() / 7 {
-        return token_from(tokens, i * 7);
+    if i < tokens.len() / Lexer::ROW_WORDS {
+        return token_from(tokens, i * Lexer::ROW_WORDS);
     }
     no_token()
 }
@@ -63,15 +67,15 @@ fn node_from(nodes: &[u64], at: usize) -> Node
 {
     Node {
         kind: nodes[at],
-        token: nodes[at + 1] as usize,
-        first: nodes[at + 2] as usize,
-        second: nodes[at + 3] as usize,
+        token: nodes[at + NodeRow::TOKEN] as usize,
+        first: nodes[at + NodeRow::FIRST] as usize,
+        second: nodes[at + NodeRow::SECOND] as usize,
     }
 }
 
 pub fn node_at(nodes: &[u64], i: usize) -> Node {
-    if i < nodes.len() / 5 {
-        return node_from(nodes, i * 5);
+    if i < nodes.len() / Parser::ROW_WORDS {
+        return node_from(nodes, i * Parser::ROW_WORDS);
     }
     Node {
         kind: 0,
@@ -101,7 +105,8 @@ pub fn first_argument(nodes: &[u64], last: usize) -> usize {
 }
 
 fn follows(argument: Node, row: usize) -> bool {
-    (argument.kind == 9 || argument.kind == 10) && argument.second == row
+    (argument.kind == NodeKind::ARGUMENT || argument.kind == NodeKind::NAMED_ARGUMENT)
+        && argument.second == row
 }
 
 // The row of the argument after the one in `row`, where there is one before the row `end`; else `end`.

@@ -3,6 +3,7 @@
 use crate::leaf;
 use crate::rows;
 use crate::rows::Node;
+use parse::NodeKind;
 use printing::output;
 
 // The tree of a row, a blank before each expression and argument.
@@ -16,7 +17,7 @@ fn show(
 ) -> usize {
     let n = rows::node_at(nodes, i);
     let a = leaf::start(source, tokens, n, out, at);
-    if n.kind < 6 || n.kind == 11 {
+    if n.kind < NodeKind::MEMBER || n.kind == NodeKind::IMPORT {
         return leaf::end(source, tokens, nodes, i, n, out, a);
     }
     if i <= n.first {
@@ -39,14 +40,14 @@ fn rest(
 ) -> usize {
     let kind = n.kind;
     match kind {
-        6 => leaf::name(source, tokens, n.second, out, at),
-        7 => {
+        NodeKind::MEMBER => leaf::name(source, tokens, n.second, out, at),
+        NodeKind::SLASH => {
             if n.second < i {
                 return show(source, tokens, nodes, n.second, out, at);
             }
             at
         }
-        8 => arguments(source, tokens, nodes, i, n.second, out, at),
+        NodeKind::CALL => arguments(source, tokens, nodes, i, n.second, out, at),
         _ => at,
     }
 }
@@ -83,7 +84,7 @@ fn statement(
     out: &mut [u8],
     at: usize,
 ) -> usize {
-    if rows::node_at(nodes, i).kind < 11 {
+    if rows::node_at(nodes, i).kind < NodeKind::IMPORT {
         return at;
     }
     let p = show(source, tokens, nodes, i, out, at);

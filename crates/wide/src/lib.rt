@@ -198,11 +198,11 @@ impl Wide {
     }
 
     // The decimal digits, at the end of the lent buffer; answers where they start. What is before them is zero.
-    pub fn decimal(self, text: &mut [u8; 39]) -> usize
+    pub fn decimal(self, text: &mut [u8; Wide::MOST_DIGITS]) -> usize
         ensures { λ r. ⌜ r ≡ 39 - length (decimal (valueOf self)) ⌝ }
         ensures { λ r. ⌜ now (text .exit) ≡ replicate r 0 ++ ascii (decimal (valueOf self)) ⌝ }
     {
-        *text = [0u8; 39];
+        *text = [0u8; Wide::MOST_DIGITS];
         let mut rest = self;
         let mut at = Wide::MOST_DIGITS;
         // the last digit first; 0 has one too, so the test stands at the end
@@ -218,11 +218,11 @@ impl Wide {
     }
 
     // The hexadecimal digits, in lower case, as `decimal` writes its digits.
-    pub fn hexadecimal(self, text: &mut [u8; 32]) -> usize
+    pub fn hexadecimal(self, text: &mut [u8; Wide::MOST_HEX_DIGITS]) -> usize
         ensures { λ r. ⌜ r ≡ 32 - length (hexadecimal (valueOf self)) ⌝ }
         ensures { λ r. ⌜ now (text .exit) ≡ replicate r 0 ++ spellDigits (hexadecimal (valueOf self)) ⌝ }
     {
-        *text = [0u8; 32];
+        *text = [0u8; Wide::MOST_HEX_DIGITS];
         let mut rest = self;
         let mut at = Wide::MOST_HEX_DIGITS;
         loop {
