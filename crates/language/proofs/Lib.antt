@@ -28,6 +28,7 @@ pub mod CanonicalLines
 pub mod CanonicalJoin
 pub mod CanonicalText
 pub mod Canonical
+pub mod Determined
 pub mod Done
 pub mod SentenceExamples
 pub mod SentenceOutcomes
