@@ -2,6 +2,7 @@
 pub mod Examples
 pub mod Tests
 pub mod Each
+pub mod Forms
 pub mod Utf8Rows
 pub mod Utf8
 pub mod Integers

@@ -1,6 +1,6 @@
 -- The tokens of a source, by a walk over its lexemes with the literals that are pending.
 use Prim.Native.Nat.{ℕ, _+_, _-_, _≤_, _<_}
-use mathlib.Core.Path.{_≡_, refl, sym, ap}
+use mathlib.Core.Path.{_≡_, refl, sym, ap, _∙_}
 use mathlib.Core.List.{List, [], _∷_, _++_, append-assoc, append-nil, List·Memᴰ, List·Memᴰ·not-nil, List·Memᴰ·cases-cons, List·Memᴰ·append-cases, List·Memᴰ·eq-of-singleton}
 use mathlib.Core.Option.{Option, none, some}
 use mathlib.Core.Logic.{_⊎_, inl, inr}
@@ -11,6 +11,7 @@ use Rattle.language.specs.Lexemes.{Tok, lParen, rParen, dot, doubleColon
 use Rattle.language.specs.Tables.{contentKind}
 use Rattle.language.specs.Tokens.{eof, plain, name, string, Token, contentOf, unquoted, Item, items, Pending, joined, pendingToken, flushed, itemToken, tokensFrom, tokens, eofToken, Place, placeOf, between, PlacesRight, Ordered, ordered-none, ordered-one, TokensInOrder, NamesHeld, bodyOf, bodiesIn, BodiesHeld}
 use Rattle.language.proofs.Tests.{never}
+use Rattle.language.proofs.Forms.{TokOf, of-identifier, tok-form}
 use Rattle.language.proofs.CutLexemes.{newline}
 use Rattle.language.proofs.TokenBodies.{Held, held-none, held-more, bodies-of}
 use Rattle.language.proofs.TokenPlaces.{place, itemAt, Walk, walk-end, walk-newline, walk-item, source-walk}
@@ -38,26 +39,11 @@ content-cases t x =
     ]
 
 -- and it is plain only where its kind is not a name's
+name-form : {t : Tok} (x : List ℕ) → TokOf 13 t → contentOf t x ≡ name x
+name-form x of-identifier = refl
+
 name-cases : (t : Tok) (x : List ℕ) → contentKind (contentOf t x) ≡ 13 → contentOf t x ≡ name x
-name-cases t x =
-    elim t [
-      | identifier ↦ λ k. refl
-      | lParen ↦ λ k. absurd (omega arith)
-      | rParen ↦ λ k. absurd (omega arith)
-      | dot ↦ λ k. absurd (omega arith)
-      | doubleColon ↦ λ k. absurd (omega arith)
-      | colon ↦ λ k. absurd (omega arith)
-      | semiColon ↦ λ k. absurd (omega arith)
-      | equals ↦ λ k. absurd (omega arith)
-      | comma ↦ λ k. absurd (omega arith)
-      | slash ↦ λ k. absurd (omega arith)
-      | importKeyword ↦ λ k. absurd (omega arith)
-      | letKeyword ↦ λ k. absurd (omega arith)
-      | booleanLiteral b ↦ λ k. absurd (omega arith)
-      | ipv4Literal n ↦ λ k. absurd (omega arith)
-      | hexLiteral n ↦ λ k. absurd (omega arith)
-      | decLiteral n ↦ λ k. absurd (omega arith)
-    ]
+name-cases t x k = elim (content-cases t x) [ inl e ↦ e | inr e ↦ name-form x (tok-form t (ap contentKind (sym e) ∙ k)) ]
 
 module _ (source : List ℕ) where
   -- from `at` on the source has s
