@@ -5,9 +5,9 @@
 // Kinds of values: 2 a bool, 3 to 6 an integer of 8 to 64 bits, 7 an address, 8 an address with a port, 9 a string, 14 a
 // function, 16 an integer with no size yet, 17 bytes of the constant table; 0 stands for none.
 ghost use mathlib.Core.Path.{_≡_};
-ghost use mathlib.Core.List.{List, []};
+ghost use mathlib.Core.List.{List};
 ghost use Prim.Native.Nat.{ℕ, _+_, _*_, _<_, _≤_};
-ghost use lib.ListN.{length, getD};
+ghost use lib.ListN.{length};
 ghost use Rattle.table.specs.Table.{putRow};
 ghost use Rattle.language.specs.Lexemes.{same};
 ghost use Rattle.language.specs.Tokens.{tokens, contents};

@@ -1,11 +1,9 @@
 -- Trees of examples, and refusals.
 use mathlib.Core.Path.{_≡_, refl}
-use mathlib.Core.Bool.{true}
-use mathlib.Core.List.{List, [], _∷_}
-use Prim.Native.Nat.{ℕ}
+use mathlib.Core.List.{[], _∷_}
 use Rattle.language.specs.Lexemes.{lParen, rParen, dot, doubleColon, colon, semiColon, equals, comma, slash, letKeyword, ipv4Literal, decLiteral, hexLiteral}
 use Rattle.language.specs.Tokens.{Content, eof, plain, name}
-use Rattle.language.specs.Sentences.{Out, ok, no, Stmt, let′, expr′, literal, sock4, local, path, member, call, slash′, none-given, given, named, program, stmtsFrom, stmtAt, letAt, importAt, exprOf, chainOf, listAt, argsOf, argOf, slashes, links, primary, address, named′, namesFrom, nodes, nodesFrom, node}
+use Rattle.language.specs.Sentences.{ok, no, let′, expr′, literal, sock4, local, path, member, call, slash′, none-given, given, named, program, stmtsFrom, stmtAt, letAt, importAt, exprOf, chainOf, listAt, argsOf, argOf, slashes, links, primary, address, named′, namesFrom, nodes, nodesFrom, node}
 
 a : Content
 a = name (97 ∷ [])
