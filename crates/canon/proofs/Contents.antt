@@ -5,37 +5,37 @@ use mathlib.Core.Bool.{true, false}
 use mathlib.Core.List.{List, _∷_}
 use native.Mathlib.Nat.{div-add-mod'}
 use native.Mathlib.Omega.{arith}
-use borrow.Author.Tests.{eqb-false}
 use lib.Dec.{eqb}
 use Rattle.language.specs.Lexemes.{Tok, lParen, rParen, dot, doubleColon, colon, semiColon, equals, comma, slash, importKeyword, letKeyword, identifier, booleanLiteral, ipv4Literal, hexLiteral, decLiteral}
 use Rattle.language.specs.Tokens.{Content, eof, plain, name, string, bodiesIn}
 use Rattle.language.specs.Tables.{word, tokKind, tokLow, tokHigh, contentKind, contentLow, contentHigh}
 use Rattle.language.specs.Canonical.{spellTok, spell, isSemi, endsLine, after}
 use Rattle.language.proofs.Tests.{never}
+use Rattle.language.proofs.Forms.{no-string, tok-form}
 use Rattle.canon.specs.Writing.{markOf, fixedText, kindText, gapText}
 
 -- ---- what follows a token
 
 -- what the number of a token's kind tells
-kind-tells : (t : Tok) → (eqb (tokKind t) 7 ≡ isSemi t) × (eqb (tokKind t) 1 ≡ false) × (eqb (tokKind t) 16 ≡ false)
+kind-tells : (t : Tok) → (eqb (tokKind t) 7 ≡ isSemi t) × (eqb (tokKind t) 1 ≡ false)
 kind-tells t =
     elim t [
-      | lParen ↦ (refl, refl, refl)
-      | rParen ↦ (refl, refl, refl)
-      | dot ↦ (refl, refl, refl)
-      | doubleColon ↦ (refl, refl, refl)
-      | colon ↦ (refl, refl, refl)
-      | semiColon ↦ (refl, refl, refl)
-      | equals ↦ (refl, refl, refl)
-      | comma ↦ (refl, refl, refl)
-      | slash ↦ (refl, refl, refl)
-      | importKeyword ↦ (refl, refl, refl)
-      | letKeyword ↦ (refl, refl, refl)
-      | identifier ↦ (refl, refl, refl)
-      | booleanLiteral b ↦ (refl, refl, refl)
-      | ipv4Literal n ↦ (refl, refl, refl)
-      | hexLiteral n ↦ (refl, refl, refl)
-      | decLiteral n ↦ (refl, refl, refl)
+      | lParen ↦ (refl, refl)
+      | rParen ↦ (refl, refl)
+      | dot ↦ (refl, refl)
+      | doubleColon ↦ (refl, refl)
+      | colon ↦ (refl, refl)
+      | semiColon ↦ (refl, refl)
+      | equals ↦ (refl, refl)
+      | comma ↦ (refl, refl)
+      | slash ↦ (refl, refl)
+      | importKeyword ↦ (refl, refl)
+      | letKeyword ↦ (refl, refl)
+      | identifier ↦ (refl, refl)
+      | booleanLiteral b ↦ (refl, refl)
+      | ipv4Literal n ↦ (refl, refl)
+      | hexLiteral n ↦ (refl, refl)
+      | decLiteral n ↦ (refl, refl)
     ]
 
 pub ends-line : (c : Content) → eqb (contentKind c) 7 ≡ endsLine c
@@ -89,6 +89,6 @@ content-text (string b bs) bytes n k f g = rw (g b bs refl)
 -- which contents have the kind of strings
 pub string-kind : (c : Content) → contentKind c ≡ 16 → (b : List ℕ) × (bs : List (List ℕ)) × (c ≡ string b bs)
 string-kind eof e = absurd (omega arith)
-string-kind (plain t) e = absurd (eqb-false _ _ (kind-tells t .2) e)
+string-kind (plain t) e = absurd (no-string (tok-form t e))
 string-kind (name bs) e = absurd (omega arith)
 string-kind (string b bs) e = (b, bs, refl)

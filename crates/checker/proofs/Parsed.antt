@@ -14,7 +14,7 @@ use Rattle.table.proofs.Laws.{length-tabled, tabled-own, tabled-rows}
 use Rattle.language.specs.Tables.{tokenRow}
 use Rattle.language.specs.Tokens.{contents, tokens}
 use Rattle.language.specs.Sentences as sentences
-use Rattle.language.specs.Sentences.{Stmt, import′, let′, expr′, Out, ok, program, stmtNodes, nodesFrom, nodes, nodeRow}
+use Rattle.language.specs.Sentences.{Stmt, programSize, Out, ok, program, nodes, nodeRow}
 use Rattle.language.specs.Numbers as numbers
 use Rattle.language.specs.Numbers.{verdict, lexAnswer, parsed, parsedAs, parseAnswer, parsedNodes, parseTokens, parseNodes, statementsOf}
 use Rattle.parse.specs.declared.ParseAnswer.{ParseAnswer}
@@ -22,9 +22,9 @@ use Rattle.parse.specs.Entry.{ParseSource}
 use Rattle.parse.proofs.Entry.{not-zero, in-room, all-lexed}
 use Rattle.language.proofs.SentenceRefusals.{refused-number}
 use Rattle.language.proofs.TokensAt.{row-width, some-token}
-use Rattle.language.proofs.NodeClaims.{expr-long, row-long}
+use Rattle.language.proofs.NodeClaims.{all-long, row-long}
 use Rattle.judging.specs.Judging.{Lexed}
-use Rattle.checker.specs.Checking.{StmtsAt, stmtSize, stmtsSize, RowFits, noCounts}
+use Rattle.checker.specs.Checking.{StmtsAt, RowFits, noCounts}
 use Rattle.checker.specs.Entry.{Parses}
 use Rattle.checker.proofs.Trees.{all-stmts}
 
@@ -69,19 +69,6 @@ module _ (s : List ℕ) (m n : ℕ) (z : parseAnswer s m n .verdict .number ≡ 
 
 -- ---- rows
 
--- a statement has as many rows as its size
-pub stmt-long : (k : ℕ) (s : Stmt) → length (stmtNodes k s) ≡ stmtSize s
-stmt-long k (import′ t) = refl
-stmt-long k (let′ t e) = simp length-append (omega (arith, expr-long k e))
-stmt-long k (expr′ e) = simp length-append (omega (arith, expr-long k e))
-
--- as many rows as the size of the statements
-nodes-long : (k : ℕ) (ss : List Stmt) → length (nodesFrom k ss) ≡ stmtsSize ss
-unfolding nodesFrom stmtsSize
-nodes-long k [] = refl
-nodes-long k (s ∷ ss) =
-    length-append (stmtNodes k s) (nodesFrom (k + length (stmtNodes k s)) ss) ∙ omega (arith, stmt-long k s, nodes-long (k + length (stmtNodes k s)) ss)
-
 module _ {s toks tree : List ℕ} {count rows : ℕ} (p : Parses s toks tree count rows) where
   done : parseAnswer s (length toks / 7) (length tree / 5) .verdict .number ≡ 0
   done = ap (λ (a : numbers.Parsed). a .verdict .number) (p .answer)
@@ -116,7 +103,7 @@ module _ {s toks tree : List ℕ} {count rows : ℕ} (p : Parses s toks tree cou
   pub rows-fit : length tree ≤ 18446744073709551615 → RowFits (take (5 * rows) tree) 0 noCounts
   rows-fit h =
       let w = whole s (length toks / 7) (length tree / 5) done in
-      let l : stmtsSize (w .0) ≤ length tree / 5 = omega (arith, nodes-long 0 (w .0), w .4) in
+      let l : programSize (w .0) ≤ length tree / 5 = omega (arith, all-long 0 (w .0), w .4) in
       record { list = w .0; stands = rw (w .3) at stmts-part; room = omega arith; held = omega arith }
 
 -- ---- what the entry `parse` promises

@@ -10,7 +10,7 @@ use lib.ListN.{length, length-append}
 use Rattle.language.specs.Choice.{if′}
 use Rattle.language.specs.Tokens as tokens
 use Rattle.language.specs.Tokens.{Content, contents}
-use Rattle.language.specs.Sentences.{Expr, Stmt, import′, let′, expr′, firstOf, exprSize}
+use Rattle.language.specs.Sentences.{Expr, Stmt, import′, let′, expr′, firstOf, exprSize, stmtSize, programSize}
 use Rattle.language.specs.Values as values
 use Rattle.language.specs.Values.{lookup}
 use Rattle.language.specs.Judgements as judgements
@@ -18,13 +18,14 @@ use Rattle.language.specs.Judgements.{Diag, Held, Known, Import, Binding, val, 
 use Rattle.language.specs.Findings.{diagRow, stmtRow}
 use Rattle.language.specs.Numbers.{tokenOf}
 use Rattle.language.proofs.Tests.{never}
+use Rattle.language.proofs.NodeClaims.{some-stmt-node}
 use Rattle.judging.specs.declared.Counts.{Counts}
 use Rattle.judging.specs.Judging.{putRows, Lexed, Ready, Knows, knownIn, boundIn, importsIn}
 use Rattle.judging.proofs.Rows.{more-rows}
 use Rattle.judging.proofs.Judging as judging
 use Rattle.checker.specs.declared.Turn.{Turn}
 use Rattle.checker.specs.declared.Turn.the-variants.{Went, Full}
-use Rattle.checker.specs.Checking.{Grows, Steps, TurnOf, StmtsAt, at-end, no-stmt, an-import, a-let, an-expr, stmtSize, stmtsSize, RowFits, RowTurns, passes, takes, noCounts, ComesTo, Comes}
+use Rattle.checker.specs.Checking.{Grows, Steps, TurnOf, StmtsAt, at-end, no-stmt, an-import, a-let, an-expr, RowFits, RowTurns, passes, takes, noCounts, ComesTo, Comes}
 use Rattle.checker.proofs.Statements.{warnings-append, tallied}
 use Rattle.language.proofs.JudgementClaims.{errors-append}
 use Rattle.checker.proofs.Imports.{grows-none}
@@ -89,11 +90,6 @@ module _ (ts : List Content) (n : ℕ) (k : Known) where
   pub few-findings : (st : Stmt) {k′ : Known} {ds : List Diag} {hs : List Held} → stmt ts n k st ≡ goes k′ ds hs → (length ds ≤ stmtSize st) × (length hs ≤ 1)
   unfolding Few
   few-findings st e = subst (Few (stmtSize st)) e (few st)
-
-some-row : (st : Stmt) → 1 ≤ stmtSize st
-some-row (import′ t) = omega arith
-some-row (let′ t e) = omega arith
-some-row (expr′ e) = omega arith
 
 -- ---- findings after findings
 
@@ -199,9 +195,8 @@ module _ (s toks ws : List ℕ) (i : ℕ) (b m : List (List ℕ)) (x u : List �
         (subst (λ (z : List (List ℕ)). Ready s toks z m′ c) (sym p) (subst (λ (z : List (List ℕ)). Ready s toks b z c) (sym q) r))
     ready-on n k (st ∷ ss) r (takes a t) = went n k st (stmt ts n k st) refl (t .turn) .4 .ready
 
-    fits-on : (n : ℕ) (k : Known) (ss : List Stmt) → c .errors + c .warnings + stmtsSize ss ≤ 4611686018427387904 → c .statements + stmtsSize ss ≤ 4611686018427387904
+    fits-on : (n : ℕ) (k : Known) (ss : List Stmt) → c .errors + c .warnings + programSize ss ≤ 4611686018427387904 → c .statements + programSize ss ≤ 4611686018427387904
         → RowTurns s toks ws i n k c b m x u (Went c′) b′ m′ y v ss → RowFits ws (i + 1) c′
-    unfolding stmtsSize
     fits-on n k ss h l (passes a e p q f g) =
         subst (λ (z : Counts). RowFits ws (i + 1) z) (sym (same-counts e)) (record { list = ss; stands = a; room = h; held = l })
     fits-on n k (st ∷ ss) h l (takes a t) =
@@ -212,7 +207,7 @@ module _ (s toks ws : List ℕ) (i : ℕ) (b m : List (List ℕ)) (x u : List �
           list = ss;
           stands = a;
           room = omega (arith, h, g .errors, g .warnings, tallied (w .1), f .0);
-          held = omega (arith, l, g .statements, f .1, some-row st);
+          held = omega (arith, l, g .statements, f .1, some-stmt-node st);
         }
 
     module _ (x0 u0 : List ℕ) (all : List Stmt) (n : ℕ) (k : Known) (ds : List Diag) (hs : List Held) where

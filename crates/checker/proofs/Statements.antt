@@ -20,6 +20,7 @@ use Rattle.language.specs.Judgements.{Diag, diag, Held, held, Known, What, isEr
 use Rattle.language.proofs.JudgementClaims.{errors-append}
 use Rattle.language.specs.Findings.{valueKind, valueLow, valueHigh, intKind, tyKind, diagRow, stmtRow}
 use Rattle.language.specs.Numbers.{tokenOf}
+use Rattle.language.proofs.Forms.{ValueOf, of-integer, of-bytes, of-text, of-function, value-form}
 use Rattle.language.proofs.Tests.{never}
 use Rattle.language.proofs.Integers.{smallest-holds}
 use Rattle.wide.specs.declared.Size.{Size}
@@ -110,21 +111,21 @@ whole : (n : ℕ) → n / tables.word * tables.word + n % tables.word ≡ n
 whole n = omega arith
 
 module _ {v : Value} {z : Size} (k : v .kind ≡ 16) (o : z ≡ sizeOf (smallest (v .hi * tables.word + v .lo))) where
+  -- the number that such a value is
+  number : (n : ℕ) → v ≡ valueAs (isInteger n) → smallest n ≡ smallest (v .hi * tables.word + v .lo)
+  number n e = ap smallest (sym (whole n)) ∙ ap (λ (w : Value). smallest (w .hi * tables.word + w .lo)) (sym e)
+
+  integral : (u : values.Value) → v ≡ valueAs u → ValueOf 16 u
+  integral u e = value-form u (ap (λ (w : Value). w .kind) (sym e) ∙ k)
+
+  fits-form : (t : IntType) → smallest (v .hi * tables.word + v .lo) ≡ some t → {u : values.Value} → v ≡ valueAs u → ValueOf 16 u
+      → narrow.Fits (record { kind = intKind t; lo = v .lo; hi = 0 }) ≡ narrowedAs (narrowed u)
+  fits-form t q e (of-integer {n = n}) =
+      ap (λ (w : Value). narrow.Fits (record { kind = intKind t; lo = w .lo; hi = 0 })) e ∙ sized n t (number n e ∙ q)
+
   fits-by : (t : IntType) → smallest (v .hi * tables.word + v .lo) ≡ some t → (u : values.Value) → v ≡ valueAs u
       → narrow.Fits (record { kind = intKind t; lo = v .lo; hi = 0 }) ≡ narrowedAs (narrowed u)
-  fits-by t q (isInteger n) e =
-      let f : smallest n ≡ some t = ap smallest (sym (whole n)) ∙ ap (λ (w : Value). smallest (w .hi * tables.word + w .lo)) (sym e) ∙ q in
-      ap (λ (w : Value). narrow.Fits (record { kind = intKind t; lo = w .lo; hi = 0 })) e ∙ sized n t f
-  fits-by t q (isBool b) e = absurd (omega (arith, k, ap (λ (w : Value). w .kind) e))
-  fits-by t q (isSized u8 n) e = absurd (omega (arith, k, ap (λ (w : Value). w .kind) e))
-  fits-by t q (isSized u16 n) e = absurd (omega (arith, k, ap (λ (w : Value). w .kind) e))
-  fits-by t q (isSized u32 n) e = absurd (omega (arith, k, ap (λ (w : Value). w .kind) e))
-  fits-by t q (isSized u64 n) e = absurd (omega (arith, k, ap (λ (w : Value). w .kind) e))
-  fits-by t q (isIp4 n) e = absurd (omega (arith, k, ap (λ (w : Value). w .kind) e))
-  fits-by t q (isSock4 n p) e = absurd (omega (arith, k, ap (λ (w : Value). w .kind) e))
-  fits-by t q (isString s) e = absurd (omega (arith, k, ap (λ (w : Value). w .kind) e))
-  fits-by t q (isText a b) e = absurd (omega (arith, k, ap (λ (w : Value). w .kind) e))
-  fits-by t q (isFunction f) e = absurd (omega (arith, k, ap (λ (w : Value). w .kind) e))
+  fits-by t q u e = fits-form t q e (integral u e)
 
   pub narrow-u8 : (u : values.Value) → v ≡ valueAs u → z ≡ U8 → narrow.Fits (record { kind = 3; lo = v .lo; hi = 0 }) ≡ narrowedAs (narrowed u)
   narrow-u8 u e q = fits-by u8 (is-u8 _ (sym q ∙ o)) u e
@@ -138,60 +139,22 @@ module _ {v : Value} {z : Size} (k : v .kind ≡ 16) (o : z ≡ sizeOf (smallest
   pub narrow-u64 : (u : values.Value) → v ≡ valueAs u → z ≡ U64 → narrow.Fits (record { kind = 6; lo = v .lo; hi = 0 }) ≡ narrowedAs (narrowed u)
   narrow-u64 u e q = fits-by u64 (is-u64 _ (sym q ∙ o)) u e
 
+  large-form : {u : values.Value} → v ≡ valueAs u → z ≡ TooLarge → ValueOf 16 u → narrow.TooLarge ≡ narrowedAs (narrowed u)
+  large-form e q (of-integer {n = n}) = large n (number n e ∙ is-large _ (sym q ∙ o))
+
   pub narrow-large : (u : values.Value) → v ≡ valueAs u → z ≡ TooLarge → narrow.TooLarge ≡ narrowedAs (narrowed u)
-  narrow-large (isInteger n) e q =
-      large n (ap smallest (sym (whole n)) ∙ ap (λ (w : Value). smallest (w .hi * tables.word + w .lo)) (sym e) ∙ is-large _ (sym q ∙ o))
-  narrow-large (isBool b) e q = absurd (omega (arith, k, ap (λ (w : Value). w .kind) e))
-  narrow-large (isSized u8 n) e q = absurd (omega (arith, k, ap (λ (w : Value). w .kind) e))
-  narrow-large (isSized u16 n) e q = absurd (omega (arith, k, ap (λ (w : Value). w .kind) e))
-  narrow-large (isSized u32 n) e q = absurd (omega (arith, k, ap (λ (w : Value). w .kind) e))
-  narrow-large (isSized u64 n) e q = absurd (omega (arith, k, ap (λ (w : Value). w .kind) e))
-  narrow-large (isIp4 n) e q = absurd (omega (arith, k, ap (λ (w : Value). w .kind) e))
-  narrow-large (isSock4 n p) e q = absurd (omega (arith, k, ap (λ (w : Value). w .kind) e))
-  narrow-large (isString s) e q = absurd (omega (arith, k, ap (λ (w : Value). w .kind) e))
-  narrow-large (isText a b) e q = absurd (omega (arith, k, ap (λ (w : Value). w .kind) e))
-  narrow-large (isFunction f) e q = absurd (omega (arith, k, ap (λ (w : Value). w .kind) e))
+  narrow-large u e q = large-form e q (integral u e)
 
 -- ---- what is shown of a value
 
-function-shown : (u : values.Value) → valueKind u ≡ 14 → textAs (typeOf u) ≡ shownAs u
-function-shown (isInteger n) e = absurd (omega arith)
-function-shown (isBool b) e = absurd (omega arith)
-function-shown (isSized u8 n) e = absurd (omega arith)
-function-shown (isSized u16 n) e = absurd (omega arith)
-function-shown (isSized u32 n) e = absurd (omega arith)
-function-shown (isSized u64 n) e = absurd (omega arith)
-function-shown (isIp4 n) e = absurd (omega arith)
-function-shown (isSock4 n p) e = absurd (omega arith)
-function-shown (isString t) e = absurd (omega arith)
-function-shown (isText a b) e = absurd (omega arith)
-function-shown (isFunction k) e = refl
+function-shown : {u : values.Value} → ValueOf 14 u → textAs (typeOf u) ≡ shownAs u
+function-shown of-function = refl
 
-table-shown : (u : values.Value) → valueKind u ≡ 17 → record { from = 2; start = valueLow u; end = valueHigh u } ≡ shownAs u
-table-shown (isInteger n) e = absurd (omega arith)
-table-shown (isBool b) e = absurd (omega arith)
-table-shown (isSized u8 n) e = absurd (omega arith)
-table-shown (isSized u16 n) e = absurd (omega arith)
-table-shown (isSized u32 n) e = absurd (omega arith)
-table-shown (isSized u64 n) e = absurd (omega arith)
-table-shown (isIp4 n) e = absurd (omega arith)
-table-shown (isSock4 n p) e = absurd (omega arith)
-table-shown (isString t) e = absurd (omega arith)
-table-shown (isText a b) e = refl
-table-shown (isFunction k) e = absurd (omega arith)
+table-shown : {u : values.Value} → ValueOf 17 u → record { from = 2; start = valueLow u; end = valueHigh u } ≡ shownAs u
+table-shown of-text = refl
 
-string-shown : (u : values.Value) → valueKind u ≡ 9 → record { from = 1; start = valueLow u; end = valueHigh u } ≡ shownAs u
-string-shown (isInteger n) e = absurd (omega arith)
-string-shown (isBool b) e = absurd (omega arith)
-string-shown (isSized u8 n) e = absurd (omega arith)
-string-shown (isSized u16 n) e = absurd (omega arith)
-string-shown (isSized u32 n) e = absurd (omega arith)
-string-shown (isSized u64 n) e = absurd (omega arith)
-string-shown (isIp4 n) e = absurd (omega arith)
-string-shown (isSock4 n p) e = absurd (omega arith)
-string-shown (isString t) e = refl
-string-shown (isText a b) e = absurd (omega arith)
-string-shown (isFunction k) e = absurd (omega arith)
+string-shown : {u : values.Value} → ValueOf 9 u → record { from = 1; start = valueLow u; end = valueHigh u } ≡ shownAs u
+string-shown of-bytes = refl
 
 other-shown : (u : values.Value) → (valueKind u ≡ 14 → ⊥) → (valueKind u ≡ 17 → ⊥) → (valueKind u ≡ 9 → ⊥)
     → record { from = 0; start = valueLow u; end = valueHigh u } ≡ shownAs u
@@ -208,14 +171,17 @@ module _ {v : Value} (u : values.Value) (e : v ≡ valueAs u) where
   kind-is : v .kind ≡ valueKind u
   kind-is = ap (λ (w : Value). w .kind) e
 
+  form : {k : ℕ} → v .kind ≡ k → ValueOf k u
+  form k = value-form u (sym kind-is ∙ k)
+
   pub shown-function : {r : Text} → r ≡ textAs (typeOf u) → v .kind ≡ 14 → r ≡ shownAs u
-  shown-function q k = q ∙ function-shown u (sym kind-is ∙ k)
+  shown-function q k = q ∙ function-shown (form k)
 
   pub shown-table : v .kind ≡ 17 → record { from = 2; start = v .lo; end = v .hi } ≡ shownAs u
-  shown-table k = rw e (table-shown u (sym kind-is ∙ k))
+  shown-table k = rw e (table-shown (form k))
 
   pub shown-string : v .kind ≡ 9 → record { from = 1; start = v .lo; end = v .hi } ≡ shownAs u
-  shown-string k = rw e (string-shown u (sym kind-is ∙ k))
+  shown-string k = rw e (string-shown (form k))
 
   pub shown-other : (v .kind ≡ 14 → ⊥) → (v .kind ≡ 17 → ⊥) → (v .kind ≡ 9 → ⊥) → record { from = 0; start = v .lo; end = v .hi } ≡ shownAs u
   shown-other p q o = rw e (other-shown u (λ z. p (kind-is ∙ z)) (λ z. q (kind-is ∙ z)) (λ z. o (kind-is ∙ z)))

@@ -6,14 +6,14 @@ use native.Mathlib.Omega.{arith}
 use lib.ListN.{length}
 use Rattle.language.specs.Tokens as tokens
 use Rattle.language.specs.Tokens.{Content, contents}
-use Rattle.language.specs.Sentences.{Expr, Stmt, import′, let′, expr′}
+use Rattle.language.specs.Sentences.{Expr, Stmt, import′, let′, expr′, programSize}
 use Rattle.language.specs.Judgements as judgements
 use Rattle.language.specs.Judgements.{Known, goes, full, stmt}
 use Rattle.judging.specs.declared.Counts.{Counts}
 use Rattle.judging.specs.Judging.{Knows, Ready, RepAt, word}
 use Rattle.checker.specs.declared.Turn.{Turn}
 use Rattle.checker.specs.declared.Turn.the-variants.{Went}
-use Rattle.checker.specs.Checking.{Room, StmtFits, StmtsAt, at-end, no-stmt, an-import, a-let, an-expr, stmtsSize, RowFits, RowTurns, passes, takes, GoesOf, Exprs, TurnOf, Turns}
+use Rattle.checker.specs.Checking.{Room, StmtFits, StmtsAt, at-end, no-stmt, an-import, a-let, an-expr, RowFits, RowTurns, passes, takes, GoesOf, Exprs, TurnOf, Turns}
 use Rattle.checker.proofs.LetStmts.{same-knows, same-ready}
 
 abbrev ts : List ℕ → List Content
@@ -37,8 +37,7 @@ module _ (s toks : List ℕ) (k : Known) (c c′ : Counts) (b m : List (List ℕ
 module _ {ws : List ℕ} {i : ℕ} (inside : 5 * i + 5 ≤ length ws) where
   -- what the statement of a row needs
 
-  import-size : {ss : List Stmt} → StmtsAt ws i ss → word ws i 0 ≡ 11 → 1 ≤ stmtsSize ss
-  unfolding stmtsSize
+  import-size : {ss : List Stmt} → StmtsAt ws i ss → word ws i 0 ≡ 11 → 1 ≤ programSize ss
   import-size (at-end l) q = absurd (omega (arith, inside))
   import-size (no-stmt f h on) q = absurd (omega (arith, q))
   import-size (an-import f h on) q = omega arith
@@ -50,9 +49,8 @@ module _ {ws : List ℕ} {i : ℕ} (inside : 5 * i + 5 ≤ length ws) where
       let one = import-size (f .stands) q in
       record { findings = omega (arith, f .room, one); held = omega (arith, f .held, one) }
 
-  tree-fits : {c : Counts} {ss : List Stmt} → StmtsAt ws i ss → 11 < word ws i 0 → c .errors + c .warnings + stmtsSize ss ≤ 4611686018427387904
-      → c .statements + stmtsSize ss ≤ 4611686018427387904 → StmtFits ws i c
-  unfolding stmtsSize
+  tree-fits : {c : Counts} {ss : List Stmt} → StmtsAt ws i ss → 11 < word ws i 0 → c .errors + c .warnings + programSize ss ≤ 4611686018427387904
+      → c .statements + programSize ss ≤ 4611686018427387904 → StmtFits ws i c
   tree-fits (at-end l) q room held = absurd (omega (arith, inside))
   tree-fits (no-stmt f h on) q room held = absurd (omega (arith, q))
   tree-fits (an-import f h on) q room held = absurd (omega (arith, q))

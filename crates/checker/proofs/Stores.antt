@@ -1,7 +1,7 @@
 -- An entry stored behind those of a table of names: the others stay, and it is the last.
-use mathlib.Core.Path.{_≡_, refl, sym, ap, _∙_}
+use mathlib.Core.Path.{_≡_, refl, ap, _∙_}
 use mathlib.Core.List.{List, [], _∷_, _++_}
-use Prim.Native.Nat.{ℕ, zero, suc, _+_, _*_, _≤_, _<_}
+use Prim.Native.Nat.{ℕ, zero, suc, _+_, _<_}
 use native.Mathlib.Omega.{arith}
 use native.Mathlib.Decide.{decLe}
 use native.Mathlib.Numerals.{add-one}
@@ -10,7 +10,7 @@ use lib.Seq.{getD-set-same, getD-set-other}
 use Rattle.language.specs.Tokens.{between}
 use Rattle.language.specs.Judgements.{Binding, Import}
 use Rattle.judging.specs.declared.Value.{Value}
-use Rattle.judging.specs.Judging.{nameWord, nameOf, bindingAt, boundIn, importAt, importsIn, opened, orNone, Canon, keyOf, Keyed}
+use Rattle.judging.specs.Judging.{bindingAt, boundIn, importAt, importsIn, opened, orNone, keyOf, Keyed}
 use Rattle.checker.specs.Checking.{entryRow}
 
 -- ---- entries

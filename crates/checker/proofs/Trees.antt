@@ -203,6 +203,23 @@ module _ (ns : List Node) where
     over : {ss : List Stmt} → StmtsAt (ws ns) (k + exprSize e) ss → StmtsAt (ws ns) k ss
     over r = skip-part (exprNodes k e) k (part-left (exprNodes k e) (n ∷ []) p) (small-expr k e) (sym (expr-long k e)) r
 
+  -- a statement x over an expression, from the statements after it and how its row stands
+  tree-stmt : (e : Expr) (k : ℕ) (n : Node) (ss : List Stmt) {x : Stmt}
+      → Part ns k ((exprNodes k e ++ n ∷ []) ++ nodesFrom (k + length (exprNodes k e ++ n ∷ [])) ss)
+      → length ns ≡ k + length ((exprNodes k e ++ n ∷ []) ++ nodesFrom (k + length (exprNodes k e ++ n ∷ [])) ss)
+      → ((m : ℕ) → Part ns m (nodesFrom m ss) → length ns ≡ m + length (nodesFrom m ss) → StmtsAt (ws ns) m ss)
+      → (IsRow ns (k + exprSize e) n → RepAt (ws ns) (k + exprSize e - 1) e → StmtsAt (ws ns) (k + exprSize e + 1) ss
+          → StmtsAt (ws ns) (k + exprSize e) (x ∷ ss))
+      → StmtsAt (ws ns) k (x ∷ ss)
+  tree-stmt e k n ss p l rest held =
+      let own = exprNodes k e ++ n ∷ [] in
+      let m = k + length own in
+      let one = part-left own (nodesFrom m ss) p in
+      let long : length own ≡ exprSize e + 1 = length-append (exprNodes k e) (n ∷ []) ∙ omega (arith, expr-long k e) in
+      let on = rest m (part-right own (nodesFrom m ss) refl p) (l ∙ length-all k own (nodesFrom m ss)) in
+      let next : m ≡ k + exprSize e + 1 = omega (arith, long) in
+      over e k n one (held (stmt-row e k n one) (stmt-tree e k n one) (subst (λ (z : ℕ). StmtsAt (ws ns) z ss) next on))
+
   from-part : (ss : List Stmt) (k : ℕ) → Part ns k (nodesFrom k ss) → length ns ≡ k + length (nodesFrom k ss) → StmtsAt (ws ns) k ss
   unfolding nodesFrom
   from-part [] k p l = let past : length (ws ns) ≤ 5 * k = omega (arith, l, rows-long ns) in at-end past
@@ -212,26 +229,12 @@ module _ (ns : List Node) where
       let on = from-part ss (k + 1) (part-right (n ∷ []) (nodesFrom (k + 1) ss) refl p) (omega (arith, l)) in
       subst (λ (m : ℕ). StmtsAt (ws ns) k (import′ m ∷ ss)) (r .tok) (an-import (r .inside) (r .kind) on)
   from-part (let′ t e ∷ ss) k p l =
-      let n = node 12 t (k + exprSize e - 1) 0 0 in
-      let m = k + length (exprNodes k e ++ n ∷ []) in
-      let one = part-left (exprNodes k e ++ n ∷ []) (nodesFrom m ss) p in
-      let long : length (exprNodes k e ++ n ∷ []) ≡ exprSize e + 1 = length-append (exprNodes k e) (n ∷ []) ∙ omega (arith, expr-long k e) in
-      let on = from-part ss m (part-right (exprNodes k e ++ n ∷ []) (nodesFrom m ss) refl p) (l ∙ length-all k (exprNodes k e ++ n ∷ []) (nodesFrom m ss)) in
-      let r = stmt-row e k n one in
-      let next : m ≡ k + exprSize e + 1 = omega (arith, long) in
-      over e k n one
-      (subst (λ (z : ℕ). StmtsAt (ws ns) (k + exprSize e) (let′ z e ∷ ss)) (r .tok)
-      (a-let (r .inside) (r .kind) (subst (λ (z : ℕ). RepAt (ws ns) z e) (sym (r .first)) (stmt-tree e k n one)) (subst (λ (z : ℕ). StmtsAt (ws ns) z ss) next on)))
+      tree-stmt e k (node 12 t (k + exprSize e - 1) 0 0) ss p l (λ m q z. from-part ss m q z) (λ r c on.
+        subst (λ (z : ℕ). StmtsAt (ws ns) (k + exprSize e) (let′ z e ∷ ss)) (r .tok)
+        (a-let (r .inside) (r .kind) (subst (λ (z : ℕ). RepAt (ws ns) z e) (sym (r .first)) c) on))
   from-part (expr′ e ∷ ss) k p l =
-      let n = node 13 (firstOf e) (k + exprSize e - 1) 0 0 in
-      let m = k + length (exprNodes k e ++ n ∷ []) in
-      let one = part-left (exprNodes k e ++ n ∷ []) (nodesFrom m ss) p in
-      let long : length (exprNodes k e ++ n ∷ []) ≡ exprSize e + 1 = length-append (exprNodes k e) (n ∷ []) ∙ omega (arith, expr-long k e) in
-      let on = from-part ss m (part-right (exprNodes k e ++ n ∷ []) (nodesFrom m ss) refl p) (l ∙ length-all k (exprNodes k e ++ n ∷ []) (nodesFrom m ss)) in
-      let r = stmt-row e k n one in
-      let next : m ≡ k + exprSize e + 1 = omega (arith, long) in
-      over e k n one
-      (an-expr (r .inside) (r .kind) (subst (λ (z : ℕ). RepAt (ws ns) z e) (sym (r .first)) (stmt-tree e k n one)) (subst (λ (z : ℕ). StmtsAt (ws ns) z ss) next on))
+      tree-stmt e k (node 13 (firstOf e) (k + exprSize e - 1) 0 0) ss p l (λ m q z. from-part ss m q z) (λ r c on.
+        an-expr (r .inside) (r .kind) (subst (λ (z : ℕ). RepAt (ws ns) z e) (sym (r .first)) c) on)
 
 -- the rows of a program are its statements
 pub all-stmts : (ss : List Stmt) → StmtsAt (flat nodeRow (nodes ss)) 0 ss

@@ -1,14 +1,13 @@
 -- How the checker's counts, tables and answers stand for the language's.
-use Prim.Native.Nat.{ℕ, zero, suc, _+_, _*_, _≤_, _<_}
+use Prim.Native.Nat.{ℕ, _+_, _*_, _≤_, _<_}
 use mathlib.Core.Path.{_≡_}
-use mathlib.Core.Bool.{Bool, true, false}
 use mathlib.Core.List.{List, [], _∷_}
 use mathlib.Core.Option.{Option, none, some}
-use lib.ListN.{length, getD}
-use Rattle.table.specs.Table.{flat, putRow}
+use lib.ListN.{length}
+use Rattle.table.specs.Table.{putRow}
 use Rattle.language.specs.Tokens as tokens
 use Rattle.language.specs.Tokens.{contents, between}
-use Rattle.language.specs.Sentences.{Expr, Stmt, import′, let′, expr′, firstOf, exprSize}
+use Rattle.language.specs.Sentences.{Expr, Stmt, import′, let′, expr′, firstOf, exprSize, programSize}
 use Rattle.language.specs.Values as values
 use Rattle.language.specs.Values.{typeOf}
 use Rattle.language.specs.Judgements as judgements
@@ -21,7 +20,7 @@ use Rattle.judging.specs.declared.Text.{Text}
 use Rattle.judging.specs.declared.Fault.{Fault}
 use Rattle.judging.specs.declared.Counts.{Counts}
 use Rattle.judging.specs.declared.Judgement.{Judgement}
-use Rattle.judging.specs.Judging.{valueAs, putRows, Lexed, keyOf, Ready, Knows, Agrees, word, RepAt, Fits}
+use Rattle.judging.specs.Judging.{valueAs, putRows, keyOf, Ready, Knows, Agrees, word, RepAt}
 use Rattle.checker.specs.declared.Turn.{Turn}
 use Rattle.checker.specs.declared.Turn.the-variants.{Went, Full}
 use Rattle.checker.specs.declared.Narrowed.{Narrowed}
@@ -153,22 +152,13 @@ pub data StmtsAt (ws : List ℕ) : ℕ → List Stmt → Type 0 where
   an-expr : {i : ℕ} {e : Expr} {ss : List Stmt} → 5 * i + 5 ≤ length ws → word ws i 0 ≡ 13 → RepAt ws (word ws i 2) e → StmtsAt ws (i + 1) ss
       → StmtsAt ws i (expr′ e ∷ ss)
 
--- how many rows a statement has, which is as many findings as it can have, or more
-abbrev pub stmtSize : Stmt → ℕ
-stmtSize (import′ t) = 1
-stmtSize (let′ t e) = exprSize e + 1
-stmtSize (expr′ e) = exprSize e + 1
-
-unfoldable pub stmtsSize : List Stmt → ℕ
-stmtsSize [] = 0
-stmtsSize (s ∷ ss) = stmtSize s + stmtsSize ss
-
--- the statements from row i on can be judged, and what they find and hold be counted
+-- the statements from row i on can be judged, and what they find and hold be counted: a statement has as many rows as it can
+-- have findings, or more
 pub record RowFits (ws : List ℕ) (i : ℕ) (c : Counts) : Type 0 where
   pub list : List Stmt
   pub stands : StmtsAt ws i list
-  pub room : c .errors + c .warnings + stmtsSize list ≤ 4611686018427387904
-  pub held : c .statements + stmtsSize list ≤ 4611686018427387904
+  pub room : c .errors + c .warnings + programSize list ≤ 4611686018427387904
+  pub held : c .statements + programSize list ≤ 4611686018427387904
 
 -- row i of the statements ss that are left: it passes a row of an expression, or takes a turn with the first. Before, the
 -- tables of names were b and m, the others x and u.

@@ -1,10 +1,10 @@
 -- The rows of the table are the entries: one test over the whole table.
 use Prim.Native.Nat.{ℕ, zero, suc, _+_, _-_, _*_, _≤_, _<_}
-use native.Mathlib.Nat.{not-suc-le-zero, le-of-suc-le-suc}
+use native.Mathlib.Nat.{not-suc-le-zero}
 use native.Mathlib.Omega.{arith}
 use mathlib.Core.Path.{_≡_, refl, _∙_, sym, subst, ap}
 use mathlib.Core.Bool.{Bool, true, false, _&&_}
-use mathlib.Core.List.{List, [], _∷_}
+use mathlib.Core.List.{List}
 use mathlib.Core.Option.{Option, none, some}
 use mathlib.Core.Logic.{_⊎_, inl, inr}
 use borrow.Author.Tests.{ltb-true, ltb-false, lt-ltb, le-ltb}
@@ -13,7 +13,7 @@ use lib.ListN.{length, getD, drop, List·getD-eq-default, drop-of-length-le}
 use lib.Seq.{drop-cons}
 use Rattle.language.specs.Choice.{if′}
 use Rattle.language.specs.Lexemes.{same}
-use Rattle.language.specs.Values.{Entry, entry, entries, entryAt, entryName, tableText, lookup, lookupFrom}
+use Rattle.language.specs.Values.{Entry, entry, entries, entryAt, entryName, tableText, lookupFrom}
 use Rattle.constants.specs.Constants.{tableRows, kindOf, lowOf, highOf, orZero, entryWord, isHit}
 
 both-left : (a b : Bool) → T (a && b) → T a

@@ -5,7 +5,6 @@
 // where its name starts and ends in the text, and its value as three words, which are 0 for a module.
 ghost use mathlib.Core.Path.{_≡_};
 ghost use Prim.Native.Nat.{_+_, _*_, _<_, _≤_};
-ghost use lib.ListN.{length, getD};
 ghost use Rattle.language.specs.Lexemes.{same};
 ghost use Rattle.language.specs.Tokens.{between};
 ghost use Rattle.language.specs.Values.{tableText, lookup};

@@ -25,6 +25,7 @@ use Rattle.judging.specs.declared.Value.{Value}
 use Rattle.judging.specs.declared.Text.{Text}
 use Rattle.judging.specs.declared.Judged.the-variants.{Val, Poisoned}
 use Rattle.judging.specs.Judging.{tokenAs, valueAs, opened, Canon, heldAs, isIntegral, textAs, typedAs, faultAs, sock4As}
+use Rattle.language.proofs.Forms.{ContentOf, of-plain, of-boolean, of-ipv4, of-string, no-string, content-form, ValueOf, of-text, of-function, of-ip4, value-form}
 use Rattle.language.proofs.TokensAt.{content-of}
 
 -- ---- three words read back
@@ -49,32 +50,15 @@ pub canon-of : (o : Option values.Value) → Canon (kindOf o) (lowOf o) (highOf 
 canon-of o = let e = opened-as o in record { kind = rw e; low = rw e; high = rw e }
 
 pub some-kind : (u : values.Value) → valueKind u ≡ 0 → ⊥
-some-kind (isInteger n) e = omega arith
-some-kind (isBool b) e = omega arith
-some-kind (isSized u8 n) e = omega arith
-some-kind (isSized u16 n) e = omega arith
-some-kind (isSized u32 n) e = omega arith
-some-kind (isSized u64 n) e = omega arith
-some-kind (isIp4 n) e = omega arith
-some-kind (isSock4 n p) e = omega arith
-some-kind (isString t) e = omega arith
-some-kind (isText a b) e = omega arith
-some-kind (isFunction k) e = omega arith
+some-kind u e = elim (value-form u e) [ ]
 
 -- ---- types
 
+bytes-kind : {u : values.Value} → ValueOf 17 u → 9 ≡ tyKind (typeOf u)
+bytes-kind of-text = refl
+
 pub kind-17 : (u : values.Value) → valueKind u ≡ 17 → 9 ≡ tyKind (typeOf u)
-kind-17 (isInteger n) e = absurd (omega arith)
-kind-17 (isBool b) e = absurd (omega arith)
-kind-17 (isSized u8 n) e = absurd (omega arith)
-kind-17 (isSized u16 n) e = absurd (omega arith)
-kind-17 (isSized u32 n) e = absurd (omega arith)
-kind-17 (isSized u64 n) e = absurd (omega arith)
-kind-17 (isIp4 n) e = absurd (omega arith)
-kind-17 (isSock4 n p) e = absurd (omega arith)
-kind-17 (isString t) e = refl
-kind-17 (isText a b) e = refl
-kind-17 (isFunction k) e = absurd (omega arith)
+kind-17 u e = bytes-kind (value-form u e)
 
 pub kind-type : (u : values.Value) → (valueKind u ≡ 17 → ⊥) → valueKind u ≡ tyKind (typeOf u)
 kind-type (isInteger n) h = refl
@@ -96,34 +80,17 @@ plain-text (isString t) h = refl
 plain-text (isText a b) h = refl
 plain-text (isFunction k) h = absurd (h refl)
 
-pub function-text : {rows : List ℕ} → rows ≡ tableRows → (u : values.Value) → valueKind u ≡ 14
+function-text : {u : values.Value} {rows : List ℕ} → rows ≡ tableRows → ValueOf 14 u
     → record { from = 2; start = entryWord rows (valueLow u) 1; end = entryWord rows (valueLow u) 2 } ≡ textAs (typeOf u)
-function-text r (isInteger n) e = absurd (omega arith)
-function-text r (isBool b) e = absurd (omega arith)
-function-text r (isSized u8 n) e = absurd (omega arith)
-function-text r (isSized u16 n) e = absurd (omega arith)
-function-text r (isSized u32 n) e = absurd (omega arith)
-function-text r (isSized u64 n) e = absurd (omega arith)
-function-text r (isIp4 n) e = absurd (omega arith)
-function-text r (isSock4 n p) e = absurd (omega arith)
-function-text r (isString t) e = absurd (omega arith)
-function-text r (isText a b) e = absurd (omega arith)
-function-text r (isFunction k) e = let w = words k in rw (r, w .start, w .end)
+function-text r (of-function {k = k}) = let w = words k in rw (r, w .start, w .end)
 
 -- ---- operands of `/`
 
+ip4-value : {u : values.Value} → ValueOf 7 u → ip4Of u ≡ some (valueLow u)
+ip4-value of-ip4 = refl
+
 pub ip4-is : (u : values.Value) → valueKind u ≡ 7 → ip4Of u ≡ some (valueLow u)
-ip4-is (isInteger n) e = absurd (omega arith)
-ip4-is (isBool b) e = absurd (omega arith)
-ip4-is (isSized u8 n) e = absurd (omega arith)
-ip4-is (isSized u16 n) e = absurd (omega arith)
-ip4-is (isSized u32 n) e = absurd (omega arith)
-ip4-is (isSized u64 n) e = absurd (omega arith)
-ip4-is (isIp4 n) e = refl
-ip4-is (isSock4 n p) e = absurd (omega arith)
-ip4-is (isString t) e = absurd (omega arith)
-ip4-is (isText a b) e = absurd (omega arith)
-ip4-is (isFunction k) e = absurd (omega arith)
+ip4-is u e = ip4-value (value-form u e)
 
 pub ip4-not : (u : values.Value) → (valueKind u ≡ 7 → ⊥) → ip4Of u ≡ none
 ip4-not (isInteger n) h = refl
@@ -167,68 +134,15 @@ integer-not (isFunction k) e = refl
 -- ---- literals
 
 module _ (t : ℕ) where
-  pub bool-literal : (c : Content) → contentKind c ≡ 14 → record { kind = 2; lo = contentLow c; hi = 0 } ≡ valueAs (literalValue t c)
-  bool-literal eof e = absurd (omega arith)
-  bool-literal (plain lParen) e = absurd (omega arith)
-  bool-literal (plain rParen) e = absurd (omega arith)
-  bool-literal (plain dot) e = absurd (omega arith)
-  bool-literal (plain doubleColon) e = absurd (omega arith)
-  bool-literal (plain colon) e = absurd (omega arith)
-  bool-literal (plain semiColon) e = absurd (omega arith)
-  bool-literal (plain equals) e = absurd (omega arith)
-  bool-literal (plain comma) e = absurd (omega arith)
-  bool-literal (plain slash) e = absurd (omega arith)
-  bool-literal (plain importKeyword) e = absurd (omega arith)
-  bool-literal (plain letKeyword) e = absurd (omega arith)
-  bool-literal (plain identifier) e = absurd (omega arith)
-  bool-literal (plain (booleanLiteral b)) e = refl
-  bool-literal (plain (ipv4Literal n)) e = absurd (omega arith)
-  bool-literal (plain (hexLiteral n)) e = absurd (omega arith)
-  bool-literal (plain (decLiteral n)) e = absurd (omega arith)
-  bool-literal (name bs) e = absurd (omega arith)
-  bool-literal (string b bs) e = absurd (omega arith)
+  bool-literal : {c : Content} → ContentOf 14 c → record { kind = 2; lo = contentLow c; hi = 0 } ≡ valueAs (literalValue t c)
+  bool-literal (of-plain of-boolean) = refl
 
-  pub ip4-literal : (c : Content) → contentKind c ≡ 15 → record { kind = 7; lo = contentLow c; hi = 0 } ≡ valueAs (literalValue t c)
-  ip4-literal eof e = absurd (omega arith)
-  ip4-literal (plain lParen) e = absurd (omega arith)
-  ip4-literal (plain rParen) e = absurd (omega arith)
-  ip4-literal (plain dot) e = absurd (omega arith)
-  ip4-literal (plain doubleColon) e = absurd (omega arith)
-  ip4-literal (plain colon) e = absurd (omega arith)
-  ip4-literal (plain semiColon) e = absurd (omega arith)
-  ip4-literal (plain equals) e = absurd (omega arith)
-  ip4-literal (plain comma) e = absurd (omega arith)
-  ip4-literal (plain slash) e = absurd (omega arith)
-  ip4-literal (plain importKeyword) e = absurd (omega arith)
-  ip4-literal (plain letKeyword) e = absurd (omega arith)
-  ip4-literal (plain identifier) e = absurd (omega arith)
-  ip4-literal (plain (booleanLiteral b)) e = absurd (omega arith)
-  ip4-literal (plain (ipv4Literal n)) e = refl
-  ip4-literal (plain (hexLiteral n)) e = absurd (omega arith)
-  ip4-literal (plain (decLiteral n)) e = absurd (omega arith)
-  ip4-literal (name bs) e = absurd (omega arith)
-  ip4-literal (string b bs) e = absurd (omega arith)
+  ip4-literal : {c : Content} → ContentOf 15 c → record { kind = 7; lo = contentLow c; hi = 0 } ≡ valueAs (literalValue t c)
+  ip4-literal (of-plain of-ipv4) = refl
 
-  pub string-literal : (c : Content) → contentKind c ≡ 16 → record { kind = 9; lo = t; hi = 0 } ≡ valueAs (literalValue t c)
-  string-literal eof e = absurd (omega arith)
-  string-literal (plain lParen) e = absurd (omega arith)
-  string-literal (plain rParen) e = absurd (omega arith)
-  string-literal (plain dot) e = absurd (omega arith)
-  string-literal (plain doubleColon) e = absurd (omega arith)
-  string-literal (plain colon) e = absurd (omega arith)
-  string-literal (plain semiColon) e = absurd (omega arith)
-  string-literal (plain equals) e = absurd (omega arith)
-  string-literal (plain comma) e = absurd (omega arith)
-  string-literal (plain slash) e = absurd (omega arith)
-  string-literal (plain importKeyword) e = absurd (omega arith)
-  string-literal (plain letKeyword) e = absurd (omega arith)
-  string-literal (plain identifier) e = absurd (omega arith)
-  string-literal (plain (booleanLiteral b)) e = absurd (omega arith)
-  string-literal (plain (ipv4Literal n)) e = absurd (omega arith)
-  string-literal (plain (hexLiteral n)) e = absurd (omega arith)
-  string-literal (plain (decLiteral n)) e = absurd (omega arith)
-  string-literal (name bs) e = absurd (omega arith)
-  string-literal (string b bs) e = refl
+  string-literal : {c : Content} → ContentOf 16 c → record { kind = 9; lo = t; hi = 0 } ≡ valueAs (literalValue t c)
+  string-literal of-string = refl
+  string-literal (of-plain x) = absurd (no-string x)
 
   -- an integer, or a token that is no literal and carries no value
   pub other-literal : (c : Content) → (contentKind c ≡ 14 → ⊥) → (contentKind c ≡ 15 → ⊥) → (contentKind c ≡ 16 → ⊥)
@@ -260,14 +174,17 @@ module _ (t : ℕ) where
     kind-is : tok .kind ≡ contentKind (tokenOf s t .content)
     kind-is = ap (λ (k : Token). k .kind) e
 
+    form : {n : ℕ} → tok .kind ≡ n → ContentOf n (tokenOf s t .content)
+    form k = content-form (tokenOf s t .content) (sym kind-is ∙ k)
+
     pub literal-bool : tok .kind ≡ 14 → record { kind = 2; lo = tok .lo; hi = 0 } ≡ valueAs (literalAt (contents (tokens.tokens s)) t)
-    literal-bool k = is-at (rw e (bool-literal (tokenOf s t .content) (sym kind-is ∙ k)))
+    literal-bool k = is-at (rw e (bool-literal (form k)))
 
     pub literal-ip4 : tok .kind ≡ 15 → record { kind = 7; lo = tok .lo; hi = 0 } ≡ valueAs (literalAt (contents (tokens.tokens s)) t)
-    literal-ip4 k = is-at (rw e (ip4-literal (tokenOf s t .content) (sym kind-is ∙ k)))
+    literal-ip4 k = is-at (rw e (ip4-literal (form k)))
 
     pub literal-string : tok .kind ≡ 16 → record { kind = 9; lo = t; hi = 0 } ≡ valueAs (literalAt (contents (tokens.tokens s)) t)
-    literal-string k = is-at (string-literal (tokenOf s t .content) (sym kind-is ∙ k))
+    literal-string k = is-at (string-literal (form k))
 
     pub literal-other : (tok .kind ≡ 14 → ⊥) → (tok .kind ≡ 15 → ⊥) → (tok .kind ≡ 16 → ⊥)
         → record { kind = 16; lo = tok .lo; hi = tok .hi } ≡ valueAs (literalAt (contents (tokens.tokens s)) t)
@@ -282,7 +199,7 @@ sock4-is x y e f = rw (e, f)
 pub shown-text : {v : Value} {rows : List ℕ} {a b : ℕ} (u : values.Value) → v ≡ valueAs u → rows ≡ tableRows → v .kind ≡ 14
     → a ≡ entryWord rows (v .lo) 1 → b ≡ entryWord rows (v .lo) 2 → record { from = 2; start = a; end = b } ≡ textAs (typeOf u)
 shown-text {rows = rows} u e r k p q =
-    rw (p, q, e) (function-text r u (sym (ap (λ (x : Value). x .kind) e) ∙ k))
+    rw (p, q, e) (function-text r (value-form u (sym (ap (λ (x : Value). x .kind) e) ∙ k)))
 
 pub typed-is : {severity kind a b c ty : ℕ} (tok : Token) {x : Text} (u : values.Value) → x ≡ textAs (typeOf u) → ty ≡ tyKind (typeOf u)
     → record {

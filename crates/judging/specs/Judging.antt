@@ -1,7 +1,7 @@
 -- How the words of the code stand for tokens, values, findings, names and trees.
 use Prim.Native.Nat.{ℕ, zero, suc, _+_, _*_, _%_, _≤_, _<_}
 use mathlib.Core.Path.{_≡_}
-use mathlib.Core.Bool.{Bool, true, false, _&&_, _||_}
+use mathlib.Core.Bool.{Bool, _&&_, _||_}
 use mathlib.Core.List.{List, [], _∷_}
 use mathlib.Core.Option.{Option, none, some}
 use lib.Dec.{eqb, leb}
@@ -19,7 +19,7 @@ use Rattle.language.specs.Sentences.{Expr, literal, sock4, local, path, member,
 use Rattle.language.specs.Values as values
 use Rattle.language.specs.Values.{isInteger, isBool, isSized, isIp4, isSock4, isString, isText, isFunction, Ty, typeOf, entryAt}
 use Rattle.language.specs.Judgements as judgements
-use Rattle.language.specs.Judgements.{What, Diag, val, err, poisoned, Import, Binding, Known, known, nameAt, find, findImport, boundTo, below, andThen, rightOf, noMembers, operandType, Side}
+use Rattle.language.specs.Judgements.{What, val, err, poisoned, Import, Binding, Known, known, nameAt, find, findImport, boundTo, below, andThen, rightOf, noMembers, operandType, Side}
 use Rattle.language.specs.Findings as findings
 use Rattle.language.specs.Findings.{valueKind, valueLow, valueHigh, tyKind, tyEntry, tyText, sideKind, detail, diagRow}
 use Rattle.language.specs.Numbers.{tokenOf}

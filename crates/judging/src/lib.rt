@@ -1,9 +1,9 @@
 // Judging expressions: what the rows of a tree come to. Ports the expression part of check.rs; the definitions are
 // `Judgements` and `Findings` of the crate `language`. Warnings are written as they are found, an error is handed back.
 ghost use mathlib.Core.Path.{_≡_};
-ghost use mathlib.Core.List.{List, []};
+ghost use mathlib.Core.List.{List};
 ghost use Prim.Native.Nat.{ℕ, _+_, _*_, _<_, _≤_};
-ghost use lib.ListN.{length, getD};
+ghost use lib.ListN.{length};
 ghost use Rattle.table.specs.Table.{putRow};
 ghost use Rattle.language.specs.Lexemes.{same};
 ghost use Rattle.language.specs.Tokens.{tokens, contents};

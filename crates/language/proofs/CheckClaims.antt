@@ -15,7 +15,7 @@ use Rattle.language.specs.Values.{isString, Ty, tyBool, tyInt, tyIp4, ty
 use Rattle.language.specs.Judgements.{What, unknownName, unknownItem, unknownModule, notImported, notAModule, notAValue, alreadyBound, noMembers, operandType, integralTooLarge, multipleImports, discardedValue, truncated, Diag, errorsIn, Held, Outcome, judged, refused, judgeAll, nameAt}
 use Rattle.language.specs.Findings.{tyText, whatKind, Detail, named, detail, stmtRow, stmtWidth}
 use Rattle.language.specs.Canonical.{text, Lexes}
-use Rattle.language.specs.Numbers.{Verdict, verdict, placed, Parsed, tokenPlace, parseAnswer, nowhere, at-token, SamePlace, SameParse, Checked, refusedCheck, firstCall, parsedNodes, statementsOf, checked, checkedWithin, judgedWithin, checkAnswer, tokenOf, checkNodes, checkDiags, checkStmts}
+use Rattle.language.specs.Numbers.{Verdict, placed, Parsed, tokenPlace, parseAnswer, nowhere, at-token, SamePlace, SameParse, Checked, refusedCheck, firstCall, parsedNodes, statementsOf, checked, checkedWithin, judgedWithin, checkAnswer, tokenOf, checkNodes, checkDiags, checkStmts}
 use Rattle.language.specs.Checks.{TokenShown, SameCheck, SameDetail, SameHeld, bodiesAt, CheckedByContents, TextChecked}
 use Rattle.language.proofs.Tests.{each-side, both-sides}
 use Rattle.language.proofs.Canonical.{round-trip}

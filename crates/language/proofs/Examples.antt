@@ -1,6 +1,6 @@
 -- Definitions run on examples, so that a slip shows before any proof. RFC 3629, section 7, and the edges of its grammar.
 use mathlib.Core.Path.{_≡_, refl}
-use mathlib.Core.Bool.{true, false}
+use mathlib.Core.Bool.{false}
 use mathlib.Core.List.{[], _∷_, _++_}
 use mathlib.Core.Option.{none, some}
 use Rattle.language.specs.Utf8.{isScalar, encode, isChar, charAt, char, noChar, leadOf, follow, firstBad, badFrom}

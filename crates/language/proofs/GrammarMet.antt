@@ -11,7 +11,7 @@ use lib.ListN.{getD}
 use Rattle.language.specs.Lexemes.{rParen, lParen, dot, doubleColon, colon, semiColon, comma, slash, importKeyword, letKeyword, booleanLiteral, hexLiteral, decLiteral, ipv4Literal}
 use Rattle.language.specs.Tokens.{Content, eof, plain, name, string}
 use Rattle.language.specs.Tables.{contentKind}
-use Rattle.language.specs.Sentences.{Expr, literal, sock4, local, path, member, call, slash′, Args, none-given, given, named, Stmt, import′, let′, expr′, Port, port, tooLarge, notPort, portOf, Out, ok, no, mostSteps, mostLists, is, isName, isLiteral, address, named′, primary, links, chainOf, argOf, listAt, chainAt, exprAt, ended, importAt, letAt, stmtAt, names, slashesAt, argsAt, stmts}
+use Rattle.language.specs.Sentences.{Expr, literal, sock4, local, path, member, call, slash′, Args, none-given, given, named, Stmt, import′, let′, expr′, Port, port, tooLarge, notPort, portOf, Out, ok, mostSteps, mostLists, is, isName, isLiteral, address, named′, primary, links, chainOf, argOf, listAt, chainAt, exprAt, ended, importAt, letAt, stmtAt, names, slashesAt, argsAt, stmts}
 use Rattle.language.specs.Grammar.{stepsOf, isPort, Takes, One, Other, PathNames, is-start, is-name, Chain, is-literal, is-address, is-sock4, is-local, is-path, is-member, is-call, Slashed, is-chain, is-slash, Expression, is-expression, Argument, is-given, is-named, Arguments, is-none, is-more, Bracketed, is-closed, is-last, Statement, is-import, is-let, is-expr, Program, is-end, is-next, GrammarMet, OneReading}
 use Rattle.language.proofs.Tests.{either}
 use Rattle.language.proofs.GrammarSound.{found-program}

@@ -1,14 +1,12 @@
 -- Judgements of examples.
 use mathlib.Core.Path.{_≡_, refl}
-use mathlib.Core.Bool.{true, false}
-use mathlib.Core.List.{List, [], _∷_}
-use mathlib.Core.Option.{none, some}
-use Prim.Native.Nat.{ℕ}
-use Rattle.language.specs.Integers.{u8, u16, u32, u64, smallest}
-use Rattle.language.specs.Lexemes.{lParen, dot, doubleColon, colon, semiColon, equals, slash, importKeyword, letKeyword, ipv4Literal, decLiteral, booleanLiteral}
+use mathlib.Core.Bool.{true}
+use mathlib.Core.List.{[], _∷_}
+use Rattle.language.specs.Integers.{u8, u16, u32, smallest}
+use Rattle.language.specs.Lexemes.{dot, doubleColon, semiColon, equals, slash, importKeyword, letKeyword, ipv4Literal, decLiteral, booleanLiteral}
 use Rattle.language.specs.Tokens.{Content, eof, plain, name, string}
-use Rattle.language.specs.Sentences.{Stmt, let′, expr′, import′, literal, sock4, local, path, member, slash′}
-use Rattle.language.specs.Values.{isInteger, isBool, isSized, isIp4, isSock4, isString, isText, isFunction, tyBool, tyInt, tyIp4, tySock4, tyBytes, tyFunction, tyInteger, entries, lookup, lookupFrom, tableText}
+use Rattle.language.specs.Sentences.{let′, expr′, import′, literal, local, path, member, slash′}
+use Rattle.language.specs.Values.{isBool, isSized, isSock4, tyBool, tyInt, tyIp4, tySock4, tyBytes, tyInteger, entries, lookupFrom, tableText}
 use Rattle.language.specs.Judgements.{unknownName, unknownItem, unknownModule, notImported, notAModule, notAValue, alreadyBound, noMembers, operandType, left, right, integralTooLarge, multipleImports, discardedValue, truncated, diag, held, judged, judgeAll, run, stmt, judge, andThen, walk, find, findImport}
 
 a : Content

@@ -11,7 +11,7 @@ use lib.Dec.{ltb, eqb}
 use lib.ListN.{length, getD, take, drop, length-append, length-drop, List·getD-eq-default}
 use Rattle.language.specs.Choice.{if′}
 use Rattle.language.specs.Utf8.{Char, char, noChar, charAt}
-use Rattle.language.specs.Lexemes.{Tok, Kind, Lexeme, lexemeOf, run, isBlank, blankRun, isDigit, isWord, isWordStart, isBody, notNewline, octet, joined, Quad, quad, notQuad, further, quadFrom, quadLexeme, integer, number, string, punctuation, ascii, lexemeAt, lexeme, SizeFits}
+use Rattle.language.specs.Lexemes.{Tok, Kind, Lexeme, lexemeOf, run, isBlank, blankRun, isDigit, isWord, isWordStart, isBody, notNewline, octet, joined, Quad, quad, notQuad, further, quadFrom, quadLexeme, number, string, punctuation, ascii, lexemeAt, lexeme, SizeFits}
 use Rattle.language.proofs.Utf8Rows.{not-empty, character-at}
 
 -- what holds of both branches holds of an `if′`

@@ -2,6 +2,7 @@
 pub mod Examples
 pub mod Tests
 pub mod Each
+pub mod Forms
 pub mod Utf8Rows
 pub mod Utf8
 pub mod Integers
@@ -30,6 +31,7 @@ pub mod CanonicalLines
 pub mod CanonicalJoin
 pub mod CanonicalText
 pub mod Canonical
+pub mod Determined
 pub mod Done
 pub mod SentenceExamples
 pub mod SentenceOutcomes

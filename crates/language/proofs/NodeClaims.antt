@@ -37,7 +37,7 @@ stmt-long k (import′ t) = refl
 stmt-long k (let′ t e) = simp length-append (omega (arith, expr-long k e))
 stmt-long k (expr′ e) = simp length-append (omega (arith, expr-long k e))
 
-all-long : (k : ℕ) (ss : List Stmt) → length (nodesFrom k ss) ≡ programSize ss
+pub all-long : (k : ℕ) (ss : List Stmt) → length (nodesFrom k ss) ≡ programSize ss
 unfolding nodesFrom
 all-long k [] = refl
 all-long k (s ∷ ss) = simp length-append (omega (arith, stmt-long k s, all-long (k + length (stmtNodes k s)) ss))
@@ -54,6 +54,11 @@ some-node (path t n) = omega arith
 some-node (member e t) = omega arith
 some-node (slash′ a b) = omega arith
 some-node (call e t g) = omega arith
+
+pub some-stmt-node : (s : Stmt) → 0 < stmtSize s
+some-stmt-node (import′ t) = omega arith
+some-stmt-node (let′ t e) = omega arith
+some-stmt-node (expr′ e) = omega arith
 
 -- ---- reading back: each node takes its parts from those that are waiting, the last first
 

@@ -8,7 +8,7 @@ use lib.ListN.{length, length-append}
 use lib.Seq.{getD-at}
 use Rattle.language.specs.Sentences.{Expr, literal, sock4, local, path, member, call, slash′, Args, none-given, given, named, Stmt, import′, let′, expr′, Node, node, nameNodes, exprSize, argsSize, lastOf, exprNodes, argNodes, stmtNodes, nodesFrom, nodes, stmtSize, programSize}
 use Rattle.language.specs.Rows.{rowAt, Holds, holds-literal, holds-sock4, holds-local, holds-path, holds-member, holds-slash, holds-call, HoldsArgs, holds-none, holds-given, holds-named, HoldsStmt, holds-import, holds-let, holds-expr, RowsHold}
-use Rattle.language.proofs.NodeClaims.{names-long, expr-long, args-long, stmt-long, some-node}
+use Rattle.language.proofs.NodeClaims.{names-long, expr-long, args-long, stmt-long, some-node, some-stmt-node}
 
 module _ (ns : List Node) where
   -- the nodes have these from row k on
@@ -78,6 +78,20 @@ module _ (ns : List Node) where
         top = own (n + m) i (xs ++ ys) z (simp length-append (omega arith)) (omega arith) h;
       }
 
+  -- an argument in row i after those before it, from how these and its value are held
+  argument : (k : ℕ) (g : Args) (e : Expr) {i : ℕ} {z : Node} {x : Args} → k + argsSize g + exprSize e ≡ i
+      → Have k (argNodes k g ++ exprNodes (k + argsSize g) e ++ z ∷ []) → (Have k (argNodes k g) → HoldsArgs ns (lastOf k g) g)
+      → ((a j : ℕ) → Last a j (exprSize e) → Have j (exprNodes j e) → Holds ns a e)
+      → (HoldsArgs ns (lastOf k g) g → Holds ns (i - 1) e → lastOf k g ≤ i → i - 1 < i → rowAt ns i ≡ z → HoldsArgs ns (suc i) x)
+      → HoldsArgs ns (k + (argsSize g + exprSize e + 1)) x
+  argument k g e {i} {z} at h before value all =
+      let some = some-node e in
+      let below = last-below k g in
+      let j = k + argsSize g in
+      let last : k + (argsSize g + exprSize e + 1) ≡ suc i = omega arith in
+      let o = over (argsSize g) (exprSize e) i (argNodes k g) (exprNodes j e) z (args-long k g) (expr-long j e) at h in
+      rw last (all (before (o .left)) (value (i - 1) j (omega arith) (o .right)) (omega arith) (omega arith) (o .top))
+
   mutual
     expr-held : (i k : ℕ) (e : Expr) → Last i k (exprSize e) → Have k (exprNodes k e) → Holds ns i e
     expr-held i k (literal t) l h = holds-literal (row i (omega arith) h)
@@ -108,24 +122,8 @@ module _ (ns : List Node) where
 
     args-held : (k : ℕ) (g : Args) → Have k (argNodes k g) → HoldsArgs ns (lastOf k g) g
     args-held k none-given h = holds-none
-    args-held k (given g e) h =
-        let some = some-node e in
-        let below = last-below k g in
-        let j = k + argsSize g in
-        let i = j + exprSize e in
-        let last : k + (argsSize g + exprSize e + 1) ≡ suc i = omega arith in
-        let o = over (argsSize g) (exprSize e) i (argNodes k g) (exprNodes j e) _ (args-long k g) (expr-long j e) refl h in
-        let value = expr-held (i - 1) j e (omega arith) (o .right) in
-        rw last (holds-given {i = i} (args-held k g (o .left)) value (omega arith) (omega arith) (o .top))
-    args-held k (named g t e) h =
-        let some = some-node e in
-        let below = last-below k g in
-        let j = k + argsSize g in
-        let i = j + exprSize e in
-        let last : k + (argsSize g + exprSize e + 1) ≡ suc i = omega arith in
-        let o = over (argsSize g) (exprSize e) i (argNodes k g) (exprNodes j e) _ (args-long k g) (expr-long j e) refl h in
-        let value = expr-held (i - 1) j e (omega arith) (o .right) in
-        rw last (holds-named {i = i} (args-held k g (o .left)) value (omega arith) (omega arith) (o .top))
+    args-held k (given g e) h = argument k g e refl h (λ p. args-held k g p) (λ i j l p. expr-held i j e l p) holds-given
+    args-held k (named g t e) h = argument k g e refl h (λ p. args-held k g p) (λ i j l p. expr-held i j e l p) holds-named
 
   stmt-held : (i k : ℕ) (s : Stmt) → Last i k (stmtSize s) → Have k (stmtNodes k s) → HoldsStmt ns i s
   stmt-held i k (import′ t) l h = holds-import (row i (omega arith) h)
@@ -137,11 +135,6 @@ module _ (ns : List Node) where
       let some = some-node e in
       holds-expr {i = i} (expr-held (k + exprSize e - 1) k e (omega arith) (first-part (exprNodes k e) _ h)) (omega arith)
       (own (exprSize e) i (exprNodes k e) _ (expr-long k e) (omega arith) h)
-
-some-stmt-node : (s : Stmt) → 0 < stmtSize s
-some-stmt-node (import′ t) = omega arith
-some-stmt-node (let′ t e) = omega arith
-some-stmt-node (expr′ e) = omega arith
 
 -- the nodes of a statement stand after those of the statements before it
 stmt-have : (ns : List Node) (k : ℕ) (ss us : List Stmt) (s : Stmt) → Have ns k (nodesFrom k (ss ++ s ∷ us))

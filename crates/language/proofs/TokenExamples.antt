@@ -3,9 +3,9 @@ use mathlib.Core.Path.{_≡_, refl}
 use mathlib.Core.List.{List, [], _∷_}
 use Prim.Native.Nat.{ℕ}
 use Rattle.language.specs.Utf8.{charAt, leadOf, follow, badFrom}
-use Rattle.language.specs.Lexemes.{Tok, letKeyword, equals, semiColon, lexeme, scanFrom, isBlank, isDigit, isWordStart, isWord, isBody, notNewline, blankRun, word, digitOf, readDigits, startsHex, startsZero, integer, octet, quadFrom, number, punctuation, ascii}
+use Rattle.language.specs.Lexemes.{letKeyword, equals, semiColon, lexeme, scanFrom, isBlank, isDigit, isWordStart, isWord, isBody, notNewline, blankRun, word, punctuation, ascii}
 use Rattle.language.specs.Lexemes as lexemes
-use Rattle.language.specs.Tokens.{Content, eof, plain, name, string, Token, linesFrom, itemsFrom, items, tokensFrom, tokens, firstWrong, placeFrom}
+use Rattle.language.specs.Tokens.{Content, eof, plain, name, string, Token, linesFrom, itemsFrom, items, tokensFrom, tokens, firstWrong}
 use Rattle.language.specs.Numbers.{lexAnswer, lexed, verdict}
 
 abbrev at : Content → ℕ → ℕ → ℕ → ℕ → Token

@@ -1,7 +1,6 @@
 -- The rows of what checking finds: diagnostics and statements. docs/TABLES.md says the same in prose. Here a token index
 -- becomes a place.
-use Prim.Native.Nat.{ℕ, suc, _/_, _%_}
-use mathlib.Core.Bool.{Bool, true, false}
+use Prim.Native.Nat.{ℕ, _/_, _%_}
 use mathlib.Core.List.{List, [], _∷_}
 use Rattle.language.specs.Choice.{if′}
 use Rattle.language.specs.Integers.{IntType, u8, u16, u32, u64}
@@ -27,25 +26,23 @@ tyKind tyBytes = 9
 tyKind (tyFunction k) = 14
 tyKind tyInteger = 16
 
+-- a number that only a function's type has
+abbrev ofFunction : (ℕ → ℕ) → Ty → ℕ
+ofFunction shown tyBool = 0
+ofFunction shown (tyInt t) = 0
+ofFunction shown tyIp4 = 0
+ofFunction shown tySock4 = 0
+ofFunction shown tyBytes = 0
+ofFunction shown (tyFunction k) = shown k
+ofFunction shown tyInteger = 0
+
 -- the entry that a type shows: a function's
 abbrev pub tyEntry : Ty → ℕ
-tyEntry tyBool = 0
-tyEntry (tyInt t) = 0
-tyEntry tyIp4 = 0
-tyEntry tySock4 = 0
-tyEntry tyBytes = 0
-tyEntry (tyFunction k) = k
-tyEntry tyInteger = 0
+tyEntry t = ofFunction (λ k. k) t
 
 -- where the text that a type shows is: a function's name is in the table's text
 abbrev pub tyText : Ty → ℕ
-tyText tyBool = 0
-tyText (tyInt t) = 0
-tyText tyIp4 = 0
-tyText tySock4 = 0
-tyText tyBytes = 0
-tyText (tyFunction k) = 2
-tyText tyInteger = 0
+tyText t = ofFunction (λ _. 2) t
 
 -- ---- values as three words: a kind, which is the type's but for bytes of the table, and two of value
 
@@ -59,25 +56,33 @@ valueKind (isString t) = 9
 valueKind (isText a b) = 17
 valueKind (isFunction k) = 14
 
+-- the low word and the high one, given what stands for a function
+abbrev low : (ℕ → ℕ) → Value → ℕ
+low shown (isInteger n) = n % word
+low shown (isBool b) = bit b
+low shown (isSized t n) = n
+low shown (isIp4 n) = n
+low shown (isSock4 n p) = n
+low shown (isString t) = t
+low shown (isText a b) = a
+low shown (isFunction k) = shown k
+
+abbrev high : (ℕ → ℕ) → Value → ℕ
+high shown (isInteger n) = n / word
+high shown (isBool b) = 0
+high shown (isSized t n) = 0
+high shown (isIp4 n) = 0
+high shown (isSock4 n p) = p
+high shown (isString t) = 0
+high shown (isText a b) = b
+high shown (isFunction k) = shown k
+
+-- a function is its entry
 abbrev pub valueLow : Value → ℕ
-valueLow (isInteger n) = n % word
-valueLow (isBool b) = bit b
-valueLow (isSized t n) = n
-valueLow (isIp4 n) = n
-valueLow (isSock4 n p) = n
-valueLow (isString t) = t
-valueLow (isText a b) = a
-valueLow (isFunction k) = k
+valueLow v = low (λ k. k) v
 
 abbrev pub valueHigh : Value → ℕ
-valueHigh (isInteger n) = n / word
-valueHigh (isBool b) = 0
-valueHigh (isSized t n) = 0
-valueHigh (isIp4 n) = 0
-valueHigh (isSock4 n p) = p
-valueHigh (isString t) = 0
-valueHigh (isText a b) = b
-valueHigh (isFunction k) = 0
+valueHigh v = high (λ _. 0) v
 
 -- ---- a diagnostic's row: line, column, severity (1 error, 2 warning), kind, where its text is (0 none, 1 the source, 2 the
 -- table's text), the text's start and end, a type, and three numbers
@@ -188,24 +193,10 @@ valueText (isText a b) = 2
 valueText (isFunction k) = 2
 
 abbrev pub shownLow : Value → ℕ
-shownLow (isInteger n) = n % word
-shownLow (isBool b) = bit b
-shownLow (isSized t n) = n
-shownLow (isIp4 n) = n
-shownLow (isSock4 n p) = n
-shownLow (isString t) = t
-shownLow (isText a b) = a
-shownLow (isFunction k) = entryAt k .start
+shownLow v = low (λ k. entryAt k .start) v
 
 abbrev pub shownHigh : Value → ℕ
-shownHigh (isInteger n) = n / word
-shownHigh (isBool b) = 0
-shownHigh (isSized t n) = 0
-shownHigh (isIp4 n) = 0
-shownHigh (isSock4 n p) = p
-shownHigh (isString t) = 0
-shownHigh (isText a b) = b
-shownHigh (isFunction k) = entryAt k .end
+shownHigh v = high (λ k. entryAt k .end) v
 
 module _ (tokenAt : ℕ → Token) where
   unfoldable pub stmtRow : Held → List ℕ

@@ -8,12 +8,12 @@ use mathlib.Core.Option.{Option, none, some}
 use lib.Dec.{ltb}
 use lib.ListN.{length, getD}
 use Rattle.language.specs.Choice.{if′}
-use Rattle.language.specs.Integers.{IntType, u16, smallest, low16, isTruncated}
+use Rattle.language.specs.Integers.{u16, smallest, low16, isTruncated}
 use Rattle.language.specs.Lexemes.{Tok, lParen, rParen, dot, doubleColon, colon, semiColon, equals, comma, slash, importKeyword, letKeyword, identifier, booleanLiteral, ipv4Literal, hexLiteral, decLiteral, same}
 use Rattle.language.specs.Tokens.{Content, eof, plain, name, string}
 use Rattle.language.specs.Tables.{bit, contentLow}
 use Rattle.language.specs.Sentences.{Expr, literal, sock4, local, path, member, call, slash′, Stmt, import′, let′, expr′, firstOf}
-use Rattle.language.specs.Values.{Value, isInteger, isBool, isSized, isIp4, isSock4, isString, isText, isFunction, Ty, tyInt, tyIp4, typeOf, Entry, entryAt, lookup}
+use Rattle.language.specs.Values.{Value, isInteger, isBool, isSized, isIp4, isSock4, isString, isText, isFunction, Ty, tyInt, tyIp4, typeOf, entryAt, lookup}
 
 -- "at most 512 bound names; 64 imported names"
 abbrev pub mostNames : ℕ

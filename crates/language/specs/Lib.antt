@@ -15,6 +15,7 @@ pub mod Values
 pub mod Judgements
 pub mod Findings
 pub mod Numbers
+pub mod Determined
 pub mod Checks
 pub mod Names
 pub mod Exactly

@@ -1,7 +1,6 @@
 -- What each entry answers and leaves (01, "Numbers handed back"): one test after the other, in the order of its table.
 use Prim.Native.Nat.{ℕ, suc, _/_}
 use mathlib.Core.Path.{_≡_}
-use mathlib.Core.Bool.{Bool, true, false}
 use mathlib.Core.List.{List, [], _∷_}
 use mathlib.Core.Option.{Option, none, some}
 use lib.Dec.{ltb, eqb}
@@ -10,7 +9,7 @@ use Rattle.table.specs.Table.{padTo, tabled}
 use Rattle.language.specs.Choice.{if′}
 use Rattle.language.specs.Canonical.{text, Lexes, Fits}
 use Rattle.language.specs.Utf8.{firstBad}
-use Rattle.language.specs.Lexemes.{Placed, scan}
+use Rattle.language.specs.Lexemes.{scan}
 use Rattle.language.specs.Tables.{lexemeRow, lexemeWidth, tokenRow, tokenWidth, errorKind, errorChar}
 use Rattle.language.specs.Tokens.{Token, Wrong, items, firstWrong, tokens, contents, eofToken, Place, placeOf}
 use Rattle.language.specs.Sentences.{Out, ok, no, Stmt, Node, callKind, program, nodes, nodeRow, nodeWidth}

@@ -2,7 +2,7 @@
 use mathlib.Core.Path.{_≡_, refl, sym, _∙_}
 use mathlib.Core.Bool.{false}
 use mathlib.Core.List.{List, [], _∷_, _++_, append-assoc}
-use mathlib.Core.Option.{Option, none, some}
+use mathlib.Core.Option.{none, some}
 use Prim.Native.Nat.{ℕ, suc, _+_, _≤_, _<_, _/_}
 use native.Mathlib.Omega.{arith}
 use borrow.Author.Tests.{lt-ltb, le-ltb}
@@ -12,7 +12,7 @@ use Rattle.table.specs.Table.{padTo, tabled}
 use Rattle.table.proofs.Laws.{pad-own, tabled-none, tabled-own}
 use Rattle.language.specs.Utf8.{firstBad}
 use Rattle.language.specs.Tables.{tokenRow, tokenWidth}
-use Rattle.language.specs.Tokens.{lines, Piece, gap, body, token, wrong, Item, items, stepped, tokensFrom, eofToken, tokens, Wrong, firstWrong, Place, placeOf, flushed}
+use Rattle.language.specs.Tokens.{lines, Piece, gap, body, token, wrong, Item, items, stepped, tokensFrom, eofToken, tokens, Wrong, firstWrong, Place, placeOf}
 use Rattle.language.specs.Numbers as numbers
 use Rattle.language.specs.Numbers.{verdict, lexed, lexedWithin, lexical, placed, lexAnswer, lexTable}
 use Rattle.utf8.specs.Decoding.{badOf}
@@ -27,7 +27,7 @@ use Rattle.lex.specs.declared.Spot.{Spot}
 use Rattle.lex.specs.declared.Lexed.{Lexed}
 use Rattle.lex.specs.Entry.{LexSource}
 use Rattle.lex.proofs.Lines.{few-lines}
-use Rattle.lex.specs.Lexing.{State, begun, stated, flushedState, stepTo, feed, Holds, Few, FedIs, FeedsAll, Finishes, spotAs, lexedAs}
+use Rattle.lex.specs.Lexing.{State, begun, stated, flushedState, stepTo, feed, Holds, Few, FedIs, FeedsAll, Finishes, spotAs}
 
 -- ---- the answer
 

@@ -11,7 +11,6 @@ use types.Run.{OneOf}
 use denote.Enum.Declared.{tagOf}
 use lib.ListN.{length, getD, drop, length-drop}
 use lib.Seq.{drop-cons, take-take, length-take-le}
-use Rattle.language.specs.Lexemes as language
 use Rattle.language.specs.Lexemes.{Kind, trivia, str, tok, error, scanFrom, lexeme}
 use Rattle.language.specs.Tokens.{unquoted, between, bodyOf, bodiesOf, bodiesIn}
 use Rattle.language.proofs.Tests.{never}

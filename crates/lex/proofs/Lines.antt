@@ -1,9 +1,9 @@
 -- A source cut into lines, and the loop that feeds them to the lexer.
-use Prim.Native.Nat.{ℕ, zero, suc, _+_, _-_, _≤_, _<_}
+use Prim.Native.Nat.{ℕ, suc, _+_, _-_, _≤_, _<_}
 use mathlib.Core.Path.{_≡_, refl, sym, ap, _∙_}
 use mathlib.Core.Bool.{Bool, true, false}
 use mathlib.Core.List.{List, [], _∷_, _++_, append-assoc, append-nil}
-use mathlib.Core.Option.{Option, none, some}
+use mathlib.Core.Option.{none, some}
 use native.Mathlib.Numerals.{add-one}
 use native.Mathlib.Omega.{arith}
 use lib.Dec.{eqb}
@@ -11,7 +11,7 @@ use lib.ListN.{length, getD, take, drop, length-drop, drop-of-length-le}
 use lib.Seq.{drop-cons, drop-drop}
 use Rattle.language.specs.Lexemes.{run, notNewline}
 use Rattle.language.specs.Tables.{tokenRow, tokenWidth}
-use Rattle.language.specs.Tokens.{Line, lineAt, onto, linesFrom, lines, Piece, gap, body, token, wrong, Item, itemsFrom, items, orElse, Wrong, firstWrong, between}
+use Rattle.language.specs.Tokens.{Line, lineAt, onto, linesFrom, lines, Item, itemsFrom, items, firstWrong, between}
 use Rattle.language.proofs.LexemeSizes.{by-cases}
 use Rattle.table.specs.Table.{padTo}
 use Rattle.table.proofs.Laws.{tabled-none}

@@ -1,10 +1,10 @@
 -- How the lexer's state and its table stand for the tokens so far, and what a line does to them.
-use Prim.Native.Nat.{ℕ, zero, suc, _+_, _-_, _≤_}
+use Prim.Native.Nat.{ℕ, zero, suc, _+_, _≤_}
 use mathlib.Core.Path.{_≡_}
 use mathlib.Core.List.{List, [], _∷_, _++_, map}
 use mathlib.Core.Option.{Option, none, some}
 use lib.Dec.{leb}
-use lib.ListN.{length, take, drop}
+use lib.ListN.{length, drop}
 use Rattle.language.specs.Choice.{if′}
 use Rattle.table.specs.Table.{padTo, tabled}
 use Rattle.language.specs.Lexemes as language

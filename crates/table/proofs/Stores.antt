@@ -1,11 +1,11 @@
 -- What the loops of stores leave.
-use mathlib.Core.Path.{_≡_, refl, sym, ap, _∙_}
+use mathlib.Core.Path.{_≡_, refl, sym, _∙_}
 use mathlib.Core.List.{List, [], _∷_, _++_, append-nil}
-use Prim.Native.Nat.{ℕ, zero, suc, _+_, _*_, _≤_, _<_}
+use Prim.Native.Nat.{ℕ, suc, _+_, _*_, _≤_, _<_}
 use native.Mathlib.Nat.{le-trans, mul-le-mul-left, mul-le-mul-right}
 use native.Mathlib.Numerals.{add-one}
 use native.Mathlib.Omega.{arith}
-use lib.ListN.{length, set, getD, take, drop, replicate, length-append}
+use lib.ListN.{length, set, getD, take, drop, replicate}
 use lib.Seq.{sets, take-suc, take-length, length-take-le, drop-length}
 use Rattle.table.specs.Table.{padTo, putRow}
 use Rattle.table.proofs.Laws.{pad-none, put-fits}

@@ -1,7 +1,8 @@
--- From what the entries below promise to what the C entries do, and the proofs of the claims of specs/Entry.antt.
-use mathlib.Core.Path.{_≡_, sym, _∙_}
+-- From what the entries below promise to what the C entries do, and the proof of the claim of specs/Entry.antt.
+use mathlib.Core.Path.{_≡_}
 use mathlib.Core.List.{List}
 use Prim.Native.Nat.{ℕ}
+use Rattle.language.proofs.Determined.{determined}
 use Rattle.scan.specs.declared.Scanned as scan
 use Rattle.scan.specs.Entry as scan-entry
 use Rattle.lex.specs.declared.Lexed as lex
@@ -13,7 +14,7 @@ use Rattle.canon.specs.Entry as canon-entry
 use Rattle.checker.specs.declared.CheckAnswer as checker
 use Rattle.checker.specs.Entry as check-entry
 use Rattle.terkinoha.specs.declared.Verdict.{Verdict}
-use Rattle.terkinoha.specs.Entry.{verdictOf, ScanLine, LexSource, ParseSource, CanonSource, CheckSource, ScanDetermined, LexDetermined, ParseDetermined, CanonDetermined, CheckDetermined}
+use Rattle.terkinoha.specs.Entry.{verdictOf, ScanLine, LexSource, ParseSource, CanonSource, CheckSource, FaceDetermined}
 
 -- ---- the answer as C sees it; the tables are the same
 
@@ -39,24 +40,14 @@ module _ {v : Verdict} {s t : List ℕ} where
           (record { verdict = v; tokens = a .tokens; nodes = a .nodes; errors = a .errors; warnings = a .warnings; statements = a .statements }) t u f g
   checks h e = record { answer = rw (e, h .answer); tokens = h .tokens; nodes = h .nodes; diags = h .diags; stmts = h .stmts }
 
--- ---- the claims
+-- ---- the claim
 
-pub scan-determined : ScanDetermined
-scan-determined line n r q t u a b = (a .answer ∙ sym (b .answer), a .table ∙ sym (b .table))
-
-pub lex-determined : LexDetermined
-lex-determined source n r q t u a b = (a .answer ∙ sym (b .answer), a .table ∙ sym (b .table))
-
-pub parse-determined : ParseDetermined
-parse-determined source t n r q a b x y h k = (h .answer ∙ sym (k .answer), h .tokens ∙ sym (k .tokens), h .nodes ∙ sym (k .nodes))
-
-pub canon-determined : CanonDetermined
-canon-determined source t n r q a b x y h k = (h .answer ∙ sym (k .answer), h .table ∙ sym (k .table), h .text ∙ sym (k .text))
-
-pub check-determined : CheckDetermined
-check-determined source t n d k r q a b x y v w g h l m =
-    ( l .answer ∙ sym (m .answer),
-      l .tokens ∙ sym (m .tokens),
-      l .nodes ∙ sym (m .nodes),
-      l .diags ∙ sym (m .diags),
-      l .stmts ∙ sym (m .stmts) )
+pub face-determined : FaceDetermined
+face-determined =
+    record {
+      scan = λ _ _. determined (λ _ h i. (h .answer i, h .table i));
+      lex = λ _ _. determined (λ _ h i. (h .answer i, h .table i));
+      parse = λ _ _ _. determined (λ _ h i. (h .answer i, h .tokens i, h .nodes i));
+      canon = λ _ _ _. determined (λ _ h i. (h .answer i, h .table i, h .text i));
+      check = λ _ _ _ _ _. determined (λ _ h i. (h .answer i, h .tokens i, h .nodes i, h .diags i, h .stmts i));
+    }

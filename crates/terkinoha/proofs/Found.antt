@@ -6,16 +6,10 @@ use mathlib.Core.List.{List, [], _∷_, _++_}
 use native.Mathlib.Omega.{arith}
 use lib.ListN.{length, length-append}
 use Rattle.language.specs.Tokens.{Content}
-use Rattle.language.specs.Sentences.{Stmt, import′, let′, expr′, stmtNodes, nodesFrom, nodes}
+use Rattle.language.specs.Sentences.{Stmt, stmtNodes, nodesFrom, nodes, stmtSize}
 use Rattle.language.specs.Judgements.{Diag, Held, Known, known, Turn, goes, full, Outcome, judged, refused, stmt, onward, run, judgeAll}
-use Rattle.checker.specs.Checking.{stmtSize}
 use Rattle.checker.proofs.Runs.{few-findings}
-use Rattle.checker.proofs.Parsed.{stmt-long}
-
-some-node : (s : Stmt) → 1 ≤ stmtSize s
-some-node (import′ t) = omega arith
-some-node (let′ t e) = omega arith
-some-node (expr′ e) = omega arith
+use Rattle.language.proofs.NodeClaims.{stmt-long, some-stmt-node}
 
 -- as many findings as a and as many statements as b, at the most
 abbrev Within : ℕ → ℕ → Outcome → Type 0
@@ -35,7 +29,7 @@ module _ (ts : List Content) where
   onward-within s n k c m l (goes k′ es gs) e ds hs f g =
       let h = few-findings ts n k s e in
       wider (length (ds ++ es) + m) (length (hs ++ gs) + m) (length ds + (c + m)) (length hs + (c + m)) (f k′ (ds ++ es) (hs ++ gs))
-      (omega (arith, length-append ds es, h .0)) (omega (arith, length-append hs gs, h .1, some-node s)) (g k′ (ds ++ es) (hs ++ gs))
+      (omega (arith, length-append ds es, h .0)) (omega (arith, length-append hs gs, h .1, some-stmt-node s)) (g k′ (ds ++ es) (hs ++ gs))
 
   run-within : (i : ℕ) (ss : List Stmt) (n : ℕ) (k : Known) (ds : List Diag) (hs : List Held)
       → Within (length ds + length (nodesFrom i ss)) (length hs + length (nodesFrom i ss)) (run ts ss n k ds hs)

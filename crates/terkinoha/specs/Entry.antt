@@ -5,6 +5,7 @@ use Prim.Native.Nat.{ℕ, _/_}
 use Rattle.language.specs.Tables.{lexemeWidth, tokenWidth}
 use Rattle.language.specs.Sentences.{nodeWidth}
 use Rattle.language.specs.Findings.{stmtWidth}
+use Rattle.language.specs.Determined.{CallsDetermined}
 use Rattle.language.specs.Numbers as numbers
 use Rattle.language.specs.Numbers.{scanAnswer, scanTable, lexAnswer, lexTable, parseAnswer, parseTokens, parseNodes, canonAnswer, canonTokens, canonText, checkAnswer, checkTokens, checkNodes, checkDiags, checkStmts}
 use Rattle.scan.specs.declared.Verdict as scan
@@ -82,25 +83,5 @@ pub record CheckSource (source : List ℕ) (t n d k : ℕ) (r : Checked) (toks t
 
 -- ---- two results that satisfy a call's promise are equal
 
-abbrev pub ScanDetermined : Type 0
-ScanDetermined =
-    (line : List ℕ) (n : ℕ) (r q : Scanned) (t u : List ℕ) → ScanLine line n r t → ScanLine line n q u → (r ≡ q) × (t ≡ u)
-
-abbrev pub LexDetermined : Type 0
-LexDetermined =
-    (source : List ℕ) (n : ℕ) (r q : Lexed) (t u : List ℕ) → LexSource source n r t → LexSource source n q u → (r ≡ q) × (t ≡ u)
-
-abbrev pub ParseDetermined : Type 0
-ParseDetermined =
-    (source : List ℕ) (t n : ℕ) (r q : Parsed) (a b x y : List ℕ) → ParseSource source t n r a x → ParseSource source t n q b y
-    → (r ≡ q) × (a ≡ b) × (x ≡ y)
-
-abbrev pub CanonDetermined : Type 0
-CanonDetermined =
-    (source : List ℕ) (t n : ℕ) (r q : Canonised) (a b x y : List ℕ) → CanonSource source t n r a x → CanonSource source t n q b y
-    → (r ≡ q) × (a ≡ b) × (x ≡ y)
-
-abbrev pub CheckDetermined : Type 0
-CheckDetermined =
-    (source : List ℕ) (t n d k : ℕ) (r q : Checked) (a b x y v w g h : List ℕ) → CheckSource source t n d k r a x v g
-    → CheckSource source t n d k q b y w h → (r ≡ q) × (a ≡ b) × (x ≡ y) × (v ≡ w) × (g ≡ h)
+abbrev pub FaceDetermined : Type 0
+FaceDetermined = CallsDetermined ScanLine LexSource ParseSource CanonSource CheckSource

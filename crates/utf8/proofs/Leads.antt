@@ -13,6 +13,13 @@ use Rattle.utf8.specs.Decoding.{leading, Small}
 
 -- ---- the rows: `w` is the octet, widened
 
+-- a row that ends before c, where the octet does not; and one that begins at c or later, where the octet is before
+after : (b c : ℕ) → c ≤ b → (low high : ℕ) → ltb high c ≡ true → within low high b ≡ false
+after b c l low high e = let k = ltb→lt high c (rw e tt) in outside-test low high b (omega arith)
+
+before : (b c : ℕ) → b < c → (low high : ℕ) → leb c low ≡ true → within low high b ≡ false
+before b c l low high e = let k = leb→le c low (rw e tt) in outside-test low high b (omega arith)
+
 module _ (b w : ℕ) (same : w ≡ b) where
   pub row-ascii : b < 0x80 → Starts 0 0x80 0xBF w ≡ leading (leadOf b)
   unfolding leadOf
@@ -20,7 +27,7 @@ module _ (b w : ℕ) (same : w ≡ b) where
 
   pub row-C2 : 0xC2 ≤ b → b < 0xE0 → Starts 1 0x80 0xBF (w - 0xC0) ≡ leading (leadOf b)
   unfolding leadOf
-  row-C2 h k = rw (same, outside-test 0 0x7F b (omega arith), inside-test 0xC2 0xDF b h (omega arith))
+  row-C2 h k = simp (same, after b 0xC2 h, inside-test 0xC2 0xDF b h (omega arith))
 
   pub row-E0 : b ≡ 0xE0 → Starts 2 0xA0 0xBF (w - 0xE0) ≡ leading (leadOf b)
   unfolding leadOf
@@ -28,7 +35,7 @@ module _ (b w : ℕ) (same : w ≡ b) where
 
   pub row-E1 : 0xE0 < b → b < 0xED → Starts 2 0x80 0xBF (w - 0xE0) ≡ leading (leadOf b)
   unfolding leadOf
-  row-E1 h k = rw (same, outside-test 0 0x7F b (omega arith), outside-test 0xC2 0xDF b (omega arith), outside-test 0xE0 0xE0 b (omega arith), inside-test 0xE1 0xEC b h (omega arith))
+  row-E1 h k = simp (same, after b 0xE1 h, inside-test 0xE1 0xEC b h (omega arith))
 
   pub row-ED : b ≡ 0xED → Starts 2 0x80 0x9F (w - 0xE0) ≡ leading (leadOf b)
   unfolding leadOf
@@ -36,16 +43,7 @@ module _ (b w : ℕ) (same : w ≡ b) where
 
   pub row-EE : 0xED < b → b < 0xF0 → Starts 2 0x80 0xBF (w - 0xE0) ≡ leading (leadOf b)
   unfolding leadOf
-  row-EE h k =
-      rw (
-        same,
-        outside-test 0 0x7F b (omega arith),
-        outside-test 0xC2 0xDF b (omega arith),
-        outside-test 0xE0 0xE0 b (omega arith),
-        outside-test 0xE1 0xEC b (omega arith),
-        outside-test 0xED 0xED b (omega arith),
-        inside-test 0xEE 0xEF b h (omega arith),
-      )
+  row-EE h k = simp (same, after b 0xEE h, inside-test 0xEE 0xEF b h (omega arith))
 
   pub row-F0 : b ≡ 0xF0 → Starts 3 0x90 0xBF (w - 0xF0) ≡ leading (leadOf b)
   unfolding leadOf
@@ -53,44 +51,20 @@ module _ (b w : ℕ) (same : w ≡ b) where
 
   pub row-F1 : 0xF0 < b → b < 0xF4 → Starts 3 0x80 0xBF (w - 0xF0) ≡ leading (leadOf b)
   unfolding leadOf
-  row-F1 h k =
-      rw (
-        same,
-        outside-test 0 0x7F b (omega arith),
-        outside-test 0xC2 0xDF b (omega arith),
-        outside-test 0xE0 0xE0 b (omega arith),
-        outside-test 0xE1 0xEC b (omega arith),
-        outside-test 0xED 0xED b (omega arith),
-        outside-test 0xEE 0xEF b (omega arith),
-        outside-test 0xF0 0xF0 b (omega arith),
-        inside-test 0xF1 0xF3 b h (omega arith),
-      )
+  row-F1 h k = simp (same, after b 0xF1 h, inside-test 0xF1 0xF3 b h (omega arith))
 
   pub row-F4 : b ≡ 0xF4 → Starts 3 0x80 0x8F (w - 0xF0) ≡ leading (leadOf b)
   unfolding leadOf
   row-F4 e = rw (same, e)
 
 -- the octets that no row has
-no-row : (b : ℕ) → 0x80 ≤ b → 0 < (0xC2 - b) + (b - 0xF4) → Not ≡ leading (leadOf b)
-unfolding leadOf
-no-row b h k =
-    rw (
-      outside-test 0 0x7F b (omega arith),
-      outside-test 0xC2 0xDF b (omega arith),
-      outside-test 0xE0 0xE0 b (omega arith),
-      outside-test 0xE1 0xEC b (omega arith),
-      outside-test 0xED 0xED b (omega arith),
-      outside-test 0xEE 0xEF b (omega arith),
-      outside-test 0xF0 0xF0 b (omega arith),
-      outside-test 0xF1 0xF3 b (omega arith),
-      outside-test 0xF4 0xF4 b (omega arith),
-    )
-
 pub not-80 : (b : ℕ) → 0x80 ≤ b → b < 0xC2 → Not ≡ leading (leadOf b)
-not-80 b h k = no-row b h (omega arith)
+unfolding leadOf
+not-80 b h k = simp (after b 0x80 h, before b 0xC2 k)
 
 pub not-F5 : (b : ℕ) → 0xF4 < b → Not ≡ leading (leadOf b)
-not-F5 b h = no-row b (omega arith) (omega arith)
+unfolding leadOf
+not-F5 b h = simp (after b 0xF5 h)
 
 -- ---- what a row says is small, the ASCII one aside
 
