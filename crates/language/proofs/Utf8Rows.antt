@@ -244,6 +244,11 @@ any-tail : (t n : ℕ) → Second t 0x80 0xBF n
 any-tail zero n = tt
 any-tail (suc t) n = omega arith
 
+-- the byte that adds the last six bits to a number. Over plain numbers `omega` takes a tenth of the time that it takes below.
+six-bits : (low high b bits m : ℕ) → 0x80 ≤ low → high ≤ 0xBF → low ≤ b → b ≤ high → m ≡ bits * 0x40 + (b - 0x80)
+    → (b ≡ 0x80 + m % 0x40) × (m / 0x40 ≡ bits) × ((low ≤ 0x80 + m % 0x40) × (0x80 + m % 0x40 ≤ high))
+six-bits low high b bits m l h i j e = omega arith
+
 -- bytes that are read as a number are the number's own
 followed : (size t low high bits : ℕ) (s : List ℕ) (n k : ℕ) → 0x80 ≤ low → high ≤ 0xBF → follow size t low high bits s ≡ char n k
     → (k ≡ size) × (top t n ≡ bits) × Second t low high n × ((r : List ℕ) × (s ≡ tailsOf t n ++ r))
@@ -254,8 +259,8 @@ followed size (suc t) low high bits (b ∷ s) n k l h e =
     let p = passed (within low high b) (follow size t 0x80 0xBF (bits * 0x40 + (b - 0x80)) s) e in
     let i = inside low high b (p .0) in
     let d = followed size t 0x80 0xBF (bits * 0x40 + (b - 0x80)) s n k (omega arith) (omega arith) (p .1) in
-    let c : b ≡ 0x80 + top t n % 0x40 = omega arith in
-    (d .0, omega arith, (omega arith, omega arith), (d .3 .0, cc (d .3 .1)))
+    let c = six-bits low high b bits (top t n) l h (i .0) (i .1) (d .1) in
+    (d .0, c .1, c .2, (d .3 .0, cc (c .0, d .3 .1)))
 
 -- the number's own bytes are read as the number
 follows : (size t low high bits : ℕ) (s : List ℕ) (n : ℕ) → top t n ≡ bits → Second t low high n
