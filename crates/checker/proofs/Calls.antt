@@ -58,8 +58,8 @@ none-yet words =
     record {
       inside = omega arith;
       is = λ ns e.
-        let l : length words / 5 ≡ length ns = omega (arith, ap length e, rows-long ns) in
-        rw (l, drop-length ns);
+          let l : length words / 5 ≡ length ns = omega (arith, ap length e, rows-long ns) in
+          rw (l, drop-length ns);
     }
 
 module _ {words : List ℕ} {i : ℕ} {found : Call} (o : Earliest words i found) (h : 0 < i) where
@@ -82,8 +82,8 @@ module _ {words : List ℕ} {i : ℕ} {found : Call} (o : Earliest words i found
       record {
         inside = omega (arith, o .inside);
         is = λ ns e.
-          let a = w ∙ word-is ns e 0 (omega arith) in
-          o .is ns e ∙ rw (one-more ns e, ne-eqb (getD ns (i - 1) nowhere .kind) 8 (λ q. n (a ∙ q)));
+            let a = w ∙ word-is ns e 0 (omega arith) in
+            o .is ns e ∙ rw (one-more ns e, ne-eqb (getD ns (i - 1) nowhere .kind) 8 (λ q. n (a ∙ q)));
       }
 
   pub a-call : {k t : ℕ} {r : Call} → k ≡ word words (i - 1) 0 → k ≡ 8 → t ≡ word words (i - 1) 4
@@ -93,9 +93,9 @@ module _ {words : List ℕ} {i : ℕ} {found : Call} (o : Earliest words i found
       record {
         inside = omega (arith, o .inside);
         is = λ ns e.
-          let a = sym (word-is ns e 0 (omega arith)) ∙ sym w ∙ n in
-          let b = u ∙ word-is ns e 4 (omega arith) in
-          s (firstCall (drop i ns)) (o .is ns e) ∙ rw (b, one-more ns e, eq-eqb (getD ns (i - 1) nowhere .kind) 8 a);
+            let a = sym (word-is ns e 0 (omega arith)) ∙ sym w ∙ n in
+            let b = u ∙ word-is ns e 4 (omega arith) in
+            s (firstCall (drop i ns)) (o .is ns e) ∙ rw (b, one-more ns e, eq-eqb (getD ns (i - 1) nowhere .kind) 8 a);
       }
 
 -- all rows were read

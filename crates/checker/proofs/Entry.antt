@@ -94,8 +94,8 @@ module _ {s toks tree : List ℕ} {count rows : ℕ} (p : Parses s toks tree cou
     with-errors h z q =
         let f : eqb (errorsIn ds) 0 ≡ false = ne-eqb _ _ (λ e. h (errors-are ∙ e)) in
         let a : checkAnswer s (length toks / 7) (length tree / 5) (length held / 7)
-            ≡ record { verdict = verdict 0 0 0; tokens = count; nodes = rows; errors = errorsIn ds; warnings = warningsIn ds; statements = 0 } =
-            judged-as (length held / 7) quiet ∙ rw (o, f) in
+        ≡ record { verdict = verdict 0 0 0; tokens = count; nodes = rows; errors = errorsIn ds; warnings = warningsIn ds; statements = 0 } =
+        judged-as (length held / 7) quiet ∙ rw (o, f) in
         record {
           answer = q ∙ rw (a, errors-are, warnings-are);
           tokens = p .table ∙ rw a;
@@ -123,8 +123,8 @@ module _ {s toks tree : List ℕ} {count rows : ℕ} (p : Parses s toks tree cou
       unfolding checkTokens checkNodes checkDiags checkStmts
       accepted l q =
           let a : checkAnswer s (length toks / 7) (length tree / 5) (length held / 7)
-              ≡ record { verdict = verdict 0 0 0; tokens = count; nodes = rows; errors = 0; warnings = warningsIn ds; statements = length hs } =
-              judged-as (length held / 7) quiet ∙ rw (o, no-errors, le-ltb (length held / 7) (length hs) (omega (arith, held-are))) in
+          ≡ record { verdict = verdict 0 0 0; tokens = count; nodes = rows; errors = 0; warnings = warningsIn ds; statements = length hs } =
+          judged-as (length held / 7) quiet ∙ rw (o, no-errors, le-ltb (length held / 7) (length hs) (omega (arith, held-are))) in
           record {
             answer = q ∙ rw (a, h, warnings-are, held-are);
             tokens = p .table ∙ rw a;
@@ -172,8 +172,8 @@ module _ {s toks tree : List ℕ} {count rows : ℕ} (p : Parses s toks tree cou
     concluded {c} {q} {a} {b} {e} {f} zero i h =
         let w = went i came in
         let g : Grows s noCounts (padTo (length y) []) (padTo (length v) []) c y v (w .0) (w .1) =
-            subst (λ (m : List ℕ). Grows s noCounts (padTo (length y) []) m c y v (w .0) (w .1)) (zero .1 ∙ ap (λ (m : ℕ). padTo m []) (sym same-held))
-            (subst (λ (m : List ℕ). Grows s noCounts m u c y v (w .0) (w .1)) (zero .0 ∙ ap (λ (m : ℕ). padTo m []) (sym same-found)) (w .3)) in
+        subst (λ (m : List ℕ). Grows s noCounts (padTo (length y) []) m c y v (w .0) (w .1)) (zero .1 ∙ ap (λ (m : ℕ). padTo m []) (sym same-held))
+        (subst (λ (m : List ℕ). Grows s noCounts m u c y v (w .0) (w .1)) (zero .0 ∙ ap (λ (m : ℕ). padTo m []) (sym same-found)) (w .3)) in
         subst (λ (m : ℕ). CheckSource s (length toks) (length tree) (length x) m q a b e f) same-held
         (subst (λ (m : ℕ). CheckSource s (length toks) (length tree) m (length v) q a b e f) same-found (h s (w .0) (w .1) p quiet (w .2) g))
 

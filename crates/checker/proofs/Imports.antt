@@ -182,14 +182,18 @@ module _ (s toks : List ℕ) (n t : ℕ) (k : Known) (b is : List (List ℕ)) (u
 
       pub turn-found : {c′ : Counts} → (kind ≡ 0 → ⊥) → c′ ≡ plusImport c → Turns s toks c x u (Went c′) b is′ x u (stmt ts n k (import′ t))
       turn-found {c′} z q =
-          record { turn = subst (λ (d : judgements.Turn). TurnOf s toks c x u (Went c′) b is′ x u d) (sym stepped)
-            (subst (λ (d : Counts). TurnOf s toks c x u (Went d) b is′ x u (imported ts n k t (lookup 0 (nameAt ts t)))) (sym q) (found-by (lookup 0 (nameAt ts t)) refl z)) }
+          record {
+            turn = subst (λ (d : judgements.Turn). TurnOf s toks c x u (Went c′) b is′ x u d) (sym stepped)
+                (subst (λ (d : Counts). TurnOf s toks c x u (Went d) b is′ x u (imported ts n k t (lookup 0 (nameAt ts t)))) (sym q) (found-by (lookup 0 (nameAt ts t)) refl z));
+          }
 
       pub turn-failed : {c′ : Counts} {f : Fault} {y : List ℕ} → kind ≡ 0 → f ≡ faultAs s t unknownModule → c′ ≡ plusError (plusImport c)
           → y ≡ putRow x (c .errors + c .warnings) (faultRow f) → Turns s toks c x u (Went c′) b is′ y u (stmt ts n k (import′ t))
       turn-failed {c′} {f} {y} z g q r =
-          record { turn = subst (λ (d : judgements.Turn). TurnOf s toks c x u (Went c′) b is′ y u d) (sym stepped)
-            (subst (λ (d : Counts). TurnOf s toks c x u (Went d) b is′ y u (imported ts n k t (lookup 0 (nameAt ts t)))) (sym q) (failed-by (lookup 0 (nameAt ts t)) refl z g r)) }
+          record {
+            turn = subst (λ (d : judgements.Turn). TurnOf s toks c x u (Went c′) b is′ y u d) (sym stepped)
+                (subst (λ (d : Counts). TurnOf s toks c x u (Went d) b is′ y u (imported ts n k t (lookup 0 (nameAt ts t)))) (sym q) (failed-by (lookup 0 (nameAt ts t)) refl z g r));
+          }
 
 -- ---- findings that show a name
 

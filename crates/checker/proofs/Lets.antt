@@ -127,32 +127,38 @@ module _ {b b′ : List (List ℕ)} {x′ : List ℕ} {start end key t : ℕ} {j
   pub binds-val : {v : Value} → j .out ≡ Val v → b′ ≡ set b (j .counts .used) (entryRow start end key t v) → c′ ≡ plusName (j .counts)
       → Binds b x′ start end key t j c′ b′ x′
   binds-val {v} q p g =
-      record { is = λ s toks i x u n k c e kn rd nm made h.
-        let us : j .counts .used ≡ c .used = ap (λ (z : Counts). z .used) (h .counted) in
-        let jd = judge (contents (tokens.tokens s)) n k e in
-        subst (λ (z : Counts). TurnOf s toks c x u (Went z) b′ i x′ u (bound (contents (tokens.tokens s)) n k t (jd .out) (jd .warns))) (sym g)
-        (bound-val s toks b i n t k c kn rd start end key nm made (omega (arith, l, us)) long v b′ (p ∙ ap (λ (z : ℕ). set b z (entryRow start end key t v)) us)
-          x x′ u (j .counts) (jd .warns) (h .counted) (h .table) (clean (contents (tokens.tokens s)) n k e .quiet) (jd .out) (sym q ∙ h .out)) }
+      record {
+        is = λ s toks i x u n k c e kn rd nm made h.
+            let us : j .counts .used ≡ c .used = ap (λ (z : Counts). z .used) (h .counted) in
+            let jd = judge (contents (tokens.tokens s)) n k e in
+            subst (λ (z : Counts). TurnOf s toks c x u (Went z) b′ i x′ u (bound (contents (tokens.tokens s)) n k t (jd .out) (jd .warns))) (sym g)
+            (bound-val s toks b i n t k c kn rd start end key nm made (omega (arith, l, us)) long v b′ (p ∙ ap (λ (z : ℕ). set b z (entryRow start end key t v)) us)
+            x x′ u (j .counts) (jd .warns) (h .counted) (h .table) (clean (contents (tokens.tokens s)) n k e .quiet) (jd .out) (sym q ∙ h .out));
+      }
 
   pub binds-none : j .out ≡ Poisoned → b′ ≡ set b (j .counts .used) (entryRow start end key t (record { kind = 0; lo = 0; hi = 0 })) → c′ ≡ plusName (j .counts)
       → Binds b x′ start end key t j c′ b′ x′
   binds-none q p g =
-      record { is = λ s toks i x u n k c e kn rd nm made h.
-        let us : j .counts .used ≡ c .used = ap (λ (z : Counts). z .used) (h .counted) in
-        let jd = judge (contents (tokens.tokens s)) n k e in
-        let v : Value = record { kind = 0; lo = 0; hi = 0 } in
-        subst (λ (z : Counts). TurnOf s toks c x u (Went z) b′ i x′ u (bound (contents (tokens.tokens s)) n k t (jd .out) (jd .warns))) (sym g)
-        (bound-none s toks b i n t k c kn rd start end key nm made (omega (arith, l, us)) long v b′ (p ∙ ap (λ (z : ℕ). set b z (entryRow start end key t v)) us)
-          x x′ u (j .counts) (jd .warns) (h .counted) (h .table) (clean (contents (tokens.tokens s)) n k e .quiet) refl (jd .out) (sym q ∙ h .out)) }
+      record {
+        is = λ s toks i x u n k c e kn rd nm made h.
+            let us : j .counts .used ≡ c .used = ap (λ (z : Counts). z .used) (h .counted) in
+            let jd = judge (contents (tokens.tokens s)) n k e in
+            let v : Value = record { kind = 0; lo = 0; hi = 0 } in
+            subst (λ (z : Counts). TurnOf s toks c x u (Went z) b′ i x′ u (bound (contents (tokens.tokens s)) n k t (jd .out) (jd .warns))) (sym g)
+            (bound-none s toks b i n t k c kn rd start end key nm made (omega (arith, l, us)) long v b′ (p ∙ ap (λ (z : ℕ). set b z (entryRow start end key t v)) us)
+            x x′ u (j .counts) (jd .warns) (h .counted) (h .table) (clean (contents (tokens.tokens s)) n k e .quiet) refl (jd .out) (sym q ∙ h .out));
+      }
 
   pub binds-err : {f : Fault} {y : List ℕ} {c2 : Counts} → j .out ≡ Err f → b′ ≡ set b (j .counts .used) (entryRow start end key t (record { kind = 0; lo = 0; hi = 0 }))
       → c2 ≡ plusError (j .counts) → y ≡ putRow x′ (j .counts .errors + j .counts .warnings) (faultRow f) → c′ ≡ plusName c2 → Binds b x′ start end key t j c′ b′ y
   binds-err {f} {y} {c2} q p d r g =
-      record { is = λ s toks i x u n k c e kn rd nm made h.
-        let us : j .counts .used ≡ c .used = ap (λ (z : Counts). z .used) (h .counted) in
-        let jd = judge (contents (tokens.tokens s)) n k e in
-        let v : Value = record { kind = 0; lo = 0; hi = 0 } in
-        subst (λ (z : Counts). TurnOf s toks c x u (Went z) b′ i y u (bound (contents (tokens.tokens s)) n k t (jd .out) (jd .warns))) (sym (g ∙ ap plusName d))
-        (bound-err s toks b i n t k c kn rd start end key nm made (omega (arith, l, us)) long v b′ (p ∙ ap (λ (z : ℕ). set b z (entryRow start end key t v)) us)
-          x x′ u (j .counts) (jd .warns) (h .counted) (h .table) (clean (contents (tokens.tokens s)) n k e .quiet) refl (jd .out) (sym q ∙ h .out)
-          (clean (contents (tokens.tokens s)) n k e .fails) r) }
+      record {
+        is = λ s toks i x u n k c e kn rd nm made h.
+            let us : j .counts .used ≡ c .used = ap (λ (z : Counts). z .used) (h .counted) in
+            let jd = judge (contents (tokens.tokens s)) n k e in
+            let v : Value = record { kind = 0; lo = 0; hi = 0 } in
+            subst (λ (z : Counts). TurnOf s toks c x u (Went z) b′ i y u (bound (contents (tokens.tokens s)) n k t (jd .out) (jd .warns))) (sym (g ∙ ap plusName d))
+            (bound-err s toks b i n t k c kn rd start end key nm made (omega (arith, l, us)) long v b′ (p ∙ ap (λ (z : ℕ). set b z (entryRow start end key t v)) us)
+            x x′ u (j .counts) (jd .warns) (h .counted) (h .table) (clean (contents (tokens.tokens s)) n k e .quiet) refl (jd .out) (sym q ∙ h .out)
+            (clean (contents (tokens.tokens s)) n k e .fails) r);
+      }

@@ -269,18 +269,20 @@ module _ {s toks ws : List ℕ} {i : ℕ} {b m : List (List ℕ)} {x0 u0 x u : L
         diags = f ∙ l .diags;
         stmts = g ∙ l .stmts;
         runs = λ all a.
-          let w = l .runs all a in
-          runs-on s toks ws i b m x u c b′ m′ y v c′ x0 u0 all (w .number) (w .known) (w .found) (w .held) (w .rest) (w .knows) (w .grows) (w .comes)
-          (t (w .number) (w .known) (w .rest) (w .knows) (w .stands));
+            let w = l .runs all a in
+            runs-on s toks ws i b m x u c b′ m′ y v c′ x0 u0 all (w .number) (w .known) (w .found) (w .held) (w .rest) (w .knows) (w .grows) (w .comes)
+            (t (w .number) (w .known) (w .rest) (w .knows) (w .stands));
       }
 
   pub stopped : {at : ℕ} → r ≡ Full at → (all : List Stmt) → StmtsAt ws 0 all → Comes s x0 u0 (Full at) y v (judgeAll (contents (tokens.tokens s)) all)
   stopped {at} e all a =
       let w = l .runs all a in
       let t = subst (Turned s toks ws i b m x u c b′ m′ y v) e h in
-      record { come = subst (ComesTo s x0 u0 (Full at) y v) (sym (w .comes))
-        (refused-by s toks ws i b m x u c b′ m′ y v x0 u0 at (w .number) (w .known) (w .found) (w .held) (w .rest)
-          (t (w .number) (w .known) (w .rest) (w .knows) (w .stands))) }
+      record {
+        come = subst (ComesTo s x0 u0 (Full at) y v) (sym (w .comes))
+            (refused-by s toks ws i b m x u c b′ m′ y v x0 u0 at (w .number) (w .known) (w .found) (w .held) (w .rest)
+            (t (w .number) (w .known) (w .rest) (w .knows) (w .stands)));
+      }
 
 -- past the last row no statement is left
 none-left : {ws : List ℕ} {i : ℕ} {ss : List Stmt} → length ws / 5 ≤ i → StmtsAt ws i ss → ss ≡ []
@@ -297,5 +299,5 @@ finished {s} {x0 = x0} {u0} {x} {u} {c = c} l h all a =
     let w = l .runs all a in
     let ts = contents (tokens.tokens s) in
     let e : judgeAll ts all ≡ judgements.judged (w .found) (w .held) =
-        w .comes ∙ ap (λ (z : List Stmt). run ts z (w .number) (w .known) (w .found) (w .held)) (none-left h (w .stands)) in
+    w .comes ∙ ap (λ (z : List Stmt). run ts z (w .number) (w .known) (w .found) (w .held)) (none-left h (w .stands)) in
     record { come = subst (ComesTo s x0 u0 (Went c) x u) (sym e) (w .grows) }

@@ -253,38 +253,42 @@ module _ (s : List ℕ) (t : ℕ) {tok : Token} (e : tok ≡ tokenAs (tokenOf s 
         → Tells s t v c x u c′ y z
     unfolding errorsIn warningsIn
     tells-fits {w} {f} {c1} {c′} {y} {z} q g o a b d =
-        record { is = λ n k m i.
-          let p = as-fits (narrowed m) (sym q ∙ h .is m i) in
-          let dg : Diag = diag n t (discardedValue (typeOf (p .0))) in
-          let cc′ : c′ ≡ plusStatement (plusWarnings c 1) = d ∙ ap plusStatement a in
-          let row : faultRow f ≡ diagRow (tokenOf s) dg = ap faultRow (o .is (p .0) (p .2) ∙ discarded-fault (p .0)) ∙ fault-row s n t (discardedValue (typeOf (p .0))) in
-          let grows : Grows s c x u c′ y z (dg ∷ []) (held t (p .0) ∷ []) = record {
-            errors = ap (λ (l : Counts). l .errors) cc′ ∙ omega arith;
-            warnings = ap (λ (l : Counts). l .warnings) cc′ ∙ omega arith;
-            statements = ap (λ (l : Counts). l .statements) cc′ ∙ omega arith;
-            diags = b ∙ ap (putRow x (c .errors + c .warnings)) row ∙ one-row (diagRow (tokenOf s)) x (c .errors + c .warnings) dg;
-            stmts = g .is (p .0) (p .2) ∙ ap (putRow u (c .statements)) (held-row (p .0)) ∙ one-row (stmtRow (tokenOf s)) u (c .statements) (held t (p .0));
-          } in
-          let names : SameNames c c′ = record { used = ap (λ (l : Counts). l .used) cc′; imported = ap (λ (l : Counts). l .imported) cc′ } in
-          subst (λ (l : Option values.Value). GoesOf s c x u c′ y z k (discarded (contents (tokens.tokens s)) n k t l [])) (sym (p .1)) (refl, names, grows) }
+        record {
+          is = λ n k m i.
+              let p = as-fits (narrowed m) (sym q ∙ h .is m i) in
+              let dg : Diag = diag n t (discardedValue (typeOf (p .0))) in
+              let cc′ : c′ ≡ plusStatement (plusWarnings c 1) = d ∙ ap plusStatement a in
+              let row : faultRow f ≡ diagRow (tokenOf s) dg = ap faultRow (o .is (p .0) (p .2) ∙ discarded-fault (p .0)) ∙ fault-row s n t (discardedValue (typeOf (p .0))) in
+              let grows : Grows s c x u c′ y z (dg ∷ []) (held t (p .0) ∷ []) = record {
+                errors = ap (λ (l : Counts). l .errors) cc′ ∙ omega arith;
+                warnings = ap (λ (l : Counts). l .warnings) cc′ ∙ omega arith;
+                statements = ap (λ (l : Counts). l .statements) cc′ ∙ omega arith;
+                diags = b ∙ ap (putRow x (c .errors + c .warnings)) row ∙ one-row (diagRow (tokenOf s)) x (c .errors + c .warnings) dg;
+                stmts = g .is (p .0) (p .2) ∙ ap (putRow u (c .statements)) (held-row (p .0)) ∙ one-row (stmtRow (tokenOf s)) u (c .statements) (held t (p .0));
+              } in
+              let names : SameNames c c′ = record { used = ap (λ (l : Counts). l .used) cc′; imported = ap (λ (l : Counts). l .imported) cc′ } in
+              subst (λ (l : Option values.Value). GoesOf s c x u c′ y z k (discarded (contents (tokens.tokens s)) n k t l [])) (sym (p .1)) (refl, names, grows);
+        }
 
     pub tells-large : {c′ : Counts} {y : List ℕ} {f : Fault} → r ≡ narrow.TooLarge → f ≡ bareAs 22 tok → c′ ≡ plusError c
         → y ≡ putRow x (c .errors + c .warnings) (faultRow f) → Tells s t v c x u c′ y u
     unfolding errorsIn warningsIn
     tells-large {c′} {y} {f} q g a b =
-        record { is = λ n k m i.
-          let p = as-large (narrowed m) (sym q ∙ h .is m i) in
-          let dg : Diag = diag n t integralTooLarge in
-          let row : faultRow f ≡ diagRow (tokenOf s) dg = ap faultRow (g ∙ too-large) ∙ fault-row s n t integralTooLarge in
-          let grows : Grows s c x u c′ y u (dg ∷ []) [] = record {
-            errors = ap (λ (l : Counts). l .errors) a ∙ omega arith;
-            warnings = ap (λ (l : Counts). l .warnings) a ∙ omega arith;
-            statements = ap (λ (l : Counts). l .statements) a ∙ omega arith;
-            diags = b ∙ ap (putRow x (c .errors + c .warnings)) row ∙ one-row (diagRow (tokenOf s)) x (c .errors + c .warnings) dg;
-            stmts = no-rows (stmtRow (tokenOf s)) u (c .statements);
-          } in
-          let names : SameNames c c′ = record { used = ap (λ (l : Counts). l .used) a; imported = ap (λ (l : Counts). l .imported) a } in
-          subst (λ (l : Option values.Value). GoesOf s c x u c′ y u k (discarded (contents (tokens.tokens s)) n k t l [])) (sym p) (refl, names, grows) }
+        record {
+          is = λ n k m i.
+              let p = as-large (narrowed m) (sym q ∙ h .is m i) in
+              let dg : Diag = diag n t integralTooLarge in
+              let row : faultRow f ≡ diagRow (tokenOf s) dg = ap faultRow (g ∙ too-large) ∙ fault-row s n t integralTooLarge in
+              let grows : Grows s c x u c′ y u (dg ∷ []) [] = record {
+                errors = ap (λ (l : Counts). l .errors) a ∙ omega arith;
+                warnings = ap (λ (l : Counts). l .warnings) a ∙ omega arith;
+                statements = ap (λ (l : Counts). l .statements) a ∙ omega arith;
+                diags = b ∙ ap (putRow x (c .errors + c .warnings)) row ∙ one-row (diagRow (tokenOf s)) x (c .errors + c .warnings) dg;
+                stmts = no-rows (stmtRow (tokenOf s)) u (c .statements);
+              } in
+              let names : SameNames c c′ = record { used = ap (λ (l : Counts). l .used) a; imported = ap (λ (l : Counts). l .imported) a } in
+              subst (λ (l : Option values.Value). GoesOf s c x u c′ y u k (discarded (contents (tokens.tokens s)) n k t l [])) (sym p) (refl, names, grows);
+        }
 
 -- ---- the row of a statement
 
@@ -443,20 +447,26 @@ module _ (s : List ℕ) (n : ℕ) (k : Known) (e : Expr) {j : Judgement} {c : Co
   pub expr-val : {v : Value} {t : ℕ} {c′ : Counts} {z w : List ℕ} → j .out ≡ Val v → t ≡ firstOf e → Tells s t v (j .counts) y u c′ z w
       → Exprs s n k e c x u c′ z w
   expr-val {c′ = c′} {z = z} {w = w} q at g =
-      record { is = subst (λ (t : ℕ). GoesOf s c x u c′ z w k (told (contents (tokens.tokens s)) n k t (judge (contents (tokens.tokens s)) n k e .out) (judge (contents (tokens.tokens s)) n k e .warns))) at
-        (told-val s n k c (j .counts) x y u (judge (contents (tokens.tokens s)) n k e .warns) (h .counted) (h .table) (clean (contents (tokens.tokens s)) n k e .quiet)
-        (judge (contents (tokens.tokens s)) n k e .out) (sym q ∙ h .out) g) }
+      record {
+        is = subst (λ (t : ℕ). GoesOf s c x u c′ z w k (told (contents (tokens.tokens s)) n k t (judge (contents (tokens.tokens s)) n k e .out) (judge (contents (tokens.tokens s)) n k e .warns))) at
+            (told-val s n k c (j .counts) x y u (judge (contents (tokens.tokens s)) n k e .warns) (h .counted) (h .table) (clean (contents (tokens.tokens s)) n k e .quiet)
+            (judge (contents (tokens.tokens s)) n k e .out) (sym q ∙ h .out) g);
+      }
 
   pub expr-err : {f : Fault} {c′ : Counts} {z : List ℕ} → j .out ≡ Err f → c′ ≡ plusError (j .counts)
       → z ≡ putRow y (j .counts .errors + j .counts .warnings) (faultRow f) → Exprs s n k e c x u c′ z u
   expr-err q g p =
-      record { is = told-err s n k c (j .counts) x y u (judge (contents (tokens.tokens s)) n k e .warns) (h .counted) (h .table) (clean (contents (tokens.tokens s)) n k e .quiet)
-        (judge (contents (tokens.tokens s)) n k e .out) (firstOf e) (sym q ∙ h .out) (clean (contents (tokens.tokens s)) n k e .fails) g p }
+      record {
+        is = told-err s n k c (j .counts) x y u (judge (contents (tokens.tokens s)) n k e .warns) (h .counted) (h .table) (clean (contents (tokens.tokens s)) n k e .quiet)
+            (judge (contents (tokens.tokens s)) n k e .out) (firstOf e) (sym q ∙ h .out) (clean (contents (tokens.tokens s)) n k e .fails) g p;
+      }
 
   pub expr-none : j .out ≡ Poisoned → Exprs s n k e c x u (j .counts) y u
   expr-none q =
-      record { is = told-none s n k c (j .counts) x y u (judge (contents (tokens.tokens s)) n k e .warns) (h .counted) (h .table) (clean (contents (tokens.tokens s)) n k e .quiet)
-        (judge (contents (tokens.tokens s)) n k e .out) (firstOf e) (sym q ∙ h .out) }
+      record {
+        is = told-none s n k c (j .counts) x y u (judge (contents (tokens.tokens s)) n k e .warns) (h .counted) (h .table) (clean (contents (tokens.tokens s)) n k e .quiet)
+            (judge (contents (tokens.tokens s)) n k e .out) (firstOf e) (sym q ∙ h .out);
+      }
 
 -- ---- room
 
@@ -467,6 +477,6 @@ module _ {ws : List ℕ} {i : ℕ} {c : Counts} (f : StmtFits ws i c) where
   pub room-after : (s : List ℕ) (n : ℕ) (k : Known) {j : Judgement} {x y : List ℕ} → Agrees s j x y c (judge (contents (tokens.tokens s)) n k (f .tree)) → Room (j .counts)
   room-after s n k {j} a =
       let m : j .counts .errors + j .counts .warnings ≡ c .errors + c .warnings + length (judge (contents (tokens.tokens s)) n k (f .tree) .warns) =
-          ap (λ (g : Counts). g .errors + g .warnings) (a .counted) ∙ omega arith in
+      ap (λ (g : Counts). g .errors + g .warnings) (a .counted) ∙ omega arith in
       let h : j .counts .statements ≡ c .statements = ap (λ (g : Counts). g .statements) (a .counted) in
       record { findings = omega (arith, m, f .room, few (contents (tokens.tokens s)) n k (f .tree)); held = omega (arith, h, f .held) }

@@ -90,11 +90,13 @@ module _ (s : List ℕ) (ws : List (List ℕ)) (u start end key t : ℕ) (v : Va
 
   pub store-key : Keyed s ws u → key ≡ keyOf (between s start end) → Keyed s (set ws u (entryRow start end key t v)) (u + 1)
   store-key keyed e =
-      record { key = λ i h.
-        elim (decLe (suc i) u) [
-          | yes g ↦ let old = old-entry ws u (entryRow start end key t v) i g in rw old (keyed .key i g)
-          | no g ↦
-              let z : i ≡ u = omega arith in
-              let new = new-entry ws u (entryRow start end key t v) fits in
-              rw (z, new) e
-        ] }
+      record {
+        key = λ i h.
+            elim (decLe (suc i) u) [
+              | yes g ↦ let old = old-entry ws u (entryRow start end key t v) i g in rw old (keyed .key i g)
+              | no g ↦
+                  let z : i ≡ u = omega arith in
+                  let new = new-entry ws u (entryRow start end key t v) fits in
+                  rw (z, new) e
+            ];
+      }

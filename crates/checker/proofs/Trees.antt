@@ -24,16 +24,20 @@ pub record Part (ns : List Node) (k : ℕ) (xs : List Node) : Type 0 where
 module _ {ns : List Node} {k : ℕ} where
   part-left : (xs ys : List Node) → Part ns k (xs ++ ys) → Part ns k xs
   part-left xs ys p =
-      record { holds = λ j h.
-        let q = p .holds j (rw length-append (omega arith)) in
-        (q .0, q .1 ∙ List·getD-append xs ys nowhere j h) }
+      record {
+        holds = λ j h.
+            let q = p .holds j (rw length-append (omega arith)) in
+            (q .0, q .1 ∙ List·getD-append xs ys nowhere j h);
+      }
 
   part-right : (xs ys : List Node) {n : ℕ} → n ≡ k + length xs → Part ns k (xs ++ ys) → Part ns n ys
   part-right xs ys {n} e p =
-      record { holds = λ j h.
-        let q = p .holds (length xs + j) (rw length-append (omega arith)) in
-        let z : k + (length xs + j) ≡ n + j = omega (arith, e) in
-        (omega (arith, q .0, z), ap (λ (m : ℕ). getD ns m nowhere) (sym z) ∙ q .1 ∙ getD-append-add xs ys j nowhere) }
+      record {
+        holds = λ j h.
+            let q = p .holds (length xs + j) (rw length-append (omega arith)) in
+            let z : k + (length xs + j) ≡ n + j = omega (arith, e) in
+            (omega (arith, q .0, z), ap (λ (m : ℕ). getD ns m nowhere) (sym z) ∙ q .1 ∙ getD-append-add xs ys j nowhere);
+      }
 
 -- the whole
 pub part-all : (ns : List Node) → Part ns 0 ns
@@ -99,18 +103,18 @@ module _ (ns : List Node) where
       let n = node 7 (firstOf a) (k + exprSize a - 1) (k + exprSize a + exprSize b - 1) 0 in
       let front = part-left (exprNodes k a ++ exprNodes (k + exprSize a) b) (n ∷ []) p in
       let long : length (exprNodes k a ++ exprNodes (k + exprSize a) b) ≡ exprSize a + exprSize b =
-          length-append (exprNodes k a) (exprNodes (k + exprSize a) b) ∙ omega (arith, expr-long k a, expr-long (k + exprSize a) b) in
+      length-append (exprNodes k a) (exprNodes (k + exprSize a) b) ∙ omega (arith, expr-long k a, expr-long (k + exprSize a) b) in
       let r = row-of i i n refl (part-right (exprNodes k a ++ exprNodes (k + exprSize a) b) (n ∷ []) (omega (arith, q, long)) p) in
       let l = rep a k (k + exprSize a - 1) (omega (arith, some-node a)) (part-left (exprNodes k a) (exprNodes (k + exprSize a) b) front) in
       let m = rep b (k + exprSize a) (k + exprSize a + exprSize b - 1) (omega (arith, some-node b))
-          (part-right (exprNodes k a) (exprNodes (k + exprSize a) b) (omega (arith, expr-long k a)) front) in
+      (part-right (exprNodes k a) (exprNodes (k + exprSize a) b) (omega (arith, expr-long k a)) front) in
       is-slash (r .inside) (r .kind) (r .tok) (omega (arith, q, r .first, some-node a, some-node b)) (omega (arith, q, r .second, some-node b))
       (subst (λ (z : ℕ). RepAt ws z a) (sym (r .first)) l) (subst (λ (z : ℕ). RepAt ws z b) (sym (r .second)) m)
   rep (call e t g) k i q p =
       let n = node 8 (firstOf e) (k + exprSize e - 1) (lastOf (k + exprSize e) g) t in
       let front = exprNodes k e ++ argNodes (k + exprSize e) g in
       let long : length front ≡ exprSize e + argsSize g =
-          length-append (exprNodes k e) (argNodes (k + exprSize e) g) ∙ omega (arith, expr-long k e, args-long (k + exprSize e) g) in
+      length-append (exprNodes k e) (argNodes (k + exprSize e) g) ∙ omega (arith, expr-long k e, args-long (k + exprSize e) g) in
       let r = row-of i i n refl (part-right front (n ∷ []) (omega (arith, q, long)) p) in
       is-call (r .inside) (r .kind) (r .tok)
 
@@ -179,17 +183,17 @@ module _ (ns : List Node) where
       let y : k + suc m ≡ k + 1 + m = omega arith in
       let a : (5 * k + 5 ≤ length (ws ns)) × (word (ws ns) k 0 < 11) = subst (λ (n : ℕ). (5 * n + 5 ≤ length (ws ns)) × (word (ws ns) n 0 < 11)) z (h 0 (omega arith)) in
       no-stmt (a .0) (a .1) (skip m (k + 1)
-        (λ j l. let x : k + suc j ≡ k + 1 + j = omega arith in subst (λ (n : ℕ). (5 * n + 5 ≤ length (ws ns)) × (word (ws ns) n 0 < 11)) x (h (suc j) (omega arith)))
-        (subst (λ (n : ℕ). StmtsAt (ws ns) n ss) y r))
+      (λ j l. let x : k + suc j ≡ k + 1 + j = omega arith in subst (λ (n : ℕ). (5 * n + 5 ≤ length (ws ns)) × (word (ws ns) n 0 < 11)) x (h (suc j) (omega arith)))
+      (subst (λ (n : ℕ). StmtsAt (ws ns) n ss) y r))
 
   -- the rows of a part whose nodes are no statements
   skip-part : (xs : List Node) (k : ℕ) {n : ℕ} {ss : List Stmt} → Part ns k xs → Small xs → n ≡ length xs → StmtsAt (ws ns) (k + n) ss → StmtsAt (ws ns) k ss
   unfolding nodeRow
   skip-part xs k {n} {ss} p a e r =
       skip (length xs) k (λ j l.
-        let q = p .holds j l in
-        let w : word (ws ns) (k + j) 0 ≡ getD ns (k + j) nowhere .kind = row-word ns (k + j) 0 (q .0) (omega arith) in
-        (row-in ns (k + j) (q .0), omega (arith, w, ap (λ (m : Node). m .kind) (q .1), a .each j l)))
+      let q = p .holds j l in
+      let w : word (ws ns) (k + j) 0 ≡ getD ns (k + j) nowhere .kind = row-word ns (k + j) 0 (q .0) (omega arith) in
+      (row-in ns (k + j) (q .0), omega (arith, w, ap (λ (m : Node). m .kind) (q .1), a .each j l)))
       (subst (λ (m : ℕ). StmtsAt (ws ns) (k + m) ss) e r)
 
   -- an expression and the node of its statement
@@ -209,7 +213,7 @@ module _ (ns : List Node) where
       → length ns ≡ k + length ((exprNodes k e ++ n ∷ []) ++ nodesFrom (k + length (exprNodes k e ++ n ∷ [])) ss)
       → ((m : ℕ) → Part ns m (nodesFrom m ss) → length ns ≡ m + length (nodesFrom m ss) → StmtsAt (ws ns) m ss)
       → (IsRow ns (k + exprSize e) n → RepAt (ws ns) (k + exprSize e - 1) e → StmtsAt (ws ns) (k + exprSize e + 1) ss
-          → StmtsAt (ws ns) (k + exprSize e) (x ∷ ss))
+      → StmtsAt (ws ns) (k + exprSize e) (x ∷ ss))
       → StmtsAt (ws ns) k (x ∷ ss)
   tree-stmt e k n ss p l rest held =
       let own = exprNodes k e ++ n ∷ [] in
@@ -230,11 +234,11 @@ module _ (ns : List Node) where
       subst (λ (m : ℕ). StmtsAt (ws ns) k (import′ m ∷ ss)) (r .tok) (an-import (r .inside) (r .kind) on)
   from-part (let′ t e ∷ ss) k p l =
       tree-stmt e k (node 12 t (k + exprSize e - 1) 0 0) ss p l (λ m q z. from-part ss m q z) (λ r c on.
-        subst (λ (z : ℕ). StmtsAt (ws ns) (k + exprSize e) (let′ z e ∷ ss)) (r .tok)
-        (a-let (r .inside) (r .kind) (subst (λ (z : ℕ). RepAt (ws ns) z e) (sym (r .first)) c) on))
+      subst (λ (z : ℕ). StmtsAt (ws ns) (k + exprSize e) (let′ z e ∷ ss)) (r .tok)
+      (a-let (r .inside) (r .kind) (subst (λ (z : ℕ). RepAt (ws ns) z e) (sym (r .first)) c) on))
   from-part (expr′ e ∷ ss) k p l =
       tree-stmt e k (node 13 (firstOf e) (k + exprSize e - 1) 0 0) ss p l (λ m q z. from-part ss m q z) (λ r c on.
-        an-expr (r .inside) (r .kind) (subst (λ (z : ℕ). RepAt (ws ns) z e) (sym (r .first)) c) on)
+      an-expr (r .inside) (r .kind) (subst (λ (z : ℕ). RepAt (ws ns) z e) (sym (r .first)) c) on)
 
 -- the rows of a program are its statements
 pub all-stmts : (ss : List Stmt) → StmtsAt (flat nodeRow (nodes ss)) 0 ss

@@ -137,7 +137,7 @@ pub record Binds (b : List (List ℕ)) (x′ : List ℕ) (start end key t : ℕ)
   pub is : (s toks : List ℕ) (i : List (List ℕ)) (x u : List ℕ) (n : ℕ) (k : Known) (c : Counts) (e : Expr) → Knows s b i c k → Ready s toks b i c
       → between s start end ≡ nameAt (contents (tokens.tokens s)) t → key ≡ keyOf (nameAt (contents (tokens.tokens s)) t) → Agrees s j x x′ c (judge (contents (tokens.tokens s)) n k e)
       → TurnOf s toks c x u (Went c′) b′ i y u
-          (bound (contents (tokens.tokens s)) n k t (judge (contents (tokens.tokens s)) n k e .out) (judge (contents (tokens.tokens s)) n k e .warns))
+      (bound (contents (tokens.tokens s)) n k t (judge (contents (tokens.tokens s)) n k e .out) (judge (contents (tokens.tokens s)) n k e .warns))
 
 -- ---- statements in the node table: the loop goes over all rows
 

@@ -16,12 +16,26 @@ ghost use Rattle.judging.specs.Judging.{tokenAs, Lexed, keyOf, Keyed, Ready, Kn
 ghost use Rattle.checker.specs.Checking.{plusError, plusStatement, plusName, plusImport, entryRow, HeldRow, bareAs, Narrow, Shown, Tells, Exprs, Turns, Binds, Room, StmtFits, StmtsAt, RowFits, RowTurns, noCounts, Grows, Comes};
 ghost use Rattle.scan.specs.Scanning.{verdictAs};
 ghost use Rattle.checker.specs.Entry.{refusal, callAs, GivesUp, Parses, CheckSource};
-use constants::{Constants, Ty};
+use constants::Constants;
+use constants::Ty;
+use judging::Counts;
+use judging::Detail;
+use judging::Entry;
+use judging::Fault;
+use judging::Judged;
+use judging::Judgement;
+use judging::Name;
+use judging::Text;
+use judging::Token;
+use judging::Value;
 use lex::Lexer;
-use parse::{NodeKind, NodeRow, Parser};
-use scan::{Tok, Verdict};
-use judging::{Counts, Detail, Entry, Fault, Judged, Judgement, Name, Text, Token, Value};
-use wide::{Size, Wide};
+use parse::NodeKind;
+use parse::NodeRow;
+use parse::Parser;
+use scan::Tok;
+use scan::Verdict;
+use wide::Size;
+use wide::Wide;
 
 // The checker's state: two arrays of empty entries for the names that are bound and imported, filled in order of binding,
 // and `Counts`, which says how many of each are filled.
@@ -29,10 +43,12 @@ pub struct Checker {}
 
 impl Checker {
     pub const NAMES: usize = 512;
+
     pub const IMPORTS: usize = 64;
 
     // How many words a row of the diagnostic table and a row of the statement table have.
     pub const DIAGNOSTIC_WORDS: usize = Fault::WORDS;
+
     pub const STATEMENT_WORDS: usize = 7;
 
     // The kind of a statement that is held: hir.rs `StmtKind::Discard`.
@@ -268,16 +284,39 @@ fn narrow(v: Value) -> Narrowed
     let n = Wide { hi: v.hi, lo: v.lo };
     let lo = v.lo;
     match n.smallest() {
-        Size::U8 => Narrowed::Fits(Value { kind: Ty::U8, lo, hi: 0 }),
-        Size::U16 => Narrowed::Fits(Value { kind: Ty::U16, lo, hi: 0 }),
-        Size::U32 => Narrowed::Fits(Value { kind: Ty::U32, lo, hi: 0 }),
-        Size::U64 => Narrowed::Fits(Value { kind: Ty::U64, lo, hi: 0 }),
+        Size::U8 => Narrowed::Fits(Value {
+            kind: Ty::U8,
+            lo,
+            hi: 0,
+        }),
+        Size::U16 => Narrowed::Fits(Value {
+            kind: Ty::U16,
+            lo,
+            hi: 0,
+        }),
+        Size::U32 => Narrowed::Fits(Value {
+            kind: Ty::U32,
+            lo,
+            hi: 0,
+        }),
+        Size::U64 => Narrowed::Fits(Value {
+            kind: Ty::U64,
+            lo,
+            hi: 0,
+        }),
         Size::TooLarge => Narrowed::TooLarge,
     }
 }
 
 // The value of an expression statement, at the token t: it is discarded, with a warning.
-fn tell(toks: &[u64], diags: &mut [u64], stmts: &mut [u64], t: u64, v: Value, counts: Counts) -> Counts
+fn tell(
+    toks: &[u64],
+    diags: &mut [u64],
+    stmts: &mut [u64],
+    t: u64,
+    v: Value,
+    counts: Counts,
+) -> Counts
     requires { ⌜ 7 ≤ length (now toks) ⌝ }
     requires { ⌜ Room counts ⌝ }
     ensures { λ r. ⌜ ((s : List ℕ) → Lexed s (now (toks .entry)) → Tells s t v counts (now (diags .entry)) (now (stmts .entry)) r (now (diags .exit)) (now (stmts .exit))) ⌝ }
@@ -286,14 +325,28 @@ fn tell(toks: &[u64], diags: &mut [u64], stmts: &mut [u64], t: u64, v: Value, co
     match narrow(v) {
         Narrowed::Fits(w) => {
             put_stmt(stmts, counts.statements, tok, w);
-            held_one(warn(diags, judging::typed(Fault::WARNING, Fault::DISCARDED_VALUE, tok, w, 0, 0, 0), counts))
+            held_one(warn(
+                diags,
+                judging::typed(Fault::WARNING, Fault::DISCARDED_VALUE, tok, w, 0, 0, 0),
+                counts,
+            ))
         }
         Narrowed::TooLarge => error(diags, bare(Fault::INTEGRAL_TOO_LARGE, tok), counts),
     }
 }
 
 // An expression as a statement: row i.
-fn expr_stmt(source: &[u8], toks: &[u64], nodes: &[u64], bindings: &[Entry], imports: &[Entry], diags: &mut [u64], stmts: &mut [u64], i: usize, counts: Counts) -> Counts
+fn expr_stmt(
+    source: &[u8],
+    toks: &[u64],
+    nodes: &[u64],
+    bindings: &[Entry],
+    imports: &[Entry],
+    diags: &mut [u64],
+    stmts: &mut [u64],
+    i: usize,
+    counts: Counts,
+) -> Counts
     requires { ⌜ Ready (now source) (now toks) (now bindings) (now imports) counts ⌝ }
     requires { ⌜ StmtFits (now nodes) i counts × (5 * i + 5 ≤ length (now nodes)) ⌝ }
     ensures { λ r. ⌜ ((n : ℕ) (k : Known) (e : Expr) → Knows (now (source .entry)) (now (bindings .entry)) (now (imports .entry)) counts k
@@ -305,7 +358,14 @@ fn expr_stmt(source: &[u8], toks: &[u64], nodes: &[u64], bindings: &[Entry], imp
     let out = j.out;
     let found = j.counts;
     match out {
-        Judged::Val(v) => tell(toks, diags, stmts, judging::word(nodes, e, NodeRow::TOKEN), v, found),
+        Judged::Val(v) => tell(
+            toks,
+            diags,
+            stmts,
+            judging::word(nodes, e, NodeRow::TOKEN),
+            v,
+            found,
+        ),
         Judged::Err(f) => error(diags, f, found),
         Judged::Poisoned => found,
     }
@@ -322,19 +382,30 @@ fn module_at(source: &[u8], tok: Token) -> u64
 }
 
 // `import` of the name at the token t. A failed import poisons its name, as a failed `let` does.
-fn import(source: &[u8], toks: &[u64], imports: &mut [Entry], diags: &mut [u64], t: u64, counts: Counts) -> Turn
+fn import(
+    source: &[u8],
+    toks: &[u64],
+    imports: &mut [Entry],
+    diags: &mut [u64],
+    t: u64,
+    counts: Counts,
+) -> Turn
     requires { ⌜ Lexed (now source) (now toks) × (64 ≤ length (now imports)) × (counts .imported ≤ 64) × Keyed (now source) (now imports) (counts .imported) ⌝ }
     requires { ⌜ Room counts ⌝ }
     ensures { λ r. ⌜ ((n : ℕ) (k : Known) (b : List (List ℕ)) (u : List ℕ) → Knows (now (source .entry)) b (now (imports .entry)) counts k
         → Ready (now (source .entry)) (now (toks .entry)) b (now (imports .entry)) counts
         → Turns (now (source .entry)) (now (toks .entry)) counts (now (diags .entry)) u r b (now (imports .exit)) (now (diags .exit)) u
-            (stmt (contents (tokens (now (source .entry)))) n k (import′ t))) ⌝ }
+        (stmt (contents (tokens (now (source .entry)))) n k (import′ t))) ⌝ }
 {
     let tok = judging::token_at(toks, t);
     let imported = counts.imported;
     let i = judging::find(source, imports, imported, judging::name_at(source, tok));
     if i < imported {
-        return Turn::Went(warn(diags, judging::named(Fault::WARNING, Fault::MULTIPLE_IMPORTS, tok, 0, 0), counts));
+        return Turn::Went(warn(
+            diags,
+            judging::named(Fault::WARNING, Fault::MULTIPLE_IMPORTS, tok, 0, 0),
+            counts,
+        ));
     }
     if Checker::IMPORTS <= imported {
         return Turn::Full(t);
@@ -344,13 +415,24 @@ fn import(source: &[u8], toks: &[u64], imports: &mut [Entry], diags: &mut [u64],
     put_entry(imports, imported, name_span(tok), key_at(source, tok), t, v);
     let more = imported_one(counts);
     if kind == 0 {
-        return Turn::Went(error(diags, judging::named(Fault::ERROR, Fault::UNKNOWN_MODULE, tok, 0, 0), more));
+        return Turn::Went(error(
+            diags,
+            judging::named(Fault::ERROR, Fault::UNKNOWN_MODULE, tok, 0, 0),
+            more,
+        ));
     }
     Turn::Went(more)
 }
 
 // Binds a name to what its value came to; where that failed, to nothing.
-fn bind(bindings: &mut [Entry], diags: &mut [u64], name: Span, key: u64, t: u64, j: Judgement) -> Counts
+fn bind(
+    bindings: &mut [Entry],
+    diags: &mut [u64],
+    name: Span,
+    key: u64,
+    t: u64,
+    j: Judgement,
+) -> Counts
     requires { ⌜ (j .counts .used < 512) × (512 ≤ length (now bindings)) ⌝ }
     requires { ⌜ Room (j .counts) ⌝ }
     ensures { λ r. ⌜ Binds (now (bindings .entry)) (now (diags .entry)) (name .start) (name .end) key t j r (now (bindings .exit)) (now (diags .exit)) ⌝ }
@@ -379,13 +461,22 @@ fn bind(bindings: &mut [Entry], diags: &mut [u64], name: Span, key: u64, t: u64,
 }
 
 // `let` in row i. `AlreadyBound` is found before the value is read.
-fn let_stmt(source: &[u8], toks: &[u64], nodes: &[u64], bindings: &mut [Entry], imports: &[Entry], diags: &mut [u64], i: usize, counts: Counts) -> Turn
+fn let_stmt(
+    source: &[u8],
+    toks: &[u64],
+    nodes: &[u64],
+    bindings: &mut [Entry],
+    imports: &[Entry],
+    diags: &mut [u64],
+    i: usize,
+    counts: Counts,
+) -> Turn
     requires { ⌜ Ready (now source) (now toks) (now bindings) (now imports) counts × (length (now bindings) ≡ 512) ⌝ }
     requires { ⌜ StmtFits (now nodes) i counts × (5 * i + 5 ≤ length (now nodes)) ⌝ }
     ensures { λ r. ⌜ ((n : ℕ) (k : Known) (e : Expr) (u : List ℕ) → Knows (now (source .entry)) (now (bindings .entry)) (now (imports .entry)) counts k
         → RepAt (now (nodes .entry)) (word (now (nodes .entry)) i 2) e
         → Turns (now (source .entry)) (now (toks .entry)) counts (now (diags .entry)) u r (now (bindings .exit)) (now (imports .entry)) (now (diags .exit)) u
-            (stmt (contents (tokens (now (source .entry)))) n k (let′ (word (now (nodes .entry)) i 1) e))) ⌝ }
+        (stmt (contents (tokens (now (source .entry)))) n k (let′ (word (now (nodes .entry)) i 1) e))) ⌝ }
 {
     let t = judging::word(nodes, i, NodeRow::TOKEN);
     let tok = judging::token_at(toks, t);
@@ -395,7 +486,13 @@ fn let_stmt(source: &[u8], toks: &[u64], nodes: &[u64], bindings: &mut [Entry], 
         let first = judging::token_at(toks, bindings[at][Name::TOKEN]);
         return Turn::Went(error(
             diags,
-            judging::named(Fault::ERROR, Fault::ALREADY_BOUND, tok, first.line, first.column),
+            judging::named(
+                Fault::ERROR,
+                Fault::ALREADY_BOUND,
+                tok,
+                first.line,
+                first.column,
+            ),
             counts,
         ));
     }
@@ -408,18 +505,45 @@ fn let_stmt(source: &[u8], toks: &[u64], nodes: &[u64], bindings: &mut [Entry], 
 }
 
 // Row i: a statement takes its turn, a row of an expression is passed.
-fn stmt(source: &[u8], toks: &[u64], nodes: &[u64], bindings: &mut [Entry], imports: &mut [Entry], diags: &mut [u64], stmts: &mut [u64], i: usize, counts: Counts) -> Turn
+fn stmt(
+    source: &[u8],
+    toks: &[u64],
+    nodes: &[u64],
+    bindings: &mut [Entry],
+    imports: &mut [Entry],
+    diags: &mut [u64],
+    stmts: &mut [u64],
+    i: usize,
+    counts: Counts,
+) -> Turn
     requires { ⌜ Ready (now source) (now toks) (now bindings) (now imports) counts × (length (now bindings) ≡ 512) × (length (now imports) ≡ 64) ⌝ }
     requires { ⌜ RowFits (now nodes) i counts × (5 * i + 5 ≤ length (now nodes)) ⌝ }
     ensures { λ r. ⌜ ((n : ℕ) (k : Known) (ss : List Stmt) → Knows (now (source .entry)) (now (bindings .entry)) (now (imports .entry)) counts k
         → StmtsAt (now (nodes .entry)) i ss
         → RowTurns (now (source .entry)) (now (toks .entry)) (now (nodes .entry)) i n k counts (now (bindings .entry)) (now (imports .entry)) (now (diags .entry)) (now (stmts .entry))
-            r (now (bindings .exit)) (now (imports .exit)) (now (diags .exit)) (now (stmts .exit)) ss) ⌝ }
+        r (now (bindings .exit)) (now (imports .exit)) (now (diags .exit)) (now (stmts .exit)) ss) ⌝ }
 {
     match judging::word(nodes, i, NodeRow::KIND) {
-        NodeKind::IMPORT => import(source, toks, imports, diags, judging::word(nodes, i, NodeRow::TOKEN), counts),
+        NodeKind::IMPORT => import(
+            source,
+            toks,
+            imports,
+            diags,
+            judging::word(nodes, i, NodeRow::TOKEN),
+            counts,
+        ),
         NodeKind::LET => let_stmt(source, toks, nodes, bindings, imports, diags, i, counts),
-        NodeKind::EXPRESSION => Turn::Went(expr_stmt(source, toks, nodes, bindings, imports, diags, stmts, i, counts)),
+        NodeKind::EXPRESSION => Turn::Went(expr_stmt(
+            source,
+            toks,
+            nodes,
+            bindings,
+            imports,
+            diags,
+            stmts,
+            i,
+            counts,
+        )),
         _ => Turn::Went(counts),
     }
 }
@@ -437,7 +561,17 @@ fn run(source: &[u8], toks: &[u64], nodes: &[u64], diags: &mut [u64], stmts: &mu
     let rows = nodes.len() / Parser::ROW_WORDS;
     let mut i: usize = 0;
     while i < rows {
-        match stmt(source, toks, nodes, &mut bindings, &mut imports, diags, stmts, i, counts) {
+        match stmt(
+            source,
+            toks,
+            nodes,
+            &mut bindings,
+            &mut imports,
+            diags,
+            stmts,
+            i,
+            counts,
+        ) {
             Turn::Went(then) => counts = then,
             Turn::Full(t) => return Turn::Full(t),
         }
@@ -521,7 +655,13 @@ fn done(counts: Counts, count: usize, rows: usize, statements: usize) -> CheckAn
 }
 
 // A refusal that leaves nothing in any table.
-fn give_up(verdict: Verdict, toks: &mut [u64], nodes: &mut [u64], diags: &mut [u64], stmts: &mut [u64]) -> CheckAnswer
+fn give_up(
+    verdict: Verdict,
+    toks: &mut [u64],
+    nodes: &mut [u64],
+    diags: &mut [u64],
+    stmts: &mut [u64],
+) -> CheckAnswer
     ensures { λ r. ⌜ GivesUp verdict (length (now (toks .entry))) (length (now (nodes .entry))) (length (now (diags .entry))) (length (now (stmts .entry)))
         r (now (toks .exit)) (now (nodes .exit)) (now (diags .exit)) (now (stmts .exit)) ⌝ }
 {
@@ -543,34 +683,62 @@ fn at_token(toks: &[u64], count: usize, number: u64, t: u64) -> Verdict
 }
 
 // The answer where all statements were judged: the statements are kept where there is no error.
-fn conclude(counts: Counts, count: usize, rows: usize, toks: &mut [u64], nodes: &mut [u64], diags: &mut [u64], stmts: &mut [u64]) -> CheckAnswer
+fn conclude(
+    counts: Counts,
+    count: usize,
+    rows: usize,
+    toks: &mut [u64],
+    nodes: &mut [u64],
+    diags: &mut [u64],
+    stmts: &mut [u64],
+) -> CheckAnswer
     ensures { λ r. ⌜ ((s : List ℕ) (ds : List Diag) (hs : List Held) → Parses s (now (toks .entry)) (now (nodes .entry)) count rows
         → firstCall (parsedNodes (program (contents (tokens s)))) ≡ none → checked s ≡ judged ds hs
         → Grows s noCounts (padTo (length (now (diags .entry))) []) (padTo (length (now (stmts .entry))) []) counts (now (diags .entry)) (now (stmts .entry)) ds hs
         → CheckSource s (length (now (toks .entry))) (length (now (nodes .entry))) (length (now (diags .entry))) (length (now (stmts .entry)))
-            r (now (toks .exit)) (now (nodes .exit)) (now (diags .exit)) (now (stmts .exit))) ⌝ }
+        r (now (toks .exit)) (now (nodes .exit)) (now (diags .exit)) (now (stmts .exit))) ⌝ }
 {
     if counts.errors != 0 {
         table::clear(stmts);
         return done(counts, count, rows, 0);
     }
     if stmts.len() / Checker::STATEMENT_WORDS < counts.statements {
-        return give_up(Verdict::new(Verdict::STATEMENT_ROOM, 0, 0), toks, nodes, diags, stmts);
+        return give_up(
+            Verdict::new(Verdict::STATEMENT_ROOM, 0, 0),
+            toks,
+            nodes,
+            diags,
+            stmts,
+        );
     }
     done(counts, count, rows, counts.statements)
 }
 
 // Judges a tree without calls. The tables of diagnostics and statements start out as zeros.
-fn check_statements(source: &[u8], toks: &mut [u64], nodes: &mut [u64], diags: &mut [u64], stmts: &mut [u64], count: usize, rows: usize) -> CheckAnswer
+fn check_statements(
+    source: &[u8],
+    toks: &mut [u64],
+    nodes: &mut [u64],
+    diags: &mut [u64],
+    stmts: &mut [u64],
+    count: usize,
+    rows: usize,
+) -> CheckAnswer
     requires { ⌜ Parses (now source) (now toks) (now nodes) count rows ⌝ }
     requires { ⌜ (now diags ≡ padTo (length (now diags)) []) × (now stmts ≡ padTo (length (now stmts)) []) ⌝ }
     ensures { λ r. ⌜ (firstCall (parsedNodes (program (contents (tokens (now (source .entry)))))) ≡ none
         → CheckSource (now (source .entry)) (length (now (toks .entry))) (length (now (nodes .entry))) (length (now (diags .entry))) (length (now (stmts .entry)))
-            r (now (toks .exit)) (now (nodes .exit)) (now (diags .exit)) (now (stmts .exit))) ⌝ }
+        r (now (toks .exit)) (now (nodes .exit)) (now (diags .exit)) (now (stmts .exit))) ⌝ }
 {
     let token_words = Lexer::ROW_WORDS * count;
     let node_words = Parser::ROW_WORDS * rows;
-    match run(source, &toks[..token_words], &nodes[..node_words], diags, stmts) {
+    match run(
+        source,
+        &toks[..token_words],
+        &nodes[..node_words],
+        diags,
+        stmts,
+    ) {
         Turn::Went(counts) => conclude(counts, count, rows, toks, nodes, diags, stmts),
         Turn::Full(t) => {
             let found = at_token(toks, count, Verdict::NAMES, t);
@@ -580,7 +748,15 @@ fn check_statements(source: &[u8], toks: &mut [u64], nodes: &mut [u64], diags: &
 }
 
 // Checks a tree. The tables of diagnostics and statements start out as zeros.
-fn check_tree(source: &[u8], toks: &mut [u64], nodes: &mut [u64], diags: &mut [u64], stmts: &mut [u64], count: usize, rows: usize) -> CheckAnswer
+fn check_tree(
+    source: &[u8],
+    toks: &mut [u64],
+    nodes: &mut [u64],
+    diags: &mut [u64],
+    stmts: &mut [u64],
+    count: usize,
+    rows: usize,
+) -> CheckAnswer
     requires { ⌜ Parses (now source) (now toks) (now nodes) count rows ⌝ }
     requires { ⌜ (now diags ≡ padTo (length (now diags)) []) × (now stmts ≡ padTo (length (now stmts)) []) ⌝ }
     ensures { λ r. ⌜ CheckSource (now (source .entry)) (length (now (toks .entry))) (length (now (nodes .entry))) (length (now (diags .entry))) (length (now (stmts .entry)))
@@ -597,7 +773,13 @@ fn check_tree(source: &[u8], toks: &mut [u64], nodes: &mut [u64], diags: &mut [u
 }
 
 // Checks a source into four lent tables: of tokens, nodes, diagnostics and statements.
-pub fn check_source(source: &[u8], toks: &mut [u64], nodes: &mut [u64], diags: &mut [u64], stmts: &mut [u64]) -> CheckAnswer
+pub fn check_source(
+    source: &[u8],
+    toks: &mut [u64],
+    nodes: &mut [u64],
+    diags: &mut [u64],
+    stmts: &mut [u64],
+) -> CheckAnswer
     ensures { λ r. ⌜ CheckSource (now (source .entry)) (length (now (toks .entry))) (length (now (nodes .entry))) (length (now (diags .entry))) (length (now (stmts .entry)))
         r (now (toks .exit)) (now (nodes .exit)) (now (diags .exit)) (now (stmts .exit)) ⌝ }
 {
@@ -608,5 +790,13 @@ pub fn check_source(source: &[u8], toks: &mut [u64], nodes: &mut [u64], diags: &
     if verdict.number != Verdict::DONE {
         return refused(verdict);
     }
-    check_tree(source, toks, nodes, diags, stmts, parsed.tokens as usize, parsed.nodes as usize)
+    check_tree(
+        source,
+        toks,
+        nodes,
+        diags,
+        stmts,
+        parsed.tokens as usize,
+        parsed.nodes as usize,
+    )
 }

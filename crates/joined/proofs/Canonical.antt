@@ -95,18 +95,20 @@ module _ {s : List ℕ} {t n : ℕ} {r : Canonised} {toks left : List ℕ} (c : 
   canonised-again : {k m : ℕ} {q : Canonised} {table kept : List ℕ} → CanonSource (text s) k m q table kept
       → r .tokens ≤ k / tokenWidth → r .bytes ≤ m → (q ≡ r) × (kept ≡ padTo m (text s))
   canonised-again {k} {m} d a b =
-      let h = text-fits a b in
-      (d .answer ∙ rw (canon-done (text s) (k / tokenWidth) m h, as-many, own) (sym answer-is),
-      d .text ∙ canon-leaves-text (text s) k m h ∙ ap (padTo m) own)
+      let h = text-fits a b in (
+        d .answer ∙ rw (canon-done (text s) (k / tokenWidth) m h, as-many, own) (sym answer-is),
+        d .text ∙ canon-leaves-text (text s) k m h ∙ ap (padTo m) own,
+      )
 
 -- ---- the claims
 
 pub done-exactly : DoneExactly
 done-exactly source t n r toks left c =
     let answers : FitsIn source (t / tokenWidth) n → Done r =
-    λ h. ap (λ (x : Canonised). x .verdict .number) (c .answer ∙ ap canonisedAs (canon-done source (t / tokenWidth) n h)) in
-    (λ z. (fits c z .fits, fits c z .tokens, fits c z .bytes, written c z),
-    λ h. answers (record { fits = h .0; tokens = h .1; bytes = h .2 }))
+    λ h. ap (λ (x : Canonised). x .verdict .number) (c .answer ∙ ap canonisedAs (canon-done source (t / tokenWidth) n h)) in (
+      λ z. (fits c z .fits, fits c z .tokens, fits c z .bytes, written c z),
+      λ h. answers (record { fits = h .0; tokens = h .1; bytes = h .2 }),
+    )
 
 pub text-lexes : TextLexes
 text-lexes source t n r toks left c z k q table l h = rw (written c z) (lexed-again c z (rw (written c z) at l) h)
@@ -124,9 +126,10 @@ pub same-tables : SameTables
 same-tables s u t n k m r q a b x y c d z w =
     let told = same-texts s u t n k m r q a b x y c d z w .0 in
     let h = all-tokens c z in
-    let g = all-tokens d w in
-    (λ e. (counted c z ∙ contents-decide (tokens s) (tokens u) (told e) .0 ∙ sym (counted d w), same-rows h g (told e)),
-    λ e. written c z ∙ same-written h g (e .0) (e .1) ∙ sym (written d w))
+    let g = all-tokens d w in (
+      λ e. (counted c z ∙ contents-decide (tokens s) (tokens u) (told e) .0 ∙ sym (counted d w), same-rows h g (told e)),
+      λ e. written c z ∙ same-written h g (e .0) (e .1) ∙ sym (written d w),
+    )
 
 -- ---- parse and check
 
@@ -140,8 +143,7 @@ text-parses s t n r toks left c z j m p q a b x y f g =
     let w = written c z in
     let h = text-parsed s (fits c z .fits) in
     let k = h .1 (j / tokenWidth) (m / nodeWidth) in
-    let answer : List ℕ → ParseAnswer = λ v. parsedAs (parseAnswer v (j / tokenWidth) (m / nodeWidth)) in
-    (
+    let answer : List ℕ → ParseAnswer = λ v. parsedAs (parseAnswer v (j / tokenWidth) (m / nodeWidth)) in (
       g .nodes ∙ ap (λ (v : List ℕ). parseNodes v j m) w ∙ h .0 j m ∙ sym (f .nodes),
       same-field (λ (v : ParseAnswer). v .verdict .number) answer (f .answer) (g .answer) w (k .number),
       same-field (λ (v : ParseAnswer). v .verdict .kind) answer (f .answer) (g .answer) w (k .kind),
@@ -177,8 +179,7 @@ text-checks s t n r toks left c z j m d k p q a b x y v w g h e f =
     let u = written c z in
     let l = text-checked s (fits c z .fits) in
     let o = l .answer (j / tokenWidth) (m / nodeWidth) (k / stmtWidth) in
-    let answer : List ℕ → CheckAnswer = λ i. checkedAs (checkAnswer i (j / tokenWidth) (m / nodeWidth) (k / stmtWidth)) in
-    (
+    let answer : List ℕ → CheckAnswer = λ i. checkedAs (checkAnswer i (j / tokenWidth) (m / nodeWidth) (k / stmtWidth)) in (
       f .nodes ∙ ap (λ (i : List ℕ). checkNodes i j m k) u ∙ l .nodes j m k ∙ sym (e .nodes),
       same-field (λ (i : CheckAnswer). i .verdict .number) answer (e .answer) (f .answer) u (o .number),
       same-field (λ (i : CheckAnswer). i .verdict .kind) answer (e .answer) (f .answer) u (o .kind),

@@ -171,7 +171,7 @@ module _ {s : List ℕ} where
     go u q {R} {z} r =
         let row = diagRow (tokenOf s) in
         let k : L .counts .errors + L .counts .warnings ≡ c .errors + c .warnings + length (j .warns) =
-            ap (λ (a : Counts). a .errors + a .warnings) (l .counted) ∙ omega arith in
+        ap (λ (a : Counts). a .errors + a .warnings) (l .counted) ∙ omega arith in
         rw q (record {
           out = r .out;
           counted = r .counted ∙ ap (λ (a : Counts). plusWarnings a (length (f u .warns))) (l .counted)
@@ -240,10 +240,12 @@ module _ (ts : List Content) (at : ℕ) (f : ℕ → judgements.Judgement) (u : 
 pub not-integer : (s : List ℕ) (ip t : ℕ) {r : Judgement} {v : Value} {c : Counts} {x : List ℕ} → isIntegral (v .kind) ≡ false
     → Operand s t v 2 4 (r .out) → r .counts ≡ c → Narrows s ip t v c x r x
 not-integer s ip t h o k =
-    record { is = λ n u e.
-      let z = integer-not u (sym (ap (λ (w : Value). isIntegral (w .kind)) e) ∙ h) in
-      rw (right-none (contents (tokens.tokens s)) n ip t u z)
-      (give (err t (operandType right (tyInt u16) (typeOf u))) (o .is u right (tyInt u16) e refl refl) k) }
+    record {
+      is = λ n u e.
+          let z = integer-not u (sym (ap (λ (w : Value). isIntegral (w .kind)) e) ∙ h) in
+          rw (right-none (contents (tokens.tokens s)) n ip t u z)
+          (give (err t (operandType right (tyInt u16) (typeOf u))) (o .is u right (tyInt u16) e refl refl) k);
+    }
 
 abbrev total : Value → ℕ
 total v = v .hi * tables.word + v .lo
@@ -258,8 +260,10 @@ module _ (s : List ℕ) (ip t : ℕ) (v : Value) (h : isIntegral (v .kind) ≡ t
   pub narrows-same : {r : Judgement} {c : Counts} {x : List ℕ} → false ≡ isTruncated (total v) → r .out ≡ Val (record { kind = 8; lo = ip; hi = port })
       → r .counts ≡ c → Narrows s ip t v c x r x
   narrows-same b q k =
-      record { is = λ n u e.
-        rw (right-some (contents (tokens.tokens s)) n ip t u (integer-of v h u e), ← b) (give (val (values.isSock4 ip (low16 (total v)))) (q ∙ port-is) k) }
+      record {
+        is = λ n u e.
+            rw (right-some (contents (tokens.tokens s)) n ip t u (integer-of v h u e), ← b) (give (val (values.isSock4 ip (low16 (total v)))) (q ∙ port-is) k);
+      }
 
   pub narrows-cut : {r : Judgement} {c : Counts} {x : List ℕ} {tok : Token} {f : Fault} {y : List ℕ} → true ≡ isTruncated (total v)
       → r .out ≡ Val (record { kind = 8; lo = ip; hi = port }) → v .lo < tables.word
@@ -269,14 +273,16 @@ module _ (s : List ℕ) (ip t : ℕ) (v : Value) (h : isIntegral (v .kind) ≡ t
   narrows-cut {c = c} {x = x} {f = f} b q l e g o k =
       let lo : total v % tables.word ≡ v .lo = omega (arith, l) in
       let hi : total v / tables.word ≡ v .hi = omega (arith, l) in
-      record { is = λ n u w.
-        let d : Diag = diag n t (truncated (total v) (tyInt u16)) in
-        let same : faultRow f ≡ diagRow (tokenOf s) d = rw (g, e, lo, hi) in
-        rw (right-some (contents (tokens.tokens s)) n ip t u (integer-of v h u w), ← b) (record {
-          out = q ∙ port-is;
-          counted = k;
-          table = o ∙ rw same (one-row (diagRow (tokenOf s)) x (c .errors + c .warnings) d);
-        }) }
+      record {
+        is = λ n u w.
+            let d : Diag = diag n t (truncated (total v) (tyInt u16)) in
+            let same : faultRow f ≡ diagRow (tokenOf s) d = rw (g, e, lo, hi) in
+            rw (right-some (contents (tokens.tokens s)) n ip t u (integer-of v h u w), ← b) (record {
+              out = q ∙ port-is;
+              counted = k;
+              table = o ∙ rw same (one-row (diagRow (tokenOf s)) x (c .errors + c .warnings) d);
+            });
+      }
 
 module _ (s : List ℕ) (ip t : ℕ) {l : Judgement} {y : List ℕ} where
   pub integral-goes : {v : Value} {r : Judgement} {z : List ℕ} → l .out ≡ Val v → Narrows s ip t v (l .counts) y r z → Integral s ip t l y r z
@@ -327,9 +333,14 @@ module _ (ts : List Content) (n : ℕ) (k : Known) where
   few (slash′ a b) =
       let f : ℕ → judgements.Judgement = λ ip. andThen (judge ts n k b) (rightOf ts n ip (firstOf b)) in
       let g : (ip : ℕ) → length (f ip .warns) ≤ length (judge ts n k b .warns) + 1 = λ ip.
-          few-then (judge ts n k b .out) (judge ts n k b .warns) (rightOf ts n ip (firstOf b)) 1 (few-right ts n ip (firstOf b)) in
-      omega (arith, few a, few b, few-then (judge ts n k a .out) (judge ts n k a .warns) (leftOf ts (firstOf a) f) (length (judge ts n k b .warns) + 1)
-          (few-left ts (firstOf a) f (length (judge ts n k b .warns) + 1) g))
+      few-then (judge ts n k b .out) (judge ts n k b .warns) (rightOf ts n ip (firstOf b)) 1 (few-right ts n ip (firstOf b)) in
+      omega (
+        arith,
+        few a,
+        few b,
+        few-then (judge ts n k a .out) (judge ts n k a .warns) (leftOf ts (firstOf a) f) (length (judge ts n k b .warns) + 1)
+            (few-left ts (firstOf a) f (length (judge ts n k b .warns) + 1) g),
+      )
   few (call e t g) = omega arith
 
 -- ---- leaves
@@ -401,18 +412,18 @@ module _ (s : List ℕ) (n : ℕ) (k : Known) where
     unfolding judge
     slash-bad e d q o w =
         goes (judged a) _ h e (λ u g.
-          rw (left-none (contents (tokens.tokens s)) (firstOf a) (λ ip. andThen (judged b) (rightOf (contents (tokens.tokens s)) n ip (firstOf b))) u (ip4-not u (λ z. d (ap (λ (f : Value). f .kind) g ∙ z))))
-          (give (err (firstOf a) (operandType left tyIp4 (typeOf u)))
-            (o .is u left tyIp4 g refl refl ∙ ap (λ (f : ℕ). judgedAs s (err f (operandType left tyIp4 (typeOf u)))) q) w))
+        rw (left-none (contents (tokens.tokens s)) (firstOf a) (λ ip. andThen (judged b) (rightOf (contents (tokens.tokens s)) n ip (firstOf b))) u (ip4-not u (λ z. d (ap (λ (f : Value). f .kind) g ∙ z))))
+        (give (err (firstOf a) (operandType left tyIp4 (typeOf u)))
+        (o .is u left tyIp4 g refl refl ∙ ap (λ (f : ℕ). judgedAs s (err f (operandType left tyIp4 (typeOf u)))) q) w))
 
     pub slash-good : {v : Value} {m r : Judgement} {z z′ : List ℕ} {t : ℕ} → l .out ≡ Val v → v .kind ≡ 7 → t ≡ firstOf b → Agrees s m y z (l .counts) (judged b)
         → Integral s (v .lo) t m z r z′ → Agrees s r x z′ c (judged (slash′ a b))
     unfolding judge
     slash-good {v = v} {r = r} {z′ = z′} e d q g o =
         goes (judged a) _ h e (λ u f.
-          rw (left-some (contents (tokens.tokens s)) (firstOf a) (λ ip. andThen (judged b) (rightOf (contents (tokens.tokens s)) n ip (firstOf b))) u (ip4-is u (sym (ap (λ (w : Value). w .kind) f) ∙ d)))
-          (subst (λ (p : ℕ). Agrees s r y z′ (l .counts) (andThen (judged b) (rightOf (contents (tokens.tokens s)) n p (firstOf b)))) (ap (λ (w : Value). w .lo) f)
-          (subst (λ (p : ℕ). Agrees s r y z′ (l .counts) (andThen (judged b) (rightOf (contents (tokens.tokens s)) n (v .lo) p))) q (o .on n _ _ _ g))))
+        rw (left-some (contents (tokens.tokens s)) (firstOf a) (λ ip. andThen (judged b) (rightOf (contents (tokens.tokens s)) n ip (firstOf b))) u (ip4-is u (sym (ap (λ (w : Value). w .kind) f) ∙ d)))
+        (subst (λ (p : ℕ). Agrees s r y z′ (l .counts) (andThen (judged b) (rightOf (contents (tokens.tokens s)) n p (firstOf b)))) (ap (λ (w : Value). w .lo) f)
+        (subst (λ (p : ℕ). Agrees s r y z′ (l .counts) (andThen (judged b) (rightOf (contents (tokens.tokens s)) n (v .lo) p))) q (o .on n _ _ _ g))))
 
     pub slash-err : {f : Fault} → l .out ≡ Err f → Agrees s l x y c (judged (slash′ a b))
     unfolding judge
@@ -428,7 +439,7 @@ module _ (s : List ℕ) (n : ℕ) (k : Known) where
         → Agrees s l x y c (judged (p .left)) → SlashFits ws i (l .counts .errors + l .counts .warnings)
     fits-slash f p {l} a =
         let m : l .counts .errors + l .counts .warnings ≡ c .errors + c .warnings + length (judged (p .left) .warns) =
-            ap (λ (g : Counts). g .errors + g .warnings) (a .counted) ∙ omega arith in
+        ap (λ (g : Counts). g .errors + g .warnings) (a .counted) ∙ omega arith in
         record {
           left = p .left;
           right = p .right;
@@ -440,7 +451,7 @@ module _ (s : List ℕ) (n : ℕ) (k : Known) where
         → m .counts .errors + m .counts .warnings < 4611686018427387904
     fits-more f {m} a =
         let w : m .counts .errors + m .counts .warnings ≡ c .errors + c .warnings + length (judged (f .right) .warns) =
-            ap (λ (g : Counts). g .errors + g .warnings) (a .counted) ∙ omega arith in
+        ap (λ (g : Counts). g .errors + g .warnings) (a .counted) ∙ omega arith in
         omega (arith, w, f .room, few (contents (tokens.tokens s)) n k (f .right))
 
 pub fits-right : {ws : List ℕ} {i b count : ℕ} → SlashFits ws i count → b ≡ word ws i 3 → Fits ws b count

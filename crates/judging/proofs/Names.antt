@@ -147,9 +147,9 @@ module _ (s : List ℕ) (ts : List Content) (t : ℕ) where
     pub local-found : {r : Judged} → i < used → ((j : ℕ) → j < used → Canon (nameWord ws j 3) (nameWord ws j 4) (nameWord ws j 5))
         → r ≡ heldAs (nameWord ws i 3) (nameWord ws i 4) (nameWord ws i 5) → r ≡ judgedAs s (boundTo ts t (find (boundIn s ws used 0) v))
     local-found h c q =
-      let a = c i h in
-      q ∙ held-as (nameOf s ws i) (nameWord ws i 2) (nameWord ws i 3) (nameWord ws i 4) (nameWord ws i 5) (opened (nameWord ws i 3) (nameWord ws i 4) (nameWord ws i 5)) (a .kind) (a .low) (a .high)
-      ∙ sym (ap (λ (o : Option Binding). judgedAs s (boundTo ts t o)) (bound-found s ws v used i e h))
+        let a = c i h in
+        q ∙ held-as (nameOf s ws i) (nameWord ws i 2) (nameWord ws i 3) (nameWord ws i 4) (nameWord ws i 5) (opened (nameWord ws i 3) (nameWord ws i 4) (nameWord ws i 5)) (a .kind) (a .low) (a .high)
+        ∙ sym (ap (λ (o : Option Binding). judgedAs s (boundTo ts t o)) (bound-found s ws v used i e h))
 
     pub local-lost : {r : Judged} {tok : Token} → used ≤ i → tok ≡ tokenAs (tokenOf s t) → r ≡ Err (namedAs 1 1 tok 0 0) → r ≡ judgedAs s (boundTo ts t (find (boundIn s ws used 0) v))
     local-lost h k q = q ∙ rw (k, bound-lost s ws v used i e h)

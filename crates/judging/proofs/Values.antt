@@ -203,10 +203,10 @@ shown-text {rows = rows} u e r k p q =
 
 pub typed-is : {severity kind a b c ty : ℕ} (tok : Token) {x : Text} (u : values.Value) → x ≡ textAs (typeOf u) → ty ≡ tyKind (typeOf u)
     → record {
-        line = tok .line;
-        column = tok .column;
-        detail = record { severity = severity; kind = kind; text = x .from; start = x .start; end = x .end; ty = ty; first = a; second = b; third = c };
-      } ≡ typedAs severity kind tok (typeOf u) a b c
+      line = tok .line;
+      column = tok .column;
+      detail = record { severity = severity; kind = kind; text = x .from; start = x .start; end = x .end; ty = ty; first = a; second = b; third = c };
+    } ≡ typedAs severity kind tok (typeOf u) a b c
 typed-is tok u e f = rw (e, f)
 
 pub operand-is : (s : List ℕ) (t : ℕ) {tok : Token} → tok ≡ tokenAs (tokenOf s t) → (u : values.Value) (d : Side) (ty : Ty) {side wanted : ℕ}

@@ -13,9 +13,13 @@ ghost use Rattle.language.specs.Values.{entryAt};
 ghost use Rattle.language.specs.Judgements.{Known, nameAt, literalAt, err, unknownItem, lastItem, walk, judge};
 ghost use Rattle.constants.specs.Constants.{tableRows};
 ghost use Rattle.judging.specs.Judging.{tokenAs, rowToken, Lexed, valueAs, sock4As, judgedAs, namedAs, TypeShown, TypeText, TypedFault, truncatedAs, faultRow, isIntegral, keyOf, nameWord, nameOf, Keyed, namesIn, place, heldAs, LocalIs, PathIs, Ready, Knows, Agrees, LeafIs, Members, Operand, Narrows, Integral, word, RepAt, Fits, SlashFits, plusWarnings};
-use constants::{Constants, Ty};
-use lex::{Lexer, TokenRow};
-use parse::{NodeKind, NodeRow, Parser};
+use constants::Constants;
+use constants::Ty;
+use lex::Lexer;
+use lex::TokenRow;
+use parse::NodeKind;
+use parse::NodeRow;
+use parse::Parser;
 use scan::Tok;
 use wide::Wide;
 
@@ -63,26 +67,41 @@ impl Fault {
 
     // The severities.
     pub const ERROR: u64 = 1;
+
     pub const WARNING: u64 = 2;
 
     // The kinds, in the order of check.rs, `SemanticErrorKind` first, then `WarningKind`. Those between are not given yet.
     pub const UNKNOWN_NAME: u64 = 1;
+
     pub const UNKNOWN_ITEM: u64 = 2;
+
     pub const UNKNOWN_MODULE: u64 = 4;
+
     pub const NOT_IMPORTED: u64 = 5;
+
     pub const NOT_A_MODULE: u64 = 6;
+
     pub const NOT_A_VALUE: u64 = 7;
+
     pub const ALREADY_BOUND: u64 = 8;
+
     pub const NO_MEMBERS: u64 = 9;
+
     pub const OPERAND_TYPE: u64 = 10;
+
     pub const INTEGRAL_TOO_LARGE: u64 = 22;
+
     pub const MULTIPLE_IMPORTS: u64 = 23;
+
     pub const DISCARDED_VALUE: u64 = 24;
+
     pub const TRUNCATED: u64 = 25;
 
     // The sides of an operand, and the operator.
     pub const LEFT: u64 = 1;
+
     pub const RIGHT: u64 = 2;
+
     pub const SLASH: u64 = 1;
 }
 
@@ -130,12 +149,19 @@ pub struct Name {}
 impl Name {
     // How many words its entry in a table of names has, and which they are.
     pub const WORDS: usize = 7;
+
     pub const START: usize = 0;
+
     pub const END: usize = 1;
+
     pub const TOKEN: usize = 2;
+
     pub const KIND: usize = 3;
+
     pub const LOW: usize = 4;
+
     pub const HIGH: usize = 5;
+
     pub const KEY: usize = 6;
 }
 
@@ -381,7 +407,11 @@ fn local(source: &[u8], bindings: &[Entry], used: usize, tok: Token) -> Judged
 {
     let i = find(source, bindings, used, name_at(source, tok));
     if i < used {
-        return held(bindings[i][Name::KIND], bindings[i][Name::LOW], bindings[i][Name::HIGH]);
+        return held(
+            bindings[i][Name::KIND],
+            bindings[i][Name::LOW],
+            bindings[i][Name::HIGH],
+        );
     }
     Judged::Err(named(Fault::ERROR, Fault::UNKNOWN_NAME, tok, 0, 0))
 }
@@ -441,7 +471,14 @@ fn last_item(rows: &[u64; Constants::WORDS], tok: Token, k: u64) -> Judged
 }
 
 // `module::inner*::item`, through the imports.
-fn path(source: &[u8], toks: &[u64], imports: &[Entry], imported: usize, t: u64, names: u64) -> Judged
+fn path(
+    source: &[u8],
+    toks: &[u64],
+    imports: &[Entry],
+    imported: usize,
+    t: u64,
+    names: u64,
+) -> Judged
     requires { ⌜ Lexed (now source) (now toks) × (imported ≤ length (now imports)) × Keyed (now source) (now imports) imported ⌝ }
     ensures { λ r. ⌜ PathIs (now (source .entry)) (now (imports .entry)) imported t names r ⌝ }
 {
@@ -514,7 +551,15 @@ pub fn word(nodes: &[u64], i: usize, j: usize) -> u64
 }
 
 // An expression that holds no other: row i, of a kind below `MEMBER`.
-fn leaf(source: &[u8], toks: &[u64], nodes: &[u64], bindings: &[Entry], imports: &[Entry], i: usize, counts: Counts) -> Judged
+fn leaf(
+    source: &[u8],
+    toks: &[u64],
+    nodes: &[u64],
+    bindings: &[Entry],
+    imports: &[Entry],
+    i: usize,
+    counts: Counts,
+) -> Judged
     requires { ⌜ Ready (now source) (now toks) (now bindings) (now imports) counts ⌝ }
     requires { ⌜ 5 * i + 5 ≤ length (now nodes) ⌝ }
     ensures { λ r. ⌜ ((n : ℕ) (k : Known) (e : Expr) → Knows (now (source .entry)) (now (bindings .entry)) (now (imports .entry)) counts k
@@ -526,7 +571,14 @@ fn leaf(source: &[u8], toks: &[u64], nodes: &[u64], bindings: &[Entry], imports:
         NodeKind::LITERAL => Judged::Val(literal(toks, t)),
         NodeKind::SOCK4 => Judged::Val(sock4(toks, t)),
         NodeKind::LOCAL => local(source, bindings, counts.used, token_at(toks, t)),
-        _ => path(source, toks, imports, counts.imported, t, word(nodes, i, NodeRow::FIRST)),
+        _ => path(
+            source,
+            toks,
+            imports,
+            counts.imported,
+            t,
+            word(nodes, i, NodeRow::FIRST),
+        ),
     }
 }
 
@@ -553,7 +605,15 @@ fn member(toks: &[u64], t: u64, left: Judgement) -> Judgement
     let counts = left.counts;
     match out {
         Judged::Val(v) => Judgement {
-            out: Judged::Err(typed(Fault::ERROR, Fault::NO_MEMBERS, token_at(toks, t), v, 0, 0, 0)),
+            out: Judged::Err(typed(
+                Fault::ERROR,
+                Fault::NO_MEMBERS,
+                token_at(toks, t),
+                v,
+                0,
+                0,
+                0,
+            )),
             counts,
         },
         Judged::Err(_) => left,
@@ -566,7 +626,15 @@ fn operand(toks: &[u64], t: u64, v: Value, side: u64, wanted: u64) -> Judged
     requires { ⌜ 7 ≤ length (now toks) ⌝ }
     ensures { λ r. ⌜ ((s : List ℕ) → Lexed s (now (toks .entry)) → Operand s t v side wanted r) ⌝ }
 {
-    Judged::Err(typed(Fault::ERROR, Fault::OPERAND_TYPE, token_at(toks, t), v, side, wanted, Fault::SLASH))
+    Judged::Err(typed(
+        Fault::ERROR,
+        Fault::OPERAND_TYPE,
+        token_at(toks, t),
+        v,
+        side,
+        wanted,
+        Fault::SLASH,
+    ))
 }
 
 // Integers of any size, and bools.
@@ -577,7 +645,14 @@ fn is_integral(kind: u64) -> bool
 }
 
 // The right operand of `/` keeps its low 16 bits, with a warning where that changes it.
-fn narrow_to(toks: &[u64], diags: &mut [u64], ip: u64, t: u64, v: Value, counts: Counts) -> Judgement
+fn narrow_to(
+    toks: &[u64],
+    diags: &mut [u64],
+    ip: u64,
+    t: u64,
+    v: Value,
+    counts: Counts,
+) -> Judgement
     requires { ⌜ 7 ≤ length (now toks) ⌝ }
     requires { ⌜ counts .errors + counts .warnings < 4611686018427387904 ⌝ }
     ensures { λ r. ⌜ ((s : List ℕ) → Lexed s (now (toks .entry)) → Narrows s ip t v counts (now (diags .entry)) r (now (diags .exit))) ⌝ }
@@ -597,7 +672,11 @@ fn narrow_to(toks: &[u64], diags: &mut [u64], ip: u64, t: u64, v: Value, counts:
         hi: port,
     });
     if low.changed {
-        put_diag(diags, counts.errors + counts.warnings, truncated(token_at(toks, t), v));
+        put_diag(
+            diags,
+            counts.errors + counts.warnings,
+            truncated(token_at(toks, t), v),
+        );
         return Judgement {
             out,
             counts: warned(counts),
@@ -624,7 +703,16 @@ fn integral(toks: &[u64], diags: &mut [u64], ip: u64, t: u64, right: Judgement) 
 }
 
 // `left / right`, after its left operand was judged: row i.
-fn slash(source: &[u8], toks: &[u64], nodes: &[u64], bindings: &[Entry], imports: &[Entry], diags: &mut [u64], i: usize, left: Judgement) -> Judgement
+fn slash(
+    source: &[u8],
+    toks: &[u64],
+    nodes: &[u64],
+    bindings: &[Entry],
+    imports: &[Entry],
+    diags: &mut [u64],
+    i: usize,
+    left: Judgement,
+) -> Judgement
     requires { ⌜ Ready (now source) (now toks) (now bindings) (now imports) (left .counts) ⌝ }
     requires { ⌜ SlashFits (now nodes) i (left .counts .errors + left .counts .warnings) ⌝ }
     ensures { λ r. ⌜ ((n : ℕ) (k : Known) (a b : Expr) (x : List ℕ) (c : Counts) → Knows (now (source .entry)) (now (bindings .entry)) (now (imports .entry)) (left .counts) k
@@ -638,7 +726,13 @@ fn slash(source: &[u8], toks: &[u64], nodes: &[u64], bindings: &[Entry], imports
             let counts = left.counts;
             if v.kind != Ty::IP4 {
                 return Judgement {
-                    out: operand(toks, word(nodes, i, NodeRow::TOKEN), v, Fault::LEFT, Ty::IP4),
+                    out: operand(
+                        toks,
+                        word(nodes, i, NodeRow::TOKEN),
+                        v,
+                        Fault::LEFT,
+                        Ty::IP4,
+                    ),
                     counts,
                 };
             }
@@ -652,7 +746,16 @@ fn slash(source: &[u8], toks: &[u64], nodes: &[u64], bindings: &[Entry], imports
 }
 
 // Judges the expression at row i.
-pub fn judge(source: &[u8], toks: &[u64], nodes: &[u64], bindings: &[Entry], imports: &[Entry], diags: &mut [u64], i: usize, counts: Counts) -> Judgement
+pub fn judge(
+    source: &[u8],
+    toks: &[u64],
+    nodes: &[u64],
+    bindings: &[Entry],
+    imports: &[Entry],
+    diags: &mut [u64],
+    i: usize,
+    counts: Counts,
+) -> Judgement
     requires { ⌜ Ready (now source) (now toks) (now bindings) (now imports) counts ⌝ }
     requires { ⌜ Fits (now nodes) i (counts .errors + counts .warnings) ⌝ }
     ensures { λ r. ⌜ ((n : ℕ) (k : Known) (e : Expr) → Knows (now (source .entry)) (now (bindings .entry)) (now (imports .entry)) counts k

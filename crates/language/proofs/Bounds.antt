@@ -132,8 +132,11 @@ unfolding program programIn
 bounds-met ts = stmts-met ts (suc (length ts)) [] 0
 
 pub alone-stops : AloneStops
-alone-stops ts = (from (length ts) (length ts) (omega arith) (omega arith) .1, λ lists steps h l.
-    larger ts lists steps h l (suc lists) (suc steps) (omega arith) (omega arith) .0 ∙ sym (from lists steps h l .0))
+alone-stops ts = (
+  from (length ts) (length ts) (omega arith) (omega arith) .1,
+  λ lists steps h l.
+      larger ts lists steps h l (suc lists) (suc steps) (omega arith) (omega arith) .0 ∙ sym (from lists steps h l .0),
+)
   where
     from : (lists steps : ℕ) → length ts ≤ lists → length ts ≤ steps → Same ts (alone ts) (programIn ts (suc lists) (suc steps))
     from lists steps h l = larger ts (length ts) (length ts) (omega arith) (omega arith) (suc lists) (suc steps) (omega arith) (omega arith)

@@ -75,8 +75,8 @@ module _ (s : List ℕ) where
         token = at;
         found = f;
         earlier = λ t q.
-        let n : ¬ (t < at) = λ l. let z = stops-once e (counted (contents (tokens s)) t .1 (q, rw f l)) in omega arith in
-        omega (arith, n);
+            let n : ¬ (t < at) = λ l. let z = stops-once e (counted (contents (tokens s)) t .1 (q, rw f l)) in omega arith in
+            omega (arith, n);
       }
 
   five-refused : (h : Unexpected s) → parse s ≡ no 5 (h .kind) (h .token)

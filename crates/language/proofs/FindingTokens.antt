@@ -63,9 +63,28 @@ lookup-from (e ∷ es) k m w h =
 lookup-named : (m : ℕ) (w : List ℕ) → NamedIf (lookup m w)
 unfolding entries tableText
 lookup-named m w =
-    lookup-from entries 1 m w
-    (part 0 5 refl, (part 5 9 refl, (part 9 13 refl, (part 13 16 refl, (part 16 18 refl, (part 18 24 refl, (part 26 30 refl,
-    (part 30 34 refl, (part 34 38 refl, tt)))))))))
+    lookup-from entries 1 m w (
+      part 0 5 refl,
+      (
+        part 5 9 refl,
+        (
+          part 9 13 refl,
+          (
+            part 13 16 refl,
+            (
+              part 16 18 refl,
+              (
+                part 18 24 refl,
+                (
+                  part 26 30 refl,
+                  (part 30 34 refl, (part 34 38 refl, tt)),
+                ),
+              ),
+            ),
+          ),
+        ),
+      ),
+    )
 
 module _ (ts : List Content) where
   -- the kinds that show a name ask for one where they stand, those that show an entry of the table for its name

@@ -41,8 +41,12 @@ module _ (s : List ℕ) where
 pub whole-read : WholeRead
 whole-read s ss next x e =
     let ts = contents (tokens s) in
-    omega (arith, ends-inside ts (length (tokens s) - 1) (last-is s) e,
-    only-last s next (at-end ts (grammar-met ts ss next .0 x e)), long-tokens s)
+    omega (
+      arith,
+      ends-inside ts (length (tokens s) - 1) (last-is s) e,
+      only-last s next (at-end ts (grammar-met ts ss next .0 x e)),
+      long-tokens s,
+    )
 
 pub stops-inside : StopsInside
 stops-inside s n k t e =

@@ -202,8 +202,8 @@ module _ (ts : List Content) where
           order = refl;
           tooMany = rw append-nil h;
           first = λ vs x ws u e m.
-            let l : 0 ≡ length (vs ++ x ∷ ws) = ap length e in
-            omega (arith, l, length-append vs (x ∷ ws));
+              let l : 0 ≡ length (vs ++ x ∷ ws) = ap length e in
+              omega (arith, l, length-append vs (x ∷ ws));
         }
 
     clear-more : (ss : List Stmt) → ((u : ℕ) → ¬ TooMany ts us s u) → Clear (us ++ s ∷ []) ss → Clear us (s ∷ ss)
@@ -280,7 +280,7 @@ module _ (ts : List Content) where
 pub names-refused : NamesRefused
 names-refused ts ss t = (
   λ e. let r = refused-reached ts ss [] 1 (known [] []) [] [] (none-known ts) e in
-    record { before = r .before; here = r .here; after = r .after; order = r .order; tooMany = r .tooMany; first = r .first },
+      record { before = r .before; here = r .here; after = r .after; order = r .order; tooMany = r .tooMany; first = r .first },
   λ f. rw (f .order)
-    (reached-refused ts (f .before) [] (f .here) (f .after) 1 (known [] []) [] [] (none-known ts) (f .first) (f .tooMany)),
+      (reached-refused ts (f .before) [] (f .here) (f .after) 1 (known [] []) [] [] (none-known ts) (f .first) (f .tooMany)),
 )

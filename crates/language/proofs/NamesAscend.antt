@@ -75,8 +75,8 @@ earlier-name ts ss next x t e f us s vs u q m =
         | inr b ↦
             let o = rw (b .1) at q in
             let h : t < u =
-              names-ascend ts ss (f .before) (b .0) vs (f .here) s next x t u e o (too-named ts (f .before) (f .here) t (f .tooMany))
-              (too-named ts us s u m)
+            names-ascend ts ss (f .before) (b .0) vs (f .here) s next x t u e o (too-named ts (f .before) (f .here) t (f .tooMany))
+            (too-named ts us s u m)
             in omega arith
       ]
     ]

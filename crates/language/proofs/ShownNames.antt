@@ -115,8 +115,7 @@ module _ (s : List ℕ) where
 pub names-shown : NamesShown
 unfolding checked
 names-shown s =
-    let g = outcome-grounded (contents (tokens s)) in
-    (
+    let g = outcome-grounded (contents (tokens s)) in (
       λ d m. finding-shown s (d .statement) (d .at) (d .what) (g .found .holds d m),
       λ h m. held-shown s (h .value) (g .kept .holds h m),
     )

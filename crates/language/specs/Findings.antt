@@ -126,7 +126,15 @@ pub record Detail : Type 0 where
 abbrev pub named : What → Token → ℕ → ℕ → Detail
 named w t a b =
     record {
-      severity = if′ (isError w) 1 2; kind = whatKind w; text = 1; start = t .start; end = t .end; type = 0; first = a; second = b; third = 0;
+      severity = if′ (isError w) 1 2;
+      kind = whatKind w;
+      text = 1;
+      start = t .start;
+      end = t .end;
+      type = 0;
+      first = a;
+      second = b;
+      third = 0;
     }
 
 -- shows a type, a function with its name in the table's text, and perhaps three numbers
@@ -148,7 +156,15 @@ typed w ty a b c =
 abbrev pub bare : What → Detail
 bare w =
     record {
-      severity = if′ (isError w) 1 2; kind = whatKind w; text = 0; start = 0; end = 0; type = 0; first = 0; second = 0; third = 0;
+      severity = if′ (isError w) 1 2;
+      kind = whatKind w;
+      text = 0;
+      start = 0;
+      end = 0;
+      type = 0;
+      first = 0;
+      second = 0;
+      third = 0;
     }
 
 abbrev pub detailRow : Token → Detail → List ℕ

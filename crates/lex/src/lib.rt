@@ -52,10 +52,15 @@ pub struct TokenRow {}
 
 impl TokenRow {
     pub const LINE: usize = 1;
+
     pub const COLUMN: usize = 2;
+
     pub const START: usize = 3;
+
     pub const END: usize = 4;
+
     pub const LOW: usize = 5;
+
     pub const HIGH: usize = 6;
 }
 
@@ -134,7 +139,15 @@ impl Lexer {
         if p.bodies == 0 {
             return self;
         }
-        let row = [Tok::STRING_LITERAL, p.line, p.column, p.start, p.end, p.bodies, 0];
+        let row = [
+            Tok::STRING_LITERAL,
+            p.line,
+            p.column,
+            p.start,
+            p.end,
+            p.bodies,
+            0,
+        ];
         table::put_row(table, self.count, &row);
         Lexer {
             lno: self.lno,

@@ -10,8 +10,10 @@ ghost use Rattle.language.specs.Tokens.{Content};
 ghost use Rattle.language.specs.Sentences.{Stmt, Node, node, mostSteps, primary, address, named′, links, chainAt, slashes, exprAt, argOf, listAt, ended, importAt, letAt, stmtAt, program};
 ghost use Rattle.parse.specs.Entry.{GivesUp, Lexes, ParseSource};
 ghost use Rattle.parse.specs.Parsing.{kindAt, literalKind, portAt, portAs, portTokOf, isNamed, argKind, valueFrom, Room, Rep, Holds, Pushes, withStmt, exprStmt, After, AfterExpr, AfterArgs, MetExpr, MetArg, MetArgs, MetStmt, MetAll, Ahead, AheadList, rowVerdict, verdictAt};
-use lex::{Lexer, TokenRow};
-use scan::{Tok, Verdict};
+use lex::Lexer;
+use lex::TokenRow;
+use scan::Tok;
+use scan::Verdict;
 use wide::Wide;
 
 // The kinds of nodes, by their numbers; docs/TABLES.md has what each row holds.
@@ -20,18 +22,27 @@ pub struct NodeKind {}
 impl NodeKind {
     // a further name of a path
     pub const NAME: u64 = 1;
+
     pub const LITERAL: u64 = 2;
     // an address with a port
     pub const SOCK4: u64 = 3;
     // a name that is no path
     pub const LOCAL: u64 = 4;
+
     pub const PATH: u64 = 5;
+
     pub const MEMBER: u64 = 6;
+
     pub const SLASH: u64 = 7;
+
     pub const CALL: u64 = 8;
+
     pub const ARGUMENT: u64 = 9;
+
     pub const NAMED_ARGUMENT: u64 = 10;
+
     pub const IMPORT: u64 = 11;
+
     pub const LET: u64 = 12;
     // an expression as a statement
     pub const EXPRESSION: u64 = 13;
@@ -42,9 +53,13 @@ pub struct NodeRow {}
 
 impl NodeRow {
     pub const KIND: usize = 0;
+
     pub const TOKEN: usize = 1;
+
     pub const FIRST: usize = 2;
+
     pub const SECOND: usize = 3;
+
     pub const THIRD: usize = 4;
 }
 
@@ -403,14 +418,7 @@ fn arg_head(toks: &[u64], at: usize) -> ArgHead
 
 // One argument. Its node names the argument before it by `last`, that one's row plus 1, 0 where there is none. That node
 // comes on top of the value's, so the bound on nodes starts from one more; the `,` or `)` that follows makes up for it.
-fn arg(
-    toks: &[u64],
-    nodes: &mut [u64],
-    at: usize,
-    count: usize,
-    left: usize,
-    last: usize,
-) -> Parsed
+fn arg(toks: &[u64], nodes: &mut [u64], at: usize, count: usize, left: usize, last: usize) -> Parsed
     requires { ⌜ Room (length (now toks)) at count ⌝ }
     ensures { λ r. ⌜ Ahead 1 (length (now (toks .entry))) at (count + 1) 0 r ⌝ }
     ensures { λ r. ⌜ AfterArgs (now (toks .entry)) (now (nodes .entry)) count last (λ ts ns g. MetArg r (now (nodes .exit)) ns (argOf ts (exprAt ts left) g at)) ⌝ }

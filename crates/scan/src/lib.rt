@@ -57,22 +57,39 @@ pub enum LexErrorKind {
 impl Tok {
     // The numbers of the kinds, in the order of lex.rs. The lexer makes `Eof` and `StringLiteral`, which no lexeme is.
     pub const EOF: u64 = 1;
+
     pub const LPAREN: u64 = 2;
+
     pub const RPAREN: u64 = 3;
+
     pub const DOT: u64 = 4;
+
     pub const DOUBLE_COLON: u64 = 5;
+
     pub const COLON: u64 = 6;
+
     pub const SEMI_COLON: u64 = 7;
+
     pub const EQUALS: u64 = 8;
+
     pub const COMMA: u64 = 9;
+
     pub const SLASH: u64 = 10;
+
     pub const IMPORT_KEYWORD: u64 = 11;
+
     pub const LET_KEYWORD: u64 = 12;
+
     pub const IDENTIFIER: u64 = 13;
+
     pub const BOOLEAN_LITERAL: u64 = 14;
+
     pub const IPV4_LITERAL: u64 = 15;
+
     pub const STRING_LITERAL: u64 = 16;
+
     pub const HEX_LITERAL: u64 = 17;
+
     pub const DEC_LITERAL: u64 = 18;
 
     // The number of its kind.
@@ -122,10 +139,15 @@ impl Tok {
 impl LexErrorKind {
     // The numbers of the kinds, in the order of lex.rs without its `StringLiteral`.
     pub const UNEXPECTED_CHAR: u64 = 1;
+
     pub const UNTERMINATED_STRING: u64 = 2;
+
     pub const INT_OUT_OF_RANGE: u64 = 3;
+
     pub const INT_LEADING_ZERO: u64 = 4;
+
     pub const INT_INVALID_SUFFIX: u64 = 5;
+
     pub const IPV4_LITERAL: u64 = 6;
 
     // The number of its kind.
@@ -166,8 +188,11 @@ pub enum LexemeKind {
 impl LexemeKind {
     // The numbers of the classes.
     pub const TRIVIA: u64 = 1;
+
     pub const STR: u64 = 2;
+
     pub const TOK: u64 = 3;
+
     pub const ERROR: u64 = 4;
 }
 
@@ -851,20 +876,32 @@ pub struct Scanned {
 impl Verdict {
     // The numbers, in the order of 01's table; docs/TABLES.md says when each is given.
     pub const DONE: u64 = 0;
+
     pub const TOO_LONG: u64 = 1;
+
     pub const NOT_UTF8: u64 = 2;
+
     pub const LEXICAL: u64 = 3;
+
     pub const TOKEN_ROOM: u64 = 4;
+
     pub const SYNTAX: u64 = 5;
+
     pub const NODE_ROOM: u64 = 6;
+
     pub const TOO_DEEP: u64 = 7;
+
     pub const CALLS: u64 = 8;
+
     pub const NAMES: u64 = 9;
+
     pub const TEXT_ROOM: u64 = 10;
+
     pub const STATEMENT_ROOM: u64 = 11;
 
     // The kinds of `SYNTAX`, which are those of parse.rs `ParseErrorKind`. The kinds of `LEXICAL` are of `LexErrorKind`.
     pub const UNEXPECTED_TOKEN: u64 = 1;
+
     pub const INT_OUT_OF_RANGE: u64 = 2;
 
     // A number with a place, and no more.

@@ -1,9 +1,9 @@
 // Diagnostics: a line has its place, `E` or `W`, its kind, and its fields in the order of check.rs.
 ghost use Prim.Native.Nat.{_+_, _≤_};
 ghost use lib.ListN.{length};
+use crate::types;
 use checker::Checker;
 use constants::Ty;
-use crate::types;
 use judging::Fault;
 use judging::Text;
 use printing::output;

@@ -2,9 +2,9 @@
 // the source is shown as the list of its raw bodies.
 ghost use Prim.Native.Nat.{_+_, _≤_};
 ghost use lib.ListN.{length};
+use crate::types;
 use checker::Checker;
 use constants::Ty;
-use crate::types;
 use judging::Text;
 use lex::Lexer;
 use lex::TokenRow;
@@ -50,14 +50,7 @@ fn body(source: &[u8], start: usize, end: usize, i: u64, out: &mut [u8], at: usi
 }
 
 // The bodies of a string in hex, a blank before each.
-fn bodies(
-    source: &[u8],
-    start: usize,
-    end: usize,
-    count: u64,
-    out: &mut [u8],
-    at: usize,
-) -> usize {
+fn bodies(source: &[u8], start: usize, end: usize, count: u64, out: &mut [u8], at: usize) -> usize {
     let mut p = at;
     let mut i: u64 = 0;
     while i < count {

@@ -37,7 +37,7 @@ module _ {v : Verdict} {s t : List ℕ} where
 
   pub checks : {u f g : List ℕ} {m n d k : ℕ} {a : checker.CheckAnswer} → check-entry.CheckSource s m n d k a t u f g → v ≡ verdictOf (a .verdict)
       → CheckSource s m n d k
-          (record { verdict = v; tokens = a .tokens; nodes = a .nodes; errors = a .errors; warnings = a .warnings; statements = a .statements }) t u f g
+      (record { verdict = v; tokens = a .tokens; nodes = a .nodes; errors = a .errors; warnings = a .warnings; statements = a .statements }) t u f g
   checks h e = record { answer = rw (e, h .answer); tokens = h .tokens; nodes = h .nodes; diags = h .diags; stmts = h .stmts }
 
 -- ---- the claim

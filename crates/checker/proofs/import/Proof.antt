@@ -88,12 +88,12 @@ returns-3 c =
     let start = c .before .before .before .before .before .before .before .before .before .before .before .before .before .before .before .before .before .before .before .before .before .before in
     let tok = c .before .before .before .before .before .before .before .before .before .before .before .before .before .before .before .before .before .before .token-at .ensures _ (start .pre .0 .0) in
     λ n k b u kn rd. turn-failed (start .args .source .now) (start .args .toks .now) n (start .args .t) k b (start .args .imports .now) u (start .args .diags .now) (start .args .counts) kn rd _ _
-      (c .before .before .before .before .before .before .before .before .before .before .before .before .before .before .before .find .ensures) (c .before .before .before .before .before .before .before .before .before .before .before .before .before .before .before .before .name-at .ensures (start .args .t) tok) (c .before .before .before .before .before .before .before .before .before .before .before .before .before .before .if1 .left)
-      (omega (arith, c .before .before .before .before .before .before .before .before .before .before .before .before .before .if2 .left)) (start .pre .0 .1) (put .before .before .name-span .result .start) (put .before .before .name-span .result .end)
-      (put .before .key-at .result) (c .before .before .before .before .before .before .before .before .before .before .before .before .module-at .result) _ (put .before .before .name-span .ensures _ _ tok) (put .before .key-at .ensures _ tok)
-      (c .before .before .before .before .before .before .before .before .before .before .before .before .module-at .ensures _ tok) (put .put-entry .ensures) (c .before .before .before .before .before .if3 .taken)
-      (c .before .before .before .named2 .ensures ∙ no-module _ _ tok) (c .before .before .error .ensures .0 ∙ ap plusError (more .imported-one .ensures))
-      (c .before .before .error .ensures .1 ∙ ap (λ (l : Counts). putRow (start .args .diags .now) (l .errors + l .warnings) (faultRow (c .before .before .before .named2 .result))) (more .imported-one .ensures))
+    (c .before .before .before .before .before .before .before .before .before .before .before .before .before .before .before .find .ensures) (c .before .before .before .before .before .before .before .before .before .before .before .before .before .before .before .before .name-at .ensures (start .args .t) tok) (c .before .before .before .before .before .before .before .before .before .before .before .before .before .before .if1 .left)
+    (omega (arith, c .before .before .before .before .before .before .before .before .before .before .before .before .before .if2 .left)) (start .pre .0 .1) (put .before .before .name-span .result .start) (put .before .before .name-span .result .end)
+    (put .before .key-at .result) (c .before .before .before .before .before .before .before .before .before .before .before .before .module-at .result) _ (put .before .before .name-span .ensures _ _ tok) (put .before .key-at .ensures _ tok)
+    (c .before .before .before .before .before .before .before .before .before .before .before .before .module-at .ensures _ tok) (put .put-entry .ensures) (c .before .before .before .before .before .if3 .taken)
+    (c .before .before .before .named2 .ensures ∙ no-module _ _ tok) (c .before .before .error .ensures .0 ∙ ap plusError (more .imported-one .ensures))
+    (c .before .before .error .ensures .1 ∙ ap (λ (l : Counts). putRow (start .args .diags .now) (l .errors + l .warnings) (faultRow (c .before .before .before .named2 .result))) (more .imported-one .ensures))
 
 same-length-6 : tie.Need-same-length-6
 same-length-6 c = search needs
@@ -104,10 +104,10 @@ returns-4 c =
     let start = c .before .before .before .before .before .before .before .before .before .before .before .before .before .before .before .before .before in
     let tok = c .before .before .before .before .before .before .before .before .before .before .before .before .before .token-at .ensures _ (start .pre .0 .0) in
     λ n k b u kn rd. turn-found (start .args .source .now) (start .args .toks .now) n (start .args .t) k b (start .args .imports .now) u (start .args .diags .now) (start .args .counts) kn rd _ _
-      (c .before .before .before .before .before .before .before .before .before .before .find .ensures) (c .before .before .before .before .before .before .before .before .before .before .before .name-at .ensures (start .args .t) tok) (c .before .before .before .before .before .before .before .before .before .if1 .left)
-      (omega (arith, c .before .before .before .before .before .before .before .before .if2 .left)) (start .pre .0 .1) (put .before .before .name-span .result .start) (put .before .before .name-span .result .end)
-      (put .before .key-at .result) (c .before .before .before .before .before .before .before .module-at .result) _ (put .before .before .name-span .ensures _ _ tok) (put .before .key-at .ensures _ tok)
-      (c .before .before .before .before .before .before .before .module-at .ensures _ tok) (put .put-entry .ensures) (c .if3 .left) (c .before .imported-one .ensures)
+    (c .before .before .before .before .before .before .before .before .before .before .find .ensures) (c .before .before .before .before .before .before .before .before .before .before .before .name-at .ensures (start .args .t) tok) (c .before .before .before .before .before .before .before .before .before .if1 .left)
+    (omega (arith, c .before .before .before .before .before .before .before .before .if2 .left)) (start .pre .0 .1) (put .before .before .name-span .result .start) (put .before .before .name-span .result .end)
+    (put .before .key-at .result) (c .before .before .before .before .before .before .before .module-at .result) _ (put .before .before .name-span .ensures _ _ tok) (put .before .key-at .ensures _ tok)
+    (c .before .before .before .before .before .before .before .module-at .ensures _ tok) (put .put-entry .ensures) (c .if3 .left) (c .before .imported-one .ensures)
 
 pub import-spec : {M : Type 1} → statement M
 import-spec =

@@ -63,9 +63,9 @@ returns c =
     let tok = c .before .before .before .before .before .before .before .before .before .before .before .token-at .ensures _ (start .pre .0 .0 .lexed) in
     let first = c .before .before .before .before .before .token-at2 .ensures _ (start .pre .0 .0 .lexed) in
     λ n k e u kn rep. turn-again (start .args .source .now) (start .args .toks .now) n _ _ (c .before .before .before .before .before .before .before .before .before .before .before .before .word .ensures) k e (start .args .bindings .now)
-      (start .args .imports .now) u (start .args .diags .now) (start .args .counts) kn (start .pre .0 .0) _ _ (c .before .before .before .before .before .before .before .before .find .ensures)
-      (c .before .before .before .before .before .before .before .before .before .name-at .ensures _ tok) (c .before .before .before .before .before .before .before .if1 .taken)
-      (c .before .before .before .named .ensures ∙ bound-twice _ _ _ tok first) (c .before .before .error .ensures .0) (c .before .before .error .ensures .1)
+    (start .args .imports .now) u (start .args .diags .now) (start .args .counts) kn (start .pre .0 .0) _ _ (c .before .before .before .before .before .before .before .before .find .ensures)
+    (c .before .before .before .before .before .before .before .before .before .name-at .ensures _ tok) (c .before .before .before .before .before .before .before .if1 .taken)
+    (c .before .before .before .named .ensures ∙ bound-twice _ _ _ tok first) (c .before .before .error .ensures .0) (c .before .before .error .ensures .1)
 
 same-length-3 : tie.Need-same-length-3
 same-length-3 c = search needs
@@ -75,8 +75,8 @@ returns-2 c =
     let start = c .before .before .before .before .before .before .before .before .before .before .before in
     let tok = c .before .before .before .before .before .token-at .ensures _ (start .pre .0 .0 .lexed) in
     λ n k e u kn rep. turn-full (start .args .source .now) (start .args .toks .now) n _ _ (c .before .before .before .before .before .before .word .ensures) k e (start .args .bindings .now)
-      (start .args .imports .now) u (start .args .diags .now) (start .args .counts) kn (start .pre .0 .0) _ _ (c .before .before .find .ensures)
-      (c .before .before .before .name-at .ensures _ tok) (c .before .if1 .left) (c .if2 .taken)
+    (start .args .imports .now) u (start .args .diags .now) (start .args .counts) kn (start .pre .0 .0) _ _ (c .before .before .find .ensures)
+    (c .before .before .before .name-at .ensures _ tok) (c .before .if1 .left) (c .if2 .taken)
 
 word-requires-2 : tie.Need-word-requires-2
 word-requires-2 c κs = search needs
@@ -112,12 +112,12 @@ returns-3 c =
     let start = c .before .before .before .before .before .before .before .before .before .before .before .before .before .before .before .before .before .before .before .before .before .before .before .before .before in
     let tok = c .before .before .before .before .before .before .before .before .before .before .before .before .before .before .before .before .before .before .before .token-at .ensures _ (start .pre .0 .0 .lexed) in
     λ n k e u kn rep. turn-bound (start .args .source .now) (start .args .toks .now) n _ _ (c .before .before .before .before .before .before .before .before .before .before .before .before .before .before .before .before .before .before .before .before .word .ensures) k e (start .args .bindings .now)
-      (start .args .imports .now) u (start .args .diags .now) (start .args .counts) kn (start .pre .0 .0) _ _ (c .before .before .before .before .before .before .before .before .before .before .before .before .before .before .before .before .find .ensures)
-      (c .before .before .before .before .before .before .before .before .before .before .before .before .before .before .before .before .before .name-at .ensures _ tok) (c .before .before .before .before .before .before .before .before .before .before .before .before .before .before .before .if1 .left)
-      (omega (arith, c .before .before .before .before .before .before .before .before .before .before .before .before .before .before .if2 .left))
-      (c .before .before .before .bind .ensures .is _ _ _ _ u n k _ e kn (start .pre .0 .0) (c .before .before .before .before .before .name-span .ensures _ _ tok)
-        (c .before .before .before .before .key-at .ensures _ tok)
-        (c .before .before .before .before .before .before .before .before .before .before .judge .ensures n k e kn (at-row (c .before .before .before .before .before .before .before .before .before .before .before .before .before .word2 .ensures) rep)))
+    (start .args .imports .now) u (start .args .diags .now) (start .args .counts) kn (start .pre .0 .0) _ _ (c .before .before .before .before .before .before .before .before .before .before .before .before .before .before .before .before .find .ensures)
+    (c .before .before .before .before .before .before .before .before .before .before .before .before .before .before .before .before .before .name-at .ensures _ tok) (c .before .before .before .before .before .before .before .before .before .before .before .before .before .before .before .if1 .left)
+    (omega (arith, c .before .before .before .before .before .before .before .before .before .before .before .before .before .before .if2 .left))
+    (c .before .before .before .bind .ensures .is _ _ _ _ u n k _ e kn (start .pre .0 .0) (c .before .before .before .before .before .name-span .ensures _ _ tok)
+    (c .before .before .before .before .key-at .ensures _ tok)
+    (c .before .before .before .before .before .before .before .before .before .before .judge .ensures n k e kn (at-row (c .before .before .before .before .before .before .before .before .before .before .before .before .before .word2 .ensures) rep)))
 
 pub let-stmt-spec : {M : Type 1} → statement M
 let-stmt-spec =
