@@ -1,5 +1,8 @@
 // Tokens and lexical errors, by the numbers that tables hold for them.
+ghost use Prim.Native.Nat.{_+_, _≤_};
+ghost use lib.ListN.{length};
 use crate::output;
+use lex::Lexer;
 use scan::LexErrorKind;
 use scan::Tok;
 use wide::Wide;
@@ -10,6 +13,53 @@ pub struct Token {
     pub start: usize,
     pub end: usize,
     pub value: Wide,
+}
+
+// A row of the table of tokens.
+pub struct TokenRow {
+    pub line: u64,
+    pub column: u64,
+    pub token: Token,
+}
+
+// The words of the row that starts at word `at`.
+fn row_from(tokens: &[u64], at: usize) -> TokenRow
+    requires { ⌜ at + 7 ≤ length (now tokens) ⌝ }
+{
+    TokenRow {
+        line: tokens[at + lex::TokenRow::LINE],
+        column: tokens[at + lex::TokenRow::COLUMN],
+        token: Token {
+            kind: tokens[at],
+            start: tokens[at + lex::TokenRow::START] as usize,
+            end: tokens[at + lex::TokenRow::END] as usize,
+            value: Wide {
+                hi: tokens[at + lex::TokenRow::HIGH],
+                lo: tokens[at + lex::TokenRow::LOW],
+            },
+        },
+    }
+}
+
+fn no_row() -> TokenRow {
+    TokenRow {
+        line: 0,
+        column: 0,
+        token: Token {
+            kind: 0,
+            start: 0,
+            end: 0,
+            value: Wide { hi: 0, lo: 0 },
+        },
+    }
+}
+
+// Row `i`: all zeros where the table has none.
+pub fn row_at(tokens: &[u64], i: usize) -> TokenRow {
+    if i < tokens.len() / Lexer::ROW_WORDS {
+        return row_from(tokens, i * Lexer::ROW_WORDS);
+    }
+    no_row()
 }
 
 // The bytes of a span.
@@ -68,6 +118,25 @@ pub fn show(source: &[u8], token: Token, out: &mut [u8], at: usize) -> usize {
     }
     let q = output::byte(out, p, b' ');
     show_value(source, token, out, q)
+}
+
+fn body(source: &[u8], start: usize, end: usize, i: u64, out: &mut [u8], at: usize) -> usize {
+    let p = output::text(out, at, b" x");
+    output::hex(out, p, lex::string_body(source, start, end, i))
+}
+
+// The bodies of a string in hex, a blank before each.
+pub fn bodies(source: &[u8], t: Token, out: &mut [u8], at: usize) -> usize {
+    let start = t.start;
+    let end = t.end;
+    let count = t.value.lo;
+    let mut p = at;
+    let mut i: u64 = 0;
+    while i < count {
+        p = body(source, start, end, i, out, p);
+        i += 1;
+    }
+    p
 }
 
 // The name of an error, and the character for one that was not expected.

@@ -6,8 +6,6 @@ use crate::types;
 use checker::Checker;
 use constants::Ty;
 use judging::Text;
-use lex::Lexer;
-use lex::TokenRow;
 use printing::output;
 use printing::token;
 
@@ -42,38 +40,6 @@ fn row_at(table: &[u64], at: usize) -> Statement
         value: table[at + 5],
         second: table[at + 6],
     }
-}
-
-fn body(source: &[u8], start: usize, end: usize, i: u64, out: &mut [u8], at: usize) -> usize {
-    let p = output::text(out, at, b" x");
-    output::hex(out, p, lex::string_body(source, start, end, i))
-}
-
-// The bodies of a string in hex, a blank before each.
-fn bodies(source: &[u8], start: usize, end: usize, count: u64, out: &mut [u8], at: usize) -> usize {
-    let mut p = at;
-    let mut i: u64 = 0;
-    while i < count {
-        p = body(source, start, end, i, out, p);
-        i += 1;
-    }
-    p
-}
-
-// The string of the token whose row starts at word `word`.
-fn string_from(source: &[u8], tokens: &[u64], word: usize, out: &mut [u8], at: usize) -> usize
-    requires { ⌜ word + 7 ≤ length (now tokens) ⌝ }
-{
-    let start = tokens[word + TokenRow::START] as usize;
-    let end = tokens[word + TokenRow::END] as usize;
-    bodies(source, start, end, tokens[word + TokenRow::LOW], out, at)
-}
-
-fn string(source: &[u8], tokens: &[u64], i: usize, out: &mut [u8], at: usize) -> usize {
-    if i < tokens.len() / Lexer::ROW_WORDS {
-        return string_from(source, tokens, i * Lexer::ROW_WORDS, out, at);
-    }
-    at
 }
 
 // The part of the constant table's text that a row names.
@@ -118,7 +84,7 @@ fn value(
     at: usize,
 ) -> usize {
     if s.text == Text::SOURCE {
-        return string(source, tokens, s.value as usize, out, at);
+        return token::bodies(source, token::row_at(tokens, s.value as usize).token, out, at);
     }
     let p = output::byte(out, at, b' ');
     plain(text, s, out, p)

@@ -1,12 +1,12 @@
 // What a row of the table of nodes shows of itself, its children aside.
 use crate::rows;
 use crate::rows::Node;
-use crate::rows::TokenRow;
 use lex::Lexer;
 use parse::NodeKind;
 use printing::output;
 use printing::token;
 use printing::token::Token;
+use printing::token::TokenRow;
 use scan::Tok;
 
 // A bracket and the word for a node's kind: for a literal that for its token's kind, a number above every node's kind. Only
@@ -15,7 +15,7 @@ fn open(tokens: &[u64], n: Node, out: &mut [u8], at: usize) -> usize {
     let kind = n.kind;
     match kind {
         NodeKind::LITERAL => {
-            let t = rows::token_at(tokens, n.token).token;
+            let t = token::row_at(tokens, n.token).token;
             opened(out, at, b" (", t.kind)
         }
         NodeKind::IMPORT | NodeKind::LET | NodeKind::EXPRESSION => opened(out, at, b"(", kind),
@@ -47,7 +47,7 @@ fn value(source: &[u8], t: Token, out: &mut [u8], at: usize) -> usize {
 
 // A name and its place.
 pub fn name(source: &[u8], tokens: &[u64], i: usize, out: &mut [u8], at: usize) -> usize {
-    let t = rows::token_at(tokens, i);
+    let t = token::row_at(tokens, i);
     let p = value(source, t.token, out, at);
     place(t, out, p)
 }
@@ -61,42 +61,23 @@ pub fn start(source: &[u8], tokens: &[u64], n: Node, out: &mut [u8], at: usize) 
         NodeKind::NAMED_ARGUMENT | NodeKind::IMPORT | NodeKind::LET => {
             name(source, tokens, n.token, out, p)
         }
-        _ => place(rows::token_at(tokens, n.token), out, p),
+        _ => place(token::row_at(tokens, n.token), out, p),
     }
-}
-
-fn body(source: &[u8], start: usize, end: usize, i: u64, out: &mut [u8], at: usize) -> usize {
-    let p = output::text(out, at, b" x");
-    output::hex(out, p, lex::string_body(source, start, end, i))
-}
-
-// The bodies of a string in hex, a blank before each.
-fn bodies(source: &[u8], t: Token, out: &mut [u8], at: usize) -> usize {
-    let start = t.start;
-    let end = t.end;
-    let count = t.value.lo;
-    let mut p = at;
-    let mut i: u64 = 0;
-    while i < count {
-        p = body(source, start, end, i, out, p);
-        i += 1;
-    }
-    p
 }
 
 fn literal(source: &[u8], t: Token, out: &mut [u8], at: usize) -> usize {
     if t.kind == Tok::STRING_LITERAL {
-        return bodies(source, t, out, at);
+        return token::bodies(source, t, out, at);
     }
     value(source, t, out, at)
 }
 
 // An address and its port, which is two tokens later.
 fn sock4(source: &[u8], tokens: &[u64], i: usize, out: &mut [u8], at: usize) -> usize {
-    let p = value(source, rows::token_at(tokens, i).token, out, at);
+    let p = value(source, token::row_at(tokens, i).token, out, at);
     let q = output::byte(out, p, b':');
     if i < tokens.len() / Lexer::ROW_WORDS {
-        return token::show_value(source, rows::token_at(tokens, i + 2).token, out, q);
+        return token::show_value(source, token::row_at(tokens, i + 2).token, out, q);
     }
     q
 }
@@ -136,9 +117,9 @@ fn contents(
 ) -> usize {
     let kind = n.kind;
     match kind {
-        NodeKind::LITERAL => literal(source, rows::token_at(tokens, n.token).token, out, at),
+        NodeKind::LITERAL => literal(source, token::row_at(tokens, n.token).token, out, at),
         NodeKind::SOCK4 => sock4(source, tokens, n.token, out, at),
-        NodeKind::LOCAL => value(source, rows::token_at(tokens, n.token).token, out, at),
+        NodeKind::LOCAL => value(source, token::row_at(tokens, n.token).token, out, at),
         NodeKind::PATH => names(source, tokens, nodes, i, n, out, at),
         _ => at,
     }

@@ -1,19 +1,10 @@
-// Rows of the tables of tokens and of nodes. A row that a table does not have is all zeros: nothing here asks that a table
-// be one that the parser left.
+// Rows of the table of nodes. A row that the table does not have is all zeros: nothing here asks that it be one that the
+// parser left.
 ghost use Prim.Native.Nat.{_+_, _<_, _≤_};
 ghost use lib.ListN.{length};
-use lex::Lexer;
 use parse::NodeKind;
 use parse::NodeRow;
 use parse::Parser;
-use printing::token::Token;
-use wide::Wide;
-
-pub struct TokenRow {
-    pub line: u64,
-    pub column: u64,
-    pub token: Token,
-}
 
 // What the numbers after its token mean depends on a node's kind. The last one, the token of a call's `(`, is not shown.
 pub struct Node {
@@ -24,44 +15,6 @@ pub struct Node {
 }
 
 // The words of the row that starts at word `at`.
-fn token_from(tokens: &[u64], at: usize) -> TokenRow
-    requires { ⌜ at + 7 ≤ length (now tokens) ⌝ }
-{
-    TokenRow {
-        line: tokens[at + lex::TokenRow::LINE],
-        column: tokens[at + lex::TokenRow::COLUMN],
-        token: Token {
-            kind: tokens[at],
-            start: tokens[at + lex::TokenRow::START] as usize,
-            end: tokens[at + lex::TokenRow::END] as usize,
-            value: Wide {
-                hi: tokens[at + lex::TokenRow::HIGH],
-                lo: tokens[at + lex::TokenRow::LOW],
-            },
-        },
-    }
-}
-
-fn no_token() -> TokenRow {
-    TokenRow {
-        line: 0,
-        column: 0,
-        token: Token {
-            kind: 0,
-            start: 0,
-            end: 0,
-            value: Wide { hi: 0, lo: 0 },
-        },
-    }
-}
-
-pub fn token_at(tokens: &[u64], i: usize) -> TokenRow {
-    if i < tokens.len() / Lexer::ROW_WORDS {
-        return token_from(tokens, i * Lexer::ROW_WORDS);
-    }
-    no_token()
-}
-
 fn node_from(nodes: &[u64], at: usize) -> Node
     requires { ⌜ at + 5 ≤ length (now nodes) ⌝ }
 {

@@ -1,28 +1,19 @@
--- The rows are counted, and each lies within the table. The buffer keeps its length.
+-- The rows are counted. The buffer keeps its length.
 use mathlib.Core.Path.{_≡_}
-use Prim.Native.Nat.{_≤_}
+use Prim.Native.Nat.{_-_}
 use lib.ListN.{length}
 use borrow.Author.Needs.{needs}
 use Rattle.showing.proofs.lex_mode.tokens.Statement.{statement}
 use Rattle.showing.proofs.lex_mode.tokens.Tie as tie
 
 abbrev Inv-loop : tie.InvT-loop
-Inv-loop source table count out₀ at p₀ left₀ word₀ out p left word = (word ≤ length table) × (length out ≡ length out₀)
+Inv-loop source table count out₀ at p₀ i₀ out p i = length out ≡ length out₀
 
 abbrev μ-loop : tie.MeasureT-loop
-μ-loop source table count out₀ at p₀ left₀ word₀ out p left word = left
+μ-loop source table count out₀ at p₀ i₀ out p i = count - i
 
 loop-holds : tie.Need-loop-holds Inv-loop μ-loop
 loop-holds c = search needs
-
-sub-if1 : tie.Need-sub-if1 Inv-loop μ-loop
-sub-if1 c = search needs
-
-same-length : tie.Need-same-length Inv-loop μ-loop
-same-length c = search needs
-
-returns : tie.Need-returns Inv-loop μ-loop
-returns c = search needs
 
 row-at-requires : tie.Need-row-at-requires Inv-loop μ-loop
 row-at-requires c κs = search needs
@@ -30,11 +21,8 @@ row-at-requires c κs = search needs
 line-of-requires : tie.Need-line-of-requires Inv-loop μ-loop
 line-of-requires c κs = search needs
 
-add-word : tie.Need-add-word Inv-loop μ-loop
-add-word c = search needs
-
-sub-left : tie.Need-sub-left Inv-loop μ-loop
-sub-left c = search needs
+add-i : tie.Need-add-i Inv-loop μ-loop
+add-i c = search needs
 
 loop-less : tie.Need-loop-less Inv-loop μ-loop
 loop-less c = search needs
@@ -42,27 +30,12 @@ loop-less c = search needs
 loop-again : tie.Need-loop-again Inv-loop μ-loop
 loop-again c = search needs
 
-same-length-2 : tie.Need-same-length-2 Inv-loop μ-loop
-same-length-2 c = search needs
+same-length : tie.Need-same-length Inv-loop μ-loop
+same-length c = search needs
 
-returns-2 : tie.Need-returns-2 Inv-loop μ-loop
-returns-2 c = search needs
+returns : tie.Need-returns Inv-loop μ-loop
+returns c = search needs
 
 pub tokens-spec : {M : Type 1} → statement M
 tokens-spec =
-    tie.close
-    (tie.spec
-    Inv-loop
-    μ-loop
-    loop-holds
-    sub-if1
-    same-length
-    returns
-    row-at-requires
-    line-of-requires
-    add-word
-    sub-left
-    loop-less
-    loop-again
-    same-length-2
-    returns-2)
+    tie.close (tie.spec Inv-loop μ-loop loop-holds row-at-requires line-of-requires add-i loop-less loop-again same-length returns)

@@ -3,8 +3,8 @@ use mathlib.Core.Path.{_≡_}
 use Prim.Native.Nat.{_-_}
 use lib.ListN.{length}
 use borrow.Author.Needs.{needs}
-use Rattle.showing.proofs.lex_mode.bodies.Statement.{statement}
-use Rattle.showing.proofs.lex_mode.bodies.Tie as tie
+use Rattle.printing.proofs.token.bodies.Statement.{statement}
+use Rattle.printing.proofs.token.bodies.Tie as tie
 
 abbrev Inv-loop : tie.InvT-loop
 Inv-loop source out₀ at start end count p₀ i₀ out p i = length out ≡ length out₀
