@@ -16,7 +16,7 @@ character-requires : tie.Need-character-requires
 character-requires c κs = search needs
 
 returns : tie.Need-returns
-returns c = cc
+returns c = rw (c .before .kind .ensures, c .character .ensures)
 
 pub lexical-spec : {M : Type 1} → statement M
 lexical-spec = tie.close (tie.spec kind-requires add-t6 character-requires returns)
