@@ -76,11 +76,20 @@ zero-word hi lo e = rw (lower hi lo (omega arith))
 pub no-zero : (hi lo : ℕ) → (hi ≡ 0 → ⊥) → false ≡ eqb (hi * word + lo) 0
 no-zero hi lo e = sym (ne-eqb (hi * word + lo) 0 (λ z. e (omega arith)))
 
--- ---- a tenth
+-- ---- ten times
 
 -- 2^32
 abbrev quarter : ℕ
 quarter = 0x100000000
+
+-- the parts of a long multiplication: p0 and p1 are a half of the lower word times ten with what is carried
+pub tenfold :
+    (hi lo d p0 p1 : ℕ) → p0 ≡ lo % quarter * 10 + d → p1 ≡ lo / quarter * 10 + p0 / quarter
+    → ((hi * word + lo) * 10 + d ≡ (hi * 10 + p1 / quarter) * word + (p1 % quarter * quarter + p0 % quarter))
+    × (p1 % quarter * quarter + p0 % quarter < word) × ((hi * 10 + p1 / quarter) * word ≤ (hi * word + lo) * 10 + d)
+tenfold hi lo d p0 p1 a b = omega arith
+
+-- ---- a tenth
 
 pub part-fits : (hi lo : ℕ) → lo < word → hi % 10 * quarter + lo / quarter < word
 part-fits hi lo h = omega arith

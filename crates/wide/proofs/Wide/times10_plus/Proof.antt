@@ -1,7 +1,8 @@
 -- `Wide::times10_plus` meets its contract: the lower word is enough, the answer is known from the upper word, or from the parts that were multiplied. Assumes nothing.
+use mathlib.Core.Path.{refl}
 use native.Mathlib.Omega.{arith}
 use borrow.Author.Needs.{needs}
-use Rattle.wide.proofs.Words.{small, fits-case, over-case, over-early}
+use Rattle.wide.proofs.Words.{small, fits-case, over-case, over-early, tenfold}
 use Rattle.wide.proofs.Wide.times10_plus.Statement.{statement}
 use Rattle.wide.proofs.Wide.times10_plus.Tie as tie
 
@@ -42,10 +43,15 @@ add-t20 : tie.Need-add-t20
 add-t20 c = search needs
 
 returns-3 : tie.Need-returns-3
-returns-3 c = fits-case _ _ _ (omega arith) (omega arith) (c .if3 .taken)
+returns-3 c =
+    let a = c .before .before .before .args in
+    let t = tenfold (a .self .hi) (a .self .lo) (a .d) _ _ refl refl in
+    fits-case _ _ _ (t .0) (t .1) (c .if3 .taken)
 
 returns-4 : tie.Need-returns-4
-returns-4 c = over-case _ _ (omega arith) (c .if3 .left)
+returns-4 c =
+    let a = c .before .before .before .args in
+    over-case _ _ (tenfold (a .self .hi) (a .self .lo) (a .d) _ _ refl refl .2) (c .if3 .left)
 
 pub times10-plus-spec : {M : Type 1} → statement M
 times10-plus-spec =
