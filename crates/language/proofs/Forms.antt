@@ -1,4 +1,4 @@
--- The forms that tokens, contents and values have, by the numbers of their kinds: a case over a number has only the forms of that number.
+-- The forms of tokens, contents and values by the numbers of their kinds: a case over a number has only the forms with it.
 use Prim.Native.Nat.{ℕ}
 use mathlib.Core.Path.{_≡_, subst}
 use mathlib.Core.Bool.{Bool}
