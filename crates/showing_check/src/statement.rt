@@ -84,7 +84,12 @@ fn value(
     at: usize,
 ) -> usize {
     if s.text == Text::SOURCE {
-        return token::bodies(source, token::row_at(tokens, s.value as usize).token, out, at);
+        return token::bodies(
+            source,
+            token::row_at(tokens, s.value as usize).token,
+            out,
+            at,
+        );
     }
     let p = output::byte(out, at, b' ');
     plain(text, s, out, p)
