@@ -1,5 +1,11 @@
 -- The entries leave no choice: two results that satisfy an entry's contract are equal.
-use Rattle.language.specs.Determined.{CallsDetermined}
+use Prim.Native.Nat.{ℕ}
+use mathlib.Core.Path.{_≡_}
+use mathlib.Core.Bool.{Bool}
+use mathlib.Core.List.{List}
+use Rattle.language.specs.Determined.{Determined, CallsDetermined}
+use Rattle.lex.specs.Lexing.{bodyAt}
+use Rattle.constants.specs.Constants.{textOf}
 use Rattle.scan.specs.Entry.{ScanLine}
 use Rattle.lex.specs.Entry.{LexSource}
 use Rattle.parse.specs.Entry.{ParseSource}
@@ -8,3 +14,9 @@ use Rattle.checker.specs.Entry.{CheckSource}
 
 abbrev pub EntriesDetermined : Type 0
 EntriesDetermined = CallsDetermined ScanLine LexSource ParseSource CanonSource CheckSource
+
+-- nor do the calls that hand back a part of a text: `string_body` and `name_text`
+abbrev pub PartsDetermined : Type 0
+PartsDetermined =
+    ((s : List ℕ) (start e i : ℕ) → Determined (λ (r : List ℕ). r ≡ bodyAt s start e i))
+    × ((fromTable : Bool) (source text : List ℕ) (a e : ℕ) → Determined (λ (r : List ℕ). r ≡ textOf fromTable source text a e))

@@ -8,11 +8,11 @@ use lib.Dec.{ltb, eqb}
 use lib.ListN.{length, drop}
 use Rattle.language.specs.Utf8.{firstBad}
 use Rattle.language.specs.Lexemes.{scan}
-use Rattle.language.specs.Tokens.{items, firstWrong, tokens, contents, placeOf}
+use Rattle.language.specs.Tokens.{mostBytes, items, firstWrong, tokens, contents, placeOf}
 use Rattle.language.specs.Canonical.{text}
 use Rattle.language.specs.Sentences.{Out, ok, no, Stmt, nodes}
 use Rattle.language.specs.Judgements.{Outcome, judged, refused, errorsIn}
-use Rattle.language.specs.Numbers.{mostBytes, Verdict, verdict, placed, lexical, tokenPlace, Scanned, scanned, scanAnswer, Lexed, lexed, lexAnswer, Parsed, parsedAs, parseAnswer, parsedNodes, Canonised, canonAnswer, Checked, refusedCheck, firstCall, statementsOf, checked, judgedWithin, checkAnswer}
+use Rattle.language.specs.Numbers.{Verdict, verdict, placed, lexical, tokenPlace, Scanned, scanned, scanAnswer, Lexed, lexed, lexAnswer, Parsed, parsedAs, parseAnswer, parsedNodes, Canonised, canonAnswer, Checked, refusedCheck, firstCall, statementsOf, checked, judgedWithin, checkAnswer}
 use Rattle.language.specs.Names.{FirstTooMany}
 use Rattle.language.specs.Exactly.{TooLong, NotUtf8, WrongLexeme, TokensExceed, Unexpected, OneMore, NodesExceed, bare, done, lexing, sentences, judging, parse, Reason, unexpectedToken, intOutOfRange, oneTooMany, scanRows, lexRows, parseRows, canonRows, checkRows, ScanExactly, LexExactly, ParseExactly, CanonExactly, CheckExactly}
 use Rattle.language.proofs.Tests.{never}

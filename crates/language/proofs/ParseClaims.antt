@@ -7,11 +7,11 @@ use borrow.Author.Tests.{le-ltb}
 use lib.Dec.{ltb, eqb}
 use lib.ListN.{length}
 use Rattle.language.specs.Choice.{if′}
-use Rattle.language.specs.Tokens.{Content, tokens, contents}
+use Rattle.language.specs.Tokens.{mostBytes, Content, tokens, contents}
 use Rattle.language.specs.Tables.{tokenWidth}
 use Rattle.language.specs.Sentences.{Out, ok, no, Stmt, program, nodes, nodeWidth}
 use Rattle.language.specs.Canonical.{text, Lexes}
-use Rattle.language.specs.Numbers.{mostBytes, Verdict, verdict, lexed, lexAnswer, lexedWithin, Parsed, parsed, parsedAs, parseAnswer, parseNodes, nowhere, at-token, SameParse, ParsedByContents, TextParsed}
+use Rattle.language.specs.Numbers.{Verdict, verdict, lexed, lexAnswer, lexedWithin, Parsed, parsed, parsedAs, parseAnswer, parseNodes, nowhere, at-token, SameParse, ParsedByContents, TextParsed}
 use Rattle.language.proofs.TokenContents.{as-many}
 use Rattle.language.proofs.Canonical.{round-trip}
 

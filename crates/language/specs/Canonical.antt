@@ -10,7 +10,7 @@ use Rattle.language.specs.Choice.{if′}
 use Rattle.language.specs.Integers.{decimal, hexadecimal}
 use Rattle.language.specs.Lexemes.{Tok, lParen, rParen, dot, doubleColon, colon, semiColon, equals, comma, slash, importKeyword, letKeyword, identifier, booleanLiteral, ipv4Literal, hexLiteral, decLiteral, import′, let′, true′, false′}
 use Rattle.language.specs.Utf8.{firstBad}
-use Rattle.language.specs.Tokens.{Content, eof, plain, name, string, Token, items, firstWrong, tokens, contents, between}
+use Rattle.language.specs.Tokens.{mostBytes, Content, eof, plain, name, string, Token, items, firstWrong, tokens, contents, between}
 
 -- ---- a token's spelling
 
@@ -114,14 +114,14 @@ text s = canonical (contents (tokens s))
 
 -- a source is lexed without a refusal, the room aside
 pub record Lexes (s : List ℕ) : Type 0 where
-  pub short : length s ≤ 65536
+  pub short : length s ≤ mostBytes
   pub whole : firstBad s ≡ none
   pub good : firstWrong (items s) ≡ none
 
 -- a source whose canonical text is within the size limit
 pub record Fits (s : List ℕ) : Type 0 where
   pub lexes : Lexes s
-  pub short : length (text s) ≤ 65536
+  pub short : length (text s) ≤ mostBytes
 
 -- the text lexes, to the same contents
 abbrev pub RoundTrip : Type 0

@@ -10,13 +10,13 @@ use lib.Dec.{eqb}
 use lib.ListN.{length}
 use Rattle.language.specs.Utf8.{firstBad}
 use Rattle.language.specs.Lexemes.{LexErrorKind, scan}
-use Rattle.language.specs.Tokens.{Content, Item, wrong, Wrong, items, firstWrong, tokens, contents, placeOf}
+use Rattle.language.specs.Tokens.{mostBytes, Content, Item, wrong, Wrong, items, firstWrong, tokens, contents, placeOf}
 use Rattle.language.specs.Canonical.{text}
 use Rattle.language.specs.Sentences.{Out, no, Stmt, Node, callKind, program}
 use Rattle.language.specs.Bounds.{alone, reached}
 use Rattle.language.specs.Counted.{tooMany}
 use Rattle.language.specs.Judgements.{errorsIn}
-use Rattle.language.specs.Numbers.{mostBytes, Verdict, verdict, placed, lexical, tokenPlace, scanAnswer, lexAnswer, parseAnswer, parsedNodes, canonAnswer, firstCall, statementsOf, checked, foundBy, heldBy, checkAnswer}
+use Rattle.language.specs.Numbers.{Verdict, verdict, placed, lexical, tokenPlace, scanAnswer, lexAnswer, parseAnswer, parsedNodes, canonAnswer, firstCall, statementsOf, checked, foundBy, heldBy, checkAnswer}
 use Rattle.language.specs.Names.{FirstTooMany}
 
 -- ---- "Given exactly when"

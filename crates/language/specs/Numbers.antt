@@ -11,14 +11,10 @@ use Rattle.language.specs.Canonical.{text, Lexes, Fits}
 use Rattle.language.specs.Utf8.{firstBad}
 use Rattle.language.specs.Lexemes.{scan}
 use Rattle.language.specs.Tables.{lexemeRow, lexemeWidth, tokenRow, tokenWidth, errorKind, errorChar}
-use Rattle.language.specs.Tokens.{Token, Wrong, items, firstWrong, tokens, contents, eofToken, Place, placeOf}
+use Rattle.language.specs.Tokens.{mostBytes, Token, Wrong, items, firstWrong, tokens, contents, eofToken, Place, placeOf}
 use Rattle.language.specs.Sentences.{Out, ok, no, Stmt, Node, callKind, program, nodes, nodeRow, nodeWidth}
 use Rattle.language.specs.Judgements.{Diag, Held, Outcome, judged, refused, errorsIn, warningsIn, judgeAll}
 use Rattle.language.specs.Findings.{diagRow, diagWidth, stmtRow, stmtWidth}
-
--- "source 65,536 bytes"
-abbrev pub mostBytes : ℕ
-mostBytes = 65536
 
 -- the number, which of its kinds it is, its place, and the character of an `UnexpectedChar`
 pub record Verdict : Type 0 where

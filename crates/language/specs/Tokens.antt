@@ -9,6 +9,10 @@ use lib.ListN.{length, take, drop}
 use Rattle.language.specs.Choice.{if′}
 use Rattle.language.specs.Lexemes.{Tok, lParen, rParen, dot, doubleColon, colon, semiColon, equals, comma, slash, importKeyword, letKeyword, identifier, booleanLiteral, ipv4Literal, hexLiteral, decLiteral, LexErrorKind, Kind, trivia, str, tok, error, Placed, scan}
 
+-- "Sizes are stated once: source 65,536 bytes"
+abbrev pub mostBytes : ℕ
+mostBytes = 65536
+
 -- ---- contents
 
 pub data Content : Type 0 where

@@ -74,7 +74,7 @@ fn span(source: &[u8], start: usize, end: usize) -> &[u8] {
 fn name(out: &mut [u8], at: usize, kind: u64) -> usize {
     let names =
         b"-              Eof            LParen         RParen         Dot            DoubleColon    Colon          SemiColon      Equals         Comma          Slash          ImportKeyword  LetKeyword     Identifier     BooleanLiteral IPv4Literal    StringLiteral  HexLiteral     DecLiteral     ";
-    if kind < 19 {
+    if kind <= Tok::DEC_LITERAL {
         return output::word(out, at, names, kind as usize * 15);
     }
     at
@@ -84,7 +84,7 @@ fn name(out: &mut [u8], at: usize, kind: u64) -> usize {
 fn error_name(out: &mut [u8], at: usize, kind: u64) -> usize {
     let names =
         b"-                  UnexpectedChar     UnterminatedString IntOutOfRange      IntLeadingZero     IntInvalidSuffix   IPv4Literal        ";
-    if kind < 7 {
+    if kind <= LexErrorKind::IPV4_LITERAL {
         return output::word(out, at, names, kind as usize * 19);
     }
     at

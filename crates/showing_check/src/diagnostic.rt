@@ -65,7 +65,7 @@ fn kind(out: &mut [u8], at: usize, n: u64) -> usize {
         -                -                -                -                -                -                \
         -                -                -                -                IntegralTooLarge MultipleImports  \
         DiscardedValue   Truncated        ";
-    if n < 26 {
+    if n <= Fault::TRUNCATED {
         return output::word(out, at, words, n as usize * 17);
     }
     at

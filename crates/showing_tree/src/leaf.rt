@@ -28,7 +28,7 @@ fn opened(out: &mut [u8], at: usize, bracket: &[u8], kind: u64) -> usize {
     let words =
         b"-      -      -      sock4  local  path   member slash  call   arg    named  import let    expr   bool   ip4    str    int    int    ";
     let p = output::text(out, at, bracket);
-    if kind < 19 {
+    if kind <= Tok::DEC_LITERAL {
         return output::word(out, p, words, kind as usize * 7);
     }
     p

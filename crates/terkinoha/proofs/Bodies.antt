@@ -20,7 +20,8 @@ use Rattle.lex.proofs.Bodies.{is-literal}
 use Rattle.terkinoha.specs.declared.Literal.{Literal}
 use Rattle.terkinoha.specs.declared.Literal.the-variants.{At, Nowhere}
 use Rattle.terkinoha.specs.declared.Body.{Body}
-use Rattle.terkinoha.specs.Bodies.{Span, spanOf, spansFrom, bodySpans, none, first, FirstOf}
+use Rattle.language.proofs.Determined.{determined}
+use Rattle.terkinoha.specs.Bodies.{Span, spanOf, spansFrom, bodySpans, none, first, FirstOf, BodiesDetermined}
 use Rattle.terkinoha.proofs.Spans.{within, beyond, walk-goes-on}
 
 -- ---- the loop
@@ -130,3 +131,6 @@ module _ {s : List ℕ} {start e i left : ℕ} {body : Body} (k : Seeking s star
       let o = others s (k .from) e (bodySpans s (k .from) e) (rw (k .is) at f) refl in
       let n : 1 + (left - 1) ≡ left = omega arith in
       record { from = body .next; is = w; same = rw (k .is, o, drop-drop, n) (k .same) }
+
+pub bodies-determined : BodiesDetermined
+bodies-determined = (λ _ _ _. determined (λ _ h. h), λ _ _ _ _. determined (λ _ h. h))

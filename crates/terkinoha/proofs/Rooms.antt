@@ -14,11 +14,11 @@ use Rattle.language.specs.Tables.{lexemeWidth, tokenWidth}
 use Rattle.language.specs.Findings.{stmtWidth}
 use Rattle.language.specs.Utf8.{firstBad}
 use Rattle.language.specs.Lexemes.{scan}
-use Rattle.language.specs.Tokens.{Content, Token, items, firstWrong, Wrong, tokens, contents, placeOf}
+use Rattle.language.specs.Tokens.{mostBytes, Content, Token, items, firstWrong, Wrong, tokens, contents, placeOf}
 use Rattle.language.specs.Sentences as sentences
 use Rattle.language.specs.Sentences.{Out, Stmt, ok, program, nodes, nodeWidth}
 use Rattle.language.specs.Judgements.{Outcome, judged, refused, errorsIn, judgeAll}
-use Rattle.language.specs.Numbers.{mostBytes, Scanned, Lexed, Parsed, Canonised, Checked, verdict, scanned, counted, lexed, lexical, placed, lexedWithin, parsedAs, parsedNodes, firstCall, checked, judgedWithin, scanAnswer, lexAnswer, parseAnswer, canonAnswer, checkAnswer}
+use Rattle.language.specs.Numbers.{Scanned, Lexed, Parsed, Canonised, Checked, verdict, scanned, counted, lexed, lexical, placed, lexedWithin, parsedAs, parsedNodes, firstCall, checked, judgedWithin, scanAnswer, lexAnswer, parseAnswer, canonAnswer, checkAnswer}
 use Rattle.language.proofs.JudgementClaims.{all-counted}
 use Rattle.language.proofs.LexemeSizes.{by-cases}
 use Rattle.language.proofs.LexemeSpans.{spans-join}

@@ -7,6 +7,7 @@ use lib.ListN.{length, take, drop}
 use Rattle.language.specs.Choice.{if′}
 use Rattle.language.specs.Lexemes.{Kind, trivia, str, tok, error, Placed, scanFrom}
 use Rattle.language.specs.Tokens.{Token, string, tokens, between}
+use Rattle.language.specs.Determined.{Determined}
 use Rattle.terkinoha.specs.declared.Body.{Body}
 use Rattle.terkinoha.specs.declared.Literal.{Literal}
 use Rattle.terkinoha.specs.declared.Literal.the-variants.{At, Nowhere}
@@ -68,3 +69,9 @@ BodiesLie =
 abbrev pub WalkGoesOn : Type 0
 WalkGoesOn =
     (s : List ℕ) (at e : ℕ) (x : Span) (xs : List Span) → bodySpans s at e ≡ x ∷ xs → bodySpans s (first (x ∷ xs) .next) e ≡ xs
+
+-- two results that satisfy a call's promise are equal: `terkinoha_next_body` and `terkinoha_body_at`
+abbrev pub BodiesDetermined : Type 0
+BodiesDetermined =
+    ((s : List ℕ) (at e : ℕ) → Determined (λ (r : Body). r ≡ first (bodySpans s at e)))
+    × ((s : List ℕ) (start e i : ℕ) → Determined (λ (r : Body). r ≡ first (drop i (bodySpans s start e))))

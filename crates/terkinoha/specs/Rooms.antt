@@ -7,7 +7,8 @@ use Rattle.language.specs.Canonical.{text}
 use Rattle.language.specs.Tables.{lexemeWidth, tokenWidth}
 use Rattle.language.specs.Sentences.{nodeWidth}
 use Rattle.language.specs.Findings.{stmtWidth}
-use Rattle.language.specs.Numbers.{mostBytes, scanAnswer, lexAnswer, parseAnswer, canonAnswer, checkAnswer}
+use Rattle.language.specs.Tokens.{mostBytes}
+use Rattle.language.specs.Numbers.{scanAnswer, lexAnswer, parseAnswer, canonAnswer, checkAnswer}
 use Rattle.terkinoha.specs.declared.Scanned.{Scanned}
 use Rattle.terkinoha.specs.declared.Lexed.{Lexed}
 use Rattle.terkinoha.specs.declared.Parsed.{Parsed}
