@@ -30,7 +30,7 @@ both {o = ok a at s} h g = g a at s (h .reaches)
 both {o = no n k at} h g = record { reaches = h .reaches }
 
 module _ (ts : List Content) (m : ℕ) where
-  names-on : (fuel n at s : ℕ) → m ≤ at → On m (namesFrom ts fuel n at s)
+  pub names-on : (fuel n at s : ℕ) → m ≤ at → On m (namesFrom ts fuel n at s)
   unfolding namesFrom
   names-on zero n at s h = halted h
   names-on (suc fuel) n at s h =

@@ -49,6 +49,7 @@ pub mod SentenceRefusals
 pub mod BoundsPlaces
 pub mod BoundsFreer
 pub mod Bounds
+pub mod Follows
 pub mod GrammarStops
 pub mod CountedTokens
 pub mod CountedGrammar

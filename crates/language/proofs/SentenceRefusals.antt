@@ -14,6 +14,7 @@ use Rattle.language.specs.Tokens.{Content, eof, plain, name}
 use Rattle.language.specs.Tables.{contentKind}
 use Rattle.language.specs.Sentences.{Expr, sock4, member, call, slash′, Args, none-given, Stmt, import′, let′, expr′, Port, port, tooLarge, notPort, portOf, Out, ok, no, andThen, unexpected, outOfRange, tooDeep, mostSteps, mostLists, is, isName, isLiteral, namesFrom, address, named′, primary, links, chainOf, slashes, exprOf, argOf, argsOf, listAt, exprAt, ended, importAt, letAt, stmtAt, stmtsFrom, program}
 use Rattle.language.specs.Grammar.{isPort, isStep, StopsAtStep}
+use Rattle.language.specs.Follows.{TooLargePort}
 use Rattle.language.specs.Exactly.{Reason, unexpectedToken, intOutOfRange, oneTooMany, StopsFor}
 
 -- the three steps
@@ -27,12 +28,16 @@ module _ (ts : List Content) (at : ℕ) where
   pub at-slash : is ts at (plain slash) ≡ true → isStep ts at ≡ true
   at-slash h = rw (h, or-true (is ts at (plain lParen))) (or-true (is ts at (plain dot)))
 
+-- a refusal stands at e or before and has a reason: 7 stands at a step, and 5's second kind at a port that is too large
+abbrev pub Refusal : List Content → ℕ → ℕ → ℕ → ℕ → Type 0
+Refusal ts e n k t = (t ≤ e) × Reason n k × (n ≡ 7 → isStep ts t ≡ true) × (k ≡ 2 → portOf (getD ts t eof) ≡ tooLarge)
+
 -- e is the index of an `Eof`
 module _ (ts : List Content) (e : ℕ) (end : getD ts e eof ≡ eof) where
-  -- what is found ends at e or before, with at most m steps left; a refusal has a reason and stands at e or before
+  -- what is found ends at e or before, with at most m steps left
   abbrev OutcomeOf : {A : Type 0} → ℕ → Out A → Type 0
   OutcomeOf m (ok a at s) = (at ≤ e) × (s ≤ m)
-  OutcomeOf m (no n k t) = (t ≤ e) × Reason n k × (n ≡ 7 → isStep ts t ≡ true)
+  OutcomeOf m (no n k t) = Refusal ts e n k t
 
   record Sound {A : Type 0} (m : ℕ) (o : Out A) : Type 0 where
     outcome : OutcomeOf m o
@@ -41,10 +46,10 @@ module _ (ts : List Content) (e : ℕ) (end : getD ts e eof ≡ eof) where
   good l h = record { outcome = (l, h) }
 
   five : {A : Type 0} {m at : ℕ} → at ≤ e → Sound {A = A} m (unexpected at)
-  five l = record { outcome = (l, unexpectedToken, λ q. absurd (omega arith)) }
+  five l = record { outcome = (l, unexpectedToken, λ q. absurd (omega arith), λ q. absurd (omega arith)) }
 
   seven : {A : Type 0} {m at : ℕ} → at ≤ e → isStep ts at ≡ true → Sound {A = A} m (tooDeep at)
-  seven l p = record { outcome = (l, oneTooMany, λ _. p) }
+  seven l p = record { outcome = (l, oneTooMany, λ _. p, λ q. absurd (omega arith)) }
 
   either : {A : Type 0} {m : ℕ} (b : Bool) {o q : Out A} → (b ≡ true → Sound m o) → (b ≡ false → Sound m q) → Sound m (if′ b o q)
   either true h l = h refl
@@ -90,7 +95,7 @@ module _ (ts : List Content) (e : ℕ) (end : getD ts e eof ≡ eof) where
       by : at + 2 ≤ e → (p : Port) → portOf (getD ts (at + 2) eof) ≡ p
           → Sound {A = Expr} s (elim p [ port ↦ ok (sock4 at) (at + 3) s | tooLarge ↦ outOfRange (at + 2) | notPort ↦ unexpected (at + 2) ])
       by j port p = let i = passed (λ x. isPort (portOf x)) refl j (ap isPort p) in good (omega arith) (omega arith)
-      by j tooLarge p = record { outcome = (j, intOutOfRange, λ q. absurd (omega arith)) }
+      by j tooLarge p = record { outcome = (j, intOutOfRange, λ q. absurd (omega arith), λ _. p) }
       by j notPort p = five j
 
   named-sound : (at s : ℕ) → at < e → Sound s (named′ ts at s)
@@ -220,11 +225,11 @@ module _ (ts : List Content) (e : ℕ) (end : getD ts e eof ≡ eof) where
   pub ends-inside : {ss : List Stmt} {next x : ℕ} → program ts ≡ ok ss next x → next ≤ e
   ends-inside h = let f = rw h at program-sound in f .outcome .0
 
-  pub refused-inside : {n k t : ℕ} → program ts ≡ no n k t → (t ≤ e) × Reason n k × (n ≡ 7 → isStep ts t ≡ true)
+  pub refused-inside : {n k t : ℕ} → program ts ≡ no n k t → Refusal ts e n k t
   refused-inside h = let f = rw h at program-sound in f .outcome
 
 -- past the last token is `Eof`
-refused : (ts : List Content) {n k t : ℕ} → program ts ≡ no n k t → (t ≤ length ts) × Reason n k × (n ≡ 7 → isStep ts t ≡ true)
+refused : (ts : List Content) {n k t : ℕ} → program ts ≡ no n k t → Refusal ts (length ts) n k t
 refused ts h = refused-inside ts (length ts) (List·getD-eq-default ts eof (omega arith)) h
 
 pub stops-for : StopsFor
@@ -232,6 +237,9 @@ stops-for ts n k at h = refused ts h .1
 
 pub stops-at-step : StopsAtStep
 stops-at-step ts k at h = refused ts h .2 refl
+
+pub too-large-port : TooLargePort
+too-large-port ts t h = refused ts h .3 refl
 
 -- so a refusal has the number 5 or 7
 pub refused-number : (ts : List Content) (n k at : ℕ) → program ts ≡ no n k at → (n ≡ 5) ⊎ (n ≡ 7)

@@ -9,6 +9,7 @@ pub mod Tables
 pub mod Sentences
 pub mod Grammar
 pub mod Bounds
+pub mod Follows
 pub mod Counted
 pub mod Rows
 pub mod Values
