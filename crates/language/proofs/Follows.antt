@@ -88,7 +88,7 @@ module _ (ts us : List Content) (t : ℕ) (shared : (i : ℕ) → i ≤ t → ge
       let i = r a at s (h .reaches) refl in
       record {
         reaches = omega (arith, h .reaches, i .reaches);
-        agrees = λ l. rw (h .agrees (omega (arith, i .reaches))) (i .agrees l)
+        agrees = λ l. rw (h .agrees (omega (arith, i .reaches))) (i .agrees l);
       }
   onward {o = no n k at} h r = record { reaches = h .reaches; agrees = λ l. rw (h .agrees l) }
 
@@ -107,7 +107,7 @@ module _ (ts us : List Content) (t : ℕ) (shared : (i : ℕ) → i ≤ t → ge
     turns = λ j.
         let e = h .turns (omega arith) in
         let s = inside (omega arith) in
-        (omega (arith, e .2, s .0), omega (arith, e .3, s .1), omega (arith, e .2), omega (arith, e .3))
+        (omega (arith, e .2, s .0), omega (arith, e .3, s .1), omega (arith, e .2), omega (arith, e .3));
   }
 
   inner : {i : ℕ} (c : Content) → eqb 1 (contentKind c) ≡ false → is ts i c ≡ true → i ≤ t → (i < length ts) × (i < length us)
