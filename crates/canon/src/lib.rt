@@ -11,12 +11,11 @@ ghost use Rattle.language.specs.Canonical.{spellDigits, spellQuad, quoted};
 ghost use Rattle.wide.specs.Wide.{valueOf};
 ghost use Rattle.canon.specs.Writing.{Writes, literalsText, literalText, markOf, boolText, fixedText, rowText, gapText, RowFits, Lexes, WritesText};
 ghost use Rattle.canon.specs.Entry.{CanonSource};
-use lex::Lexer;
-use lex::TokenRow;
+use rows::TokKind;
+use rows::TokenRow;
 use scan::LexemeKind;
 use scan::Scanner;
 use scan::Step;
-use scan::Tok;
 use scan::Verdict;
 use wide::Wide;
 
@@ -157,13 +156,13 @@ fn mark(kind: u64) -> u8
     ensures { λ r. ⌜ r ≡ markOf kind ⌝ }
 {
     match kind {
-        Tok::LPAREN => b'(',
-        Tok::RPAREN => b')',
-        Tok::DOT => b'.',
-        Tok::COLON => b':',
-        Tok::SEMI_COLON => b';',
-        Tok::EQUALS => b'=',
-        Tok::COMMA => b',',
+        TokKind::LPAREN => b'(',
+        TokKind::RPAREN => b')',
+        TokKind::DOT => b'.',
+        TokKind::COLON => b':',
+        TokKind::SEMI_COLON => b';',
+        TokKind::EQUALS => b'=',
+        TokKind::COMMA => b',',
         _ => b'/',
     }
 }
@@ -186,10 +185,10 @@ fn fixed_text(kind: u64, low: u64, text: &mut [u8], at: usize) -> usize
     ensures { λ r. ⌜ r ≤ at + 6 ⌝ }
 {
     match kind {
-        Tok::DOUBLE_COLON => copy(b"::", 0, 2, text, at),
-        Tok::IMPORT_KEYWORD => copy(b"import", 0, 6, text, at),
-        Tok::LET_KEYWORD => copy(b"let", 0, 3, text, at),
-        Tok::BOOLEAN_LITERAL => bool_text(low, text, at),
+        TokKind::DOUBLE_COLON => copy(b"::", 0, 2, text, at),
+        TokKind::IMPORT_KEYWORD => copy(b"import", 0, 6, text, at),
+        TokKind::LET_KEYWORD => copy(b"let", 0, 3, text, at),
+        TokKind::BOOLEAN_LITERAL => bool_text(low, text, at),
         _ => put(mark(kind), text, at),
     }
 }
@@ -206,11 +205,11 @@ fn token_text(source: &[u8], toks: &[u64], row: usize, text: &mut [u8], at: usiz
     let low = toks[row + TokenRow::LOW];
     let high = toks[row + TokenRow::HIGH];
     match kind {
-        Tok::IDENTIFIER => copy(source, start, end, text, at),
-        Tok::IPV4_LITERAL => quad_text(low, text, at),
-        Tok::STRING_LITERAL => literals(&source[start..end], text, at),
-        Tok::HEX_LITERAL => hex_text(Wide { hi: high, lo: low }, text, at),
-        Tok::DEC_LITERAL => decimal_text(Wide { hi: high, lo: low }, text, at),
+        TokKind::IDENTIFIER => copy(source, start, end, text, at),
+        TokKind::IPV4_LITERAL => quad_text(low, text, at),
+        TokKind::STRING_LITERAL => literals(&source[start..end], text, at),
+        TokKind::HEX_LITERAL => hex_text(Wide { hi: high, lo: low }, text, at),
+        TokKind::DEC_LITERAL => decimal_text(Wide { hi: high, lo: low }, text, at),
         _ => fixed_text(kind, low, text, at),
     }
 }
@@ -221,11 +220,11 @@ fn separator(kind: u64, next: u64, text: &mut [u8], at: usize) -> usize
     ensures { λ r. ⌜ Writes (now (text .entry)) at (gapText kind next) r (now (text .exit)) ⌝ }
     ensures { λ r. ⌜ r ≤ at + 1 ⌝ }
 {
-    if kind == Tok::SEMI_COLON {
+    if kind == TokKind::SEMI_COLON {
         return put(10, text, at);
     }
     // nothing before `Eof`
-    if next == Tok::EOF {
+    if next == TokKind::EOF {
         return at;
     }
     put(32, text, at)
@@ -242,8 +241,8 @@ fn all_text(source: &[u8], toks: &[u64], count: usize, text: &mut [u8]) -> usize
         if Scanner::MOST_BYTES < at {
             return at;
         }
-        let next = i * Lexer::ROW_WORDS;
-        let row = next - Lexer::ROW_WORDS;
+        let next = i * TokenRow::WORDS;
+        let row = next - TokenRow::WORDS;
         let end = token_text(source, toks, row, text, at);
         at = separator(toks[row], toks[next], text, end);
         i += 1;

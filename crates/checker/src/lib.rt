@@ -28,11 +28,10 @@ use judging::Name;
 use judging::Text;
 use judging::Token;
 use judging::Value;
-use lex::Lexer;
-use parse::NodeKind;
-use parse::NodeRow;
-use parse::Parser;
-use scan::Tok;
+use rows::NodeKind;
+use rows::NodeRow;
+use rows::TokKind;
+use rows::TokenRow;
 use scan::Verdict;
 use wide::Size;
 use wide::Wide;
@@ -163,7 +162,7 @@ fn held_one(counts: Counts) -> Counts
 fn name_span(tok: Token) -> Span
     ensures { λ r. ⌜ ((s : List ℕ) (t : ℕ) → tok ≡ tokenAs (tokenOf s t) → between s (r .start) (r .end) ≡ nameAt (contents (tokens s)) t) ⌝ }
 {
-    if tok.kind == Tok::IDENTIFIER {
+    if tok.kind == TokKind::IDENTIFIER {
         return Span {
             start: tok.start,
             end: tok.end,
@@ -558,7 +557,7 @@ fn run(source: &[u8], toks: &[u64], nodes: &[u64], diags: &mut [u64], stmts: &mu
     let mut bindings = Checker::names();
     let mut imports = Checker::modules();
     let mut counts = Checker::start();
-    let rows = nodes.len() / Parser::ROW_WORDS;
+    let rows = nodes.len() / NodeRow::WORDS;
     let mut i: usize = 0;
     while i < rows {
         match stmt(
@@ -616,7 +615,7 @@ fn first_call(nodes: &[u64]) -> Call
     ensures { λ r. ⌜ ((ns : List Node) → now (nodes .entry) ≡ flat nodeRow ns → r ≡ callAs (firstCall ns)) ⌝ }
 {
     let mut found = Call::Nowhere;
-    let mut i = nodes.len() / Parser::ROW_WORDS;
+    let mut i = nodes.len() / NodeRow::WORDS;
     while 0 < i {
         i -= 1;
         if judging::word(nodes, i, NodeRow::KIND) == NodeKind::CALL {
@@ -677,7 +676,7 @@ fn at_token(toks: &[u64], count: usize, number: u64, t: u64) -> Verdict
     requires { ⌜ (1 ≤ count) × (7 * count ≤ length (now toks)) ⌝ }
     ensures { λ r. ⌜ ((s : List ℕ) → Lexed s (take (7 * count) (now (toks .entry))) → r ≡ verdictAs (placed number (tokenPlace s t))) ⌝ }
 {
-    let rows = Lexer::ROW_WORDS * count;
+    let rows = TokenRow::WORDS * count;
     let tok = judging::token_at(&toks[..rows], t);
     Verdict::new(number, tok.line, tok.column)
 }
@@ -730,8 +729,8 @@ fn check_statements(
         → CheckSource (now (source .entry)) (length (now (toks .entry))) (length (now (nodes .entry))) (length (now (diags .entry))) (length (now (stmts .entry)))
         r (now (toks .exit)) (now (nodes .exit)) (now (diags .exit)) (now (stmts .exit))) ⌝ }
 {
-    let token_words = Lexer::ROW_WORDS * count;
-    let node_words = Parser::ROW_WORDS * rows;
+    let token_words = TokenRow::WORDS * count;
+    let node_words = NodeRow::WORDS * rows;
     match run(
         source,
         &toks[..token_words],
@@ -762,7 +761,7 @@ fn check_tree(
     ensures { λ r. ⌜ CheckSource (now (source .entry)) (length (now (toks .entry))) (length (now (nodes .entry))) (length (now (diags .entry))) (length (now (stmts .entry)))
         r (now (toks .exit)) (now (nodes .exit)) (now (diags .exit)) (now (stmts .exit)) ⌝ }
 {
-    let node_words = Parser::ROW_WORDS * rows;
+    let node_words = NodeRow::WORDS * rows;
     match first_call(&nodes[..node_words]) {
         Call::At(t) => {
             let found = at_token(toks, count, Verdict::CALLS, t);

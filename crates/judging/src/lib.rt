@@ -15,12 +15,10 @@ ghost use Rattle.constants.specs.Constants.{tableRows};
 ghost use Rattle.judging.specs.Judging.{tokenAs, rowToken, Lexed, valueAs, sock4As, judgedAs, namedAs, TypeShown, TypeText, TypedFault, truncatedAs, faultRow, isIntegral, keyOf, nameWord, nameOf, Keyed, namesIn, place, heldAs, LocalIs, PathIs, Ready, Knows, Agrees, LeafIs, Members, Operand, Narrows, Integral, word, RepAt, Fits, SlashFits, plusWarnings};
 use constants::Constants;
 use constants::Ty;
-use lex::Lexer;
-use lex::TokenRow;
-use parse::NodeKind;
-use parse::NodeRow;
-use parse::Parser;
-use scan::Tok;
+use rows::NodeKind;
+use rows::NodeRow;
+use rows::TokKind;
+use rows::TokenRow;
 use wide::Wide;
 
 // A row of the token table.
@@ -173,7 +171,7 @@ fn token_row(toks: &[u64], i: usize) -> Token
     requires { ⌜ 7 * i + 7 ≤ length (now toks) ⌝ }
     ensures { λ r. ⌜ r ≡ rowToken (now (toks .entry)) i ⌝ }
 {
-    let at = Lexer::ROW_WORDS * i;
+    let at = TokenRow::WORDS * i;
     Token {
         kind: toks[at],
         line: toks[at + TokenRow::LINE],
@@ -190,7 +188,7 @@ pub fn token_at(toks: &[u64], t: u64) -> Token
     requires { ⌜ 7 ≤ length (now toks) ⌝ }
     ensures { λ r. ⌜ ((s : List ℕ) → Lexed s (now (toks .entry)) → r ≡ tokenAs (tokenOf s t)) ⌝ }
 {
-    let count = toks.len() / Lexer::ROW_WORDS;
+    let count = toks.len() / TokenRow::WORDS;
     let i = t as usize;
     if i < count {
         return token_row(toks, i);
@@ -203,7 +201,7 @@ fn two_after(toks: &[u64], t: u64) -> Token
     requires { ⌜ 7 ≤ length (now toks) ⌝ }
     ensures { λ r. ⌜ ((s : List ℕ) → Lexed s (now (toks .entry)) → r ≡ tokenAs (tokenOf s (t + 2))) ⌝ }
 {
-    let count = toks.len() / Lexer::ROW_WORDS;
+    let count = toks.len() / TokenRow::WORDS;
     if (t as usize) < count {
         return token_at(toks, t + 2);
     }
@@ -214,7 +212,7 @@ fn two_after(toks: &[u64], t: u64) -> Token
 pub fn name_at(source: &[u8], tok: Token) -> &[u8]
     ensures { λ r. ⌜ ((t : ℕ) → tok ≡ tokenAs (tokenOf (now (source .entry)) t) → now r ≡ nameAt (contents (tokens (now (source .entry)))) t) ⌝ }
 {
-    if tok.kind == Tok::IDENTIFIER {
+    if tok.kind == TokKind::IDENTIFIER {
         return constants::part(source, tok.start as usize, tok.end as usize);
     }
     constants::part(source, 0, 0)
@@ -503,17 +501,17 @@ fn literal(toks: &[u64], t: u64) -> Value
     let tok = token_at(toks, t);
     let kind = tok.kind;
     match kind {
-        Tok::BOOLEAN_LITERAL => Value {
+        TokKind::BOOLEAN_LITERAL => Value {
             kind: Ty::BOOL,
             lo: tok.lo,
             hi: 0,
         },
-        Tok::IPV4_LITERAL => Value {
+        TokKind::IPV4_LITERAL => Value {
             kind: Ty::IP4,
             lo: tok.lo,
             hi: 0,
         },
-        Tok::STRING_LITERAL => Value {
+        TokKind::STRING_LITERAL => Value {
             kind: Ty::BYTES,
             lo: t,
             hi: 0,
@@ -547,7 +545,7 @@ pub fn word(nodes: &[u64], i: usize, j: usize) -> u64
     requires { ⌜ (5 * i + 5 ≤ length (now nodes)) × (j < 5) ⌝ }
     ensures { λ r. ⌜ r ≡ word (now (nodes .entry)) i j ⌝ }
 {
-    nodes[Parser::ROW_WORDS * i + j]
+    nodes[NodeRow::WORDS * i + j]
 }
 
 // An expression that holds no other: row i, of a kind below `MEMBER`.

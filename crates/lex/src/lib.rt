@@ -7,6 +7,8 @@ ghost use Rattle.language.specs.Tokens.{placeOf, between, bodiesIn};
 ghost use Rattle.lex.specs.Entry.{LexSource};
 ghost use Rattle.scan.specs.Scanning.{errorNumber, errorChar};
 ghost use Rattle.lex.specs.Lexing.{Strings, Flushes, Tokens, Few, lineItems, Feeds, Finishes, lineEnd, FeedsAll, spotAs, nth, bodyAt};
+use rows::TokKind;
+use rows::TokenRow;
 use scan::LexErrorKind;
 use scan::LexemeKind;
 use scan::Scanner;
@@ -47,23 +49,6 @@ pub struct Spot {
     pub column: u64,
 }
 
-// A row of the token table: its words in their order, the first of which is the token's kind.
-pub struct TokenRow {}
-
-impl TokenRow {
-    pub const LINE: usize = 1;
-
-    pub const COLUMN: usize = 2;
-
-    pub const START: usize = 3;
-
-    pub const END: usize = 4;
-
-    pub const LOW: usize = 5;
-
-    pub const HIGH: usize = 6;
-}
-
 pub struct Lexed {
     pub verdict: Verdict,
     pub count: u64,
@@ -84,9 +69,6 @@ impl PendingStr {
 }
 
 impl Lexer {
-    // How many words a row of the token table has.
-    pub const ROW_WORDS: usize = 7;
-
     pub fn new() -> Self
         ensures { λ r. ⌜ (r .lno ≡ 0) × (r .count ≡ 0) × (r .pending .bodies ≡ 0) ⌝ }
     {
@@ -140,7 +122,7 @@ impl Lexer {
             return self;
         }
         let row = [
-            Tok::STRING_LITERAL,
+            TokKind::STRING_LITERAL,
             p.line,
             p.column,
             p.start,
@@ -232,7 +214,7 @@ impl Lexer {
         ensures { λ r. ⌜ Finishes self (now (table .entry)) size r (now (table .exit)) ⌝ }
     {
         let lexer = self.flush(table);
-        let row = [Tok::EOF, lexer.lno + 1, 1, size as u64, size as u64, 0, 0];
+        let row = [TokKind::EOF, lexer.lno + 1, 1, size as u64, size as u64, 0, 0];
         table::put_row(table, lexer.count, &row);
         Lexer {
             lno: lexer.lno,
@@ -319,7 +301,7 @@ fn refused(verdict: Verdict) -> Lexed
 pub fn lex_source(source: &[u8], table: &mut [u64]) -> Lexed
     ensures { λ r. ⌜ LexSource (now (source .entry)) (length (now (table .entry))) r (now (table .exit)) ⌝ }
 {
-    let room = table.len() / Lexer::ROW_WORDS;
+    let room = table.len() / TokenRow::WORDS;
     table::clear(table);
     if Scanner::MOST_BYTES < source.len() {
         return refused(Verdict::new(Verdict::TOO_LONG, 0, 0));

@@ -10,58 +10,12 @@ ghost use Rattle.language.specs.Tokens.{Content};
 ghost use Rattle.language.specs.Sentences.{Stmt, Node, node, mostSteps, primary, address, named′, links, chainAt, slashes, exprAt, argOf, listAt, ended, importAt, letAt, stmtAt, program};
 ghost use Rattle.parse.specs.Entry.{GivesUp, Lexes, ParseSource};
 ghost use Rattle.parse.specs.Parsing.{kindAt, literalKind, portAt, portAs, portTokOf, isNamed, argKind, valueFrom, Room, Rep, Holds, Pushes, withStmt, exprStmt, After, AfterExpr, AfterArgs, MetExpr, MetArg, MetArgs, MetStmt, MetAll, Ahead, AheadList, rowVerdict, verdictAt};
-use lex::Lexer;
-use lex::TokenRow;
-use scan::Tok;
+use rows::NodeKind;
+use rows::NodeRow;
+use rows::TokKind;
+use rows::TokenRow;
 use scan::Verdict;
 use wide::Wide;
-
-// The kinds of nodes, by their numbers; docs/TABLES.md has what each row holds.
-pub struct NodeKind {}
-
-impl NodeKind {
-    // a further name of a path
-    pub const NAME: u64 = 1;
-
-    pub const LITERAL: u64 = 2;
-    // an address with a port
-    pub const SOCK4: u64 = 3;
-    // a name that is no path
-    pub const LOCAL: u64 = 4;
-
-    pub const PATH: u64 = 5;
-
-    pub const MEMBER: u64 = 6;
-
-    pub const SLASH: u64 = 7;
-
-    pub const CALL: u64 = 8;
-
-    pub const ARGUMENT: u64 = 9;
-
-    pub const NAMED_ARGUMENT: u64 = 10;
-
-    pub const IMPORT: u64 = 11;
-
-    pub const LET: u64 = 12;
-    // an expression as a statement
-    pub const EXPRESSION: u64 = 13;
-}
-
-// A row of the node table: its words in their order.
-pub struct NodeRow {}
-
-impl NodeRow {
-    pub const KIND: usize = 0;
-
-    pub const TOKEN: usize = 1;
-
-    pub const FIRST: usize = 2;
-
-    pub const SECOND: usize = 3;
-
-    pub const THIRD: usize = 4;
-}
 
 // What a part of the grammar came to.
 pub enum Parsed {
@@ -111,8 +65,6 @@ impl Parser {
     pub const MOST_STEPS: usize = 64;
 
     pub const MOST_LISTS: usize = 32;
-    // How many words a row of the node table has.
-    pub const ROW_WORDS: usize = 5;
 }
 
 // ---- tokens
@@ -122,11 +74,11 @@ fn kind_at(toks: &[u64], at: usize) -> u64
     requires { ⌜ at ≤ 4294967296 ⌝ }
     ensures { λ r. ⌜ r ≡ kindAt (now (toks .entry)) at ⌝ }
 {
-    let i = Lexer::ROW_WORDS * at;
-    if i + Lexer::ROW_WORDS <= toks.len() {
+    let i = TokenRow::WORDS * at;
+    if i + TokenRow::WORDS <= toks.len() {
         return toks[i];
     }
-    Tok::EOF
+    TokKind::EOF
 }
 
 // The token where a port is expected, with its value, whose high word is the last of the row.
@@ -134,10 +86,10 @@ fn port_tok(toks: &[u64], at: usize) -> PortTok
     requires { ⌜ at ≤ 4294967296 ⌝ }
     ensures { λ r. ⌜ r ≡ portTokOf (kindAt (now (toks .entry)) at) (getD (now (toks .entry)) (7 * at + 5) 0) (getD (now (toks .entry)) (7 * at + 6) 0) ⌝ }
 {
-    if kind_at(toks, at) != Tok::DEC_LITERAL {
+    if kind_at(toks, at) != TokKind::DEC_LITERAL {
         return PortTok::Other;
     }
-    let i = Lexer::ROW_WORDS * at;
+    let i = TokenRow::WORDS * at;
     PortTok::DecLiteral(Wide {
         hi: toks[i + TokenRow::HIGH],
         lo: toks[i + TokenRow::LOW],
@@ -176,7 +128,7 @@ fn push(
     requires { ⌜ count ≤ 4294967296 ⌝ }
     ensures { λ _. ⌜ Pushes (now (nodes .entry)) (now (nodes .exit)) count (node kind tok first second third) ⌝ }
 {
-    let row: [u64; Parser::ROW_WORDS] = [
+    let row: [u64; NodeRow::WORDS] = [
         kind,
         tok as u64,
         first as u64,
@@ -211,8 +163,8 @@ fn module_path(toks: &[u64], nodes: &mut [u64], at: usize, count: usize, steps: 
     let mut next = at + 1;
     let mut have = count;
     let mut names: usize = 0;
-    while kind_at(toks, next) == Tok::DOUBLE_COLON {
-        if kind_at(toks, next + 1) != Tok::IDENTIFIER {
+    while kind_at(toks, next) == TokKind::DOUBLE_COLON {
+        if kind_at(toks, next + 1) != TokKind::IDENTIFIER {
             return unexpected(next + 1);
         }
         push(nodes, have, NodeKind::NAME, next + 1, 0, 0, 0);
@@ -231,7 +183,7 @@ fn address(toks: &[u64], nodes: &mut [u64], at: usize, count: usize, steps: usiz
     ensures { λ r. ⌜ Ahead 1 (length (now (toks .entry))) at count steps r ⌝ }
     ensures { λ r. ⌜ After (now (toks .entry)) (now (nodes .entry)) count (λ ts ns. MetExpr r (now (nodes .exit)) ns at (address ts at steps)) ⌝ }
 {
-    if kind_at(toks, at + 1) != Tok::COLON {
+    if kind_at(toks, at + 1) != TokKind::COLON {
         push(nodes, count, NodeKind::LITERAL, at, 0, 0, 0);
         return Parsed::Done(at + 1, count + 1, steps);
     }
@@ -249,9 +201,9 @@ fn address(toks: &[u64], nodes: &mut [u64], at: usize, count: usize, steps: usiz
 fn is_literal(kind: u64) -> bool
     ensures { λ r. ⌜ r ≡ literalKind kind ⌝ }
 {
-    (kind == Tok::BOOLEAN_LITERAL)
-        | ((kind == Tok::STRING_LITERAL)
-            | ((kind == Tok::HEX_LITERAL) | (kind == Tok::DEC_LITERAL)))
+    (kind == TokKind::BOOLEAN_LITERAL)
+        | ((kind == TokKind::STRING_LITERAL)
+            | ((kind == TokKind::HEX_LITERAL) | (kind == TokKind::DEC_LITERAL)))
 }
 
 // A literal, an address, a name or a path.
@@ -266,9 +218,9 @@ fn primary(toks: &[u64], nodes: &mut [u64], at: usize, count: usize, steps: usiz
         return Parsed::Done(at + 1, count + 1, steps);
     }
     match kind {
-        Tok::IPV4_LITERAL => address(toks, nodes, at, count, steps),
-        Tok::IDENTIFIER => {
-            if kind_at(toks, at + 1) == Tok::DOUBLE_COLON {
+        TokKind::IPV4_LITERAL => address(toks, nodes, at, count, steps),
+        TokKind::IDENTIFIER => {
+            if kind_at(toks, at + 1) == TokKind::DOUBLE_COLON {
                 return module_path(toks, nodes, at, count, steps);
             }
             push(nodes, count, NodeKind::LOCAL, at, 0, 0, 0);
@@ -309,7 +261,7 @@ fn slashes(toks: &[u64], nodes: &mut [u64], p: Parser, start: usize, count: usiz
     let mut at = start;
     let mut have = count;
     let mut more = p.steps;
-    while kind_at(toks, at) == Tok::SLASH {
+    while kind_at(toks, at) == TokKind::SLASH {
         if more == 0 {
             return too_deep(at);
         }
@@ -364,7 +316,7 @@ fn links(toks: &[u64], nodes: &mut [u64], p: Parser, start: usize, count: usize)
     let mut more = p.steps;
     loop {
         let t = kind_at(toks, at);
-        if t == Tok::LPAREN {
+        if t == TokKind::LPAREN {
             if more == 0 {
                 return too_deep(at);
             }
@@ -377,11 +329,11 @@ fn links(toks: &[u64], nodes: &mut [u64], p: Parser, start: usize, count: usize)
                 }
                 Listed::Refused(number, kind, a) => return Parsed::Refused(number, kind, a),
             }
-        } else if t == Tok::DOT {
+        } else if t == TokKind::DOT {
             if more == 0 {
                 return too_deep(at);
             }
-            if kind_at(toks, at + 1) != Tok::IDENTIFIER {
+            if kind_at(toks, at + 1) != TokKind::IDENTIFIER {
                 return unexpected(at + 1);
             }
             push(nodes, have, NodeKind::MEMBER, p.first, have - 1, at + 1, 0);
@@ -402,8 +354,8 @@ fn arg_head(toks: &[u64], at: usize) -> ArgHead
     ensures { λ r. ⌜ (r .kind ≡ argKind (isNamed (now (toks .entry)) at)) × (r .value ≡ valueFrom (isNamed (now (toks .entry)) at) at) ⌝ }
     ensures { λ r. ⌜ (at ≤ r .value) × (7 * r .value ≤ length (now (toks .entry))) ⌝ }
 {
-    if kind_at(toks, at) == Tok::IDENTIFIER {
-        if kind_at(toks, at + 1) == Tok::COLON {
+    if kind_at(toks, at) == TokKind::IDENTIFIER {
+        if kind_at(toks, at + 1) == TokKind::COLON {
             return ArgHead {
                 kind: NodeKind::NAMED_ARGUMENT,
                 value: at + 2,
@@ -445,15 +397,15 @@ fn list(toks: &[u64], nodes: &mut [u64], start: usize, count: usize, left: usize
     let mut at = start + 1;
     let mut have = count;
     let mut last: usize = 0;
-    while kind_at(toks, at) != Tok::RPAREN {
+    while kind_at(toks, at) != TokKind::RPAREN {
         match arg(toks, nodes, at, have, left - 1, last) {
             Parsed::Done(next, m, _) => {
                 have = m;
                 last = m;
                 let t = kind_at(toks, next);
-                if t == Tok::COMMA {
+                if t == TokKind::COMMA {
                     at = next + 1;
-                } else if t == Tok::RPAREN {
+                } else if t == TokKind::RPAREN {
                     return Listed::Done(next + 1, have, last);
                 } else {
                     return Listed::Refused(Verdict::SYNTAX, Verdict::UNEXPECTED_TOKEN, next);
@@ -481,7 +433,7 @@ fn end_stmt(
     ensures { λ r. ⌜ Ahead 1 (length (now (toks .entry))) at count 0 r ⌝ }
     ensures { λ r. ⌜ After (now (toks .entry)) (now (nodes .entry)) count (λ ts ms. (ns : List Node) (s : Stmt) → ms ++ node kind tok first 0 0 ∷ [] ≡ withStmt ns s → MetStmt r (now (nodes .exit)) ns (ended ts s at)) ⌝ }
 {
-    if kind_at(toks, at) != Tok::SEMI_COLON {
+    if kind_at(toks, at) != TokKind::SEMI_COLON {
         return unexpected(at);
     }
     push(nodes, count, kind, tok, first, 0, 0);
@@ -494,7 +446,7 @@ fn import_stmt(toks: &[u64], nodes: &mut [u64], at: usize, count: usize) -> Pars
     ensures { λ r. ⌜ Ahead 1 (length (now (toks .entry))) at count 0 r ⌝ }
     ensures { λ r. ⌜ After (now (toks .entry)) (now (nodes .entry)) count (λ ts ns. MetStmt r (now (nodes .exit)) ns (importAt ts at)) ⌝ }
 {
-    if kind_at(toks, at + 1) != Tok::IDENTIFIER {
+    if kind_at(toks, at + 1) != TokKind::IDENTIFIER {
         return unexpected(at + 1);
     }
     end_stmt(toks, nodes, at + 2, count, NodeKind::IMPORT, at + 1, 0)
@@ -506,10 +458,10 @@ fn let_stmt(toks: &[u64], nodes: &mut [u64], at: usize, count: usize) -> Parsed
     ensures { λ r. ⌜ Ahead 1 (length (now (toks .entry))) at count 0 r ⌝ }
     ensures { λ r. ⌜ After (now (toks .entry)) (now (nodes .entry)) count (λ ts ns. MetStmt r (now (nodes .exit)) ns (letAt ts at)) ⌝ }
 {
-    if kind_at(toks, at + 1) != Tok::IDENTIFIER {
+    if kind_at(toks, at + 1) != TokKind::IDENTIFIER {
         return unexpected(at + 1);
     }
-    if kind_at(toks, at + 2) != Tok::EQUALS {
+    if kind_at(toks, at + 2) != TokKind::EQUALS {
         return unexpected(at + 2);
     }
     match expr(toks, nodes, at + 3, count, Parser::MOST_LISTS) {
@@ -536,8 +488,8 @@ fn stmt(toks: &[u64], nodes: &mut [u64], at: usize, count: usize) -> Parsed
     ensures { λ r. ⌜ After (now (toks .entry)) (now (nodes .entry)) count (λ ts ns. MetStmt r (now (nodes .exit)) ns (stmtAt ts at)) ⌝ }
 {
     match kind_at(toks, at) {
-        Tok::IMPORT_KEYWORD => import_stmt(toks, nodes, at, count),
-        Tok::LET_KEYWORD => let_stmt(toks, nodes, at, count),
+        TokKind::IMPORT_KEYWORD => import_stmt(toks, nodes, at, count),
+        TokKind::LET_KEYWORD => let_stmt(toks, nodes, at, count),
         _ => expr_stmt(toks, nodes, at, count),
     }
 }
@@ -550,7 +502,7 @@ pub fn program(toks: &[u64], nodes: &mut [u64]) -> Parsed
 {
     let mut at: usize = 0;
     let mut have: usize = 0;
-    while kind_at(toks, at) != Tok::EOF {
+    while kind_at(toks, at) != TokKind::EOF {
         match stmt(toks, nodes, at, have) {
             Parsed::Done(next, n, _) => {
                 at = next;
@@ -595,7 +547,7 @@ fn at_row(toks: &[u64], i: usize, number: u64, kind: u64) -> Verdict
     requires { ⌜ (7 * i + 7 ≤ length (now toks)) × (i ≤ 65536) ⌝ }
     ensures { λ r. ⌜ r ≡ rowVerdict (now (toks .entry)) number kind i ⌝ }
 {
-    let row = Lexer::ROW_WORDS * i;
+    let row = TokenRow::WORDS * i;
     Verdict {
         number: number,
         kind: kind,
@@ -621,8 +573,8 @@ fn parse_tokens(toks: &mut [u64], nodes: &mut [u64], count: usize) -> ParseAnswe
     requires { ⌜ (1 ≤ count) × (7 * count ≤ length (now toks)) × (count ≤ 65537) ⌝ }
     ensures { λ r. ⌜ ((s : List ℕ) → Lexes s (now (toks .entry)) count → Holds (now (nodes .entry)) [] → ParseSource s (length (now (toks .entry))) (length (now (nodes .entry))) r (now (toks .exit)) (now (nodes .exit))) ⌝ }
 {
-    let room = nodes.len() / Parser::ROW_WORDS;
-    let rows = Lexer::ROW_WORDS * count;
+    let room = nodes.len() / NodeRow::WORDS;
+    let rows = TokenRow::WORDS * count;
     let parsed = program(&toks[..rows], nodes);
     match parsed {
         Parsed::Refused(number, kind, at) => {

@@ -2,9 +2,9 @@
 ghost use Prim.Native.Nat.{_+_, _≤_};
 ghost use lib.ListN.{length};
 use crate::output;
-use lex::Lexer;
+use rows::TokKind;
+use rows::TokenRow;
 use scan::LexErrorKind;
-use scan::Tok;
 use wide::Wide;
 
 // What is shown of a token: its kind, where it starts and ends in the source, and its value.
@@ -15,34 +15,34 @@ pub struct Token {
     pub value: Wide,
 }
 
-// A row of the table of tokens.
-pub struct TokenRow {
+// A token and its place, as a row of the table of tokens has them.
+pub struct Placed {
     pub line: u64,
     pub column: u64,
     pub token: Token,
 }
 
 // The words of the row that starts at word `at`.
-fn row_from(tokens: &[u64], at: usize) -> TokenRow
+fn row_from(tokens: &[u64], at: usize) -> Placed
     requires { ⌜ at + 7 ≤ length (now tokens) ⌝ }
 {
-    TokenRow {
-        line: tokens[at + lex::TokenRow::LINE],
-        column: tokens[at + lex::TokenRow::COLUMN],
+    Placed {
+        line: tokens[at + TokenRow::LINE],
+        column: tokens[at + TokenRow::COLUMN],
         token: Token {
             kind: tokens[at],
-            start: tokens[at + lex::TokenRow::START] as usize,
-            end: tokens[at + lex::TokenRow::END] as usize,
+            start: tokens[at + TokenRow::START] as usize,
+            end: tokens[at + TokenRow::END] as usize,
             value: Wide {
-                hi: tokens[at + lex::TokenRow::HIGH],
-                lo: tokens[at + lex::TokenRow::LOW],
+                hi: tokens[at + TokenRow::HIGH],
+                lo: tokens[at + TokenRow::LOW],
             },
         },
     }
 }
 
-fn no_row() -> TokenRow {
-    TokenRow {
+fn no_row() -> Placed {
+    Placed {
         line: 0,
         column: 0,
         token: Token {
@@ -55,9 +55,9 @@ fn no_row() -> TokenRow {
 }
 
 // Row `i`: all zeros where the table has none.
-pub fn row_at(tokens: &[u64], i: usize) -> TokenRow {
-    if i < tokens.len() / Lexer::ROW_WORDS {
-        return row_from(tokens, i * Lexer::ROW_WORDS);
+pub fn row_at(tokens: &[u64], i: usize) -> Placed {
+    if i < tokens.len() / TokenRow::WORDS {
+        return row_from(tokens, i * TokenRow::WORDS);
     }
     no_row()
 }
@@ -74,7 +74,7 @@ fn span(source: &[u8], start: usize, end: usize) -> &[u8] {
 fn name(out: &mut [u8], at: usize, kind: u64) -> usize {
     let names =
         b"-              Eof            LParen         RParen         Dot            DoubleColon    Colon          SemiColon      Equals         Comma          Slash          ImportKeyword  LetKeyword     Identifier     BooleanLiteral IPv4Literal    StringLiteral  HexLiteral     DecLiteral     ";
-    if kind <= Tok::DEC_LITERAL {
+    if kind <= TokKind::DEC_LITERAL {
         return output::word(out, at, names, kind as usize * 15);
     }
     at
@@ -102,10 +102,10 @@ pub fn show_value(source: &[u8], token: Token, out: &mut [u8], at: usize) -> usi
     let value = token.value;
     let kind = token.kind;
     match kind {
-        Tok::IDENTIFIER => output::text(out, at, span(source, token.start, token.end)),
-        Tok::BOOLEAN_LITERAL => boolean(out, at, value.lo),
-        Tok::IPV4_LITERAL => output::quad(out, at, value.lo),
-        Tok::HEX_LITERAL | Tok::DEC_LITERAL => output::wide(out, at, value),
+        TokKind::IDENTIFIER => output::text(out, at, span(source, token.start, token.end)),
+        TokKind::BOOLEAN_LITERAL => boolean(out, at, value.lo),
+        TokKind::IPV4_LITERAL => output::quad(out, at, value.lo),
+        TokKind::HEX_LITERAL | TokKind::DEC_LITERAL => output::wide(out, at, value),
         _ => at,
     }
 }
@@ -113,7 +113,7 @@ pub fn show_value(source: &[u8], token: Token, out: &mut [u8], at: usize) -> usi
 // The name of a token, and its value unless it is a string.
 pub fn show(source: &[u8], token: Token, out: &mut [u8], at: usize) -> usize {
     let p = name(out, at, token.kind);
-    if token.kind < Tok::IDENTIFIER || token.kind == Tok::STRING_LITERAL {
+    if token.kind < TokKind::IDENTIFIER || token.kind == TokKind::STRING_LITERAL {
         return p;
     }
     let q = output::byte(out, p, b' ');

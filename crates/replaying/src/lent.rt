@@ -2,10 +2,10 @@
 // its own.
 ghost use Prim.Native.Nat.{_≤_};
 use crate::sources;
-use lex::Lexer;
-use parse::Parser;
 use printing::header::Mode;
 use printing::input::Unread;
+use rows::NodeRow;
+use rows::TokenRow;
 use scan::Scanner;
 use showing_check::Diagnostic;
 use showing_check::Statement;
@@ -46,14 +46,14 @@ fn token_words(mode: Mode, rows: u64) -> usize
     if let Mode::Scan = mode {
         return n * Scanner::ROW_WORDS;
     }
-    n * Lexer::ROW_WORDS
+    n * TokenRow::WORDS
 }
 
 // The words of so many rows of nodes.
 fn node_words(rows: u64) -> usize
     ensures { λ r. ⌜ r ≤ 327680 ⌝ }
 {
-    at_most(rows, Lent::NODES) * Parser::ROW_WORDS
+    at_most(rows, Lent::NODES) * NodeRow::WORDS
 }
 
 // The words of so many rows of diagnostics.
@@ -78,8 +78,8 @@ pub fn run(mode: Mode, numbers: [u64; 4], chunk: &mut [u8], unread: Unread, out:
     let diag_end = diag_words(numbers[2]);
     let stmt_end = stmt_words(numbers[3]);
     let mut source = [0u8; Lent::BYTES as usize];
-    let mut tokens = [0u64; Lent::TOKENS as usize * Lexer::ROW_WORDS];
-    let mut nodes = [0u64; Lent::NODES as usize * Parser::ROW_WORDS];
+    let mut tokens = [0u64; Lent::TOKENS as usize * TokenRow::WORDS];
+    let mut nodes = [0u64; Lent::NODES as usize * NodeRow::WORDS];
     let mut diags = [0u64; Lent::DIAGNOSTICS as usize * Diagnostic::ROW_WORDS];
     let mut stmts = [0u64; Lent::STATEMENTS as usize * Statement::ROW_WORDS];
     let mut text = [0u8; Lent::BYTES as usize];

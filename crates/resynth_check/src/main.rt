@@ -1,10 +1,10 @@
 // The check program: checks the source on standard input and prints what was found, or one line for a refusal.
 use checker::CheckAnswer;
 use constants::Constants;
-use lex::Lexer;
 use libc::STDIN_FILENO;
-use parse::Parser;
 use printing::output;
+use rows::NodeRow;
+use rows::TokenRow;
 use scan::Scanner;
 use showing_check::Diagnostic;
 use showing_check::Statement;
@@ -58,8 +58,8 @@ fn answer<'a>(
 
 // Reads standard input into `source`, as much as fits, and writes the answer.
 fn run(source: &mut [u8], out: &mut [u8]) {
-    let mut tokens = [0u64; Program::TOKENS * Lexer::ROW_WORDS];
-    let mut nodes = [0u64; Program::NODES * Parser::ROW_WORDS];
+    let mut tokens = [0u64; Program::TOKENS * TokenRow::WORDS];
+    let mut nodes = [0u64; Program::NODES * NodeRow::WORDS];
     let mut diags = [0u64; Program::DIAGNOSTICS * Diagnostic::ROW_WORDS];
     let mut stmts = [0u64; Program::STATEMENTS * Statement::ROW_WORDS];
     let table = Constants::new();

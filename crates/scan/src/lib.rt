@@ -14,6 +14,7 @@ ghost use Rattle.table.specs.Table.{padTo, tabled};
 ghost use Rattle.utf8.specs.Blocks.{allFrom};
 ghost use Rattle.wide.specs.Wide.{valueOf, scaled};
 ghost use Rattle.scan.specs.Scanning.{between, runEnd, blankEnd, spelled, wordAt, Base, numberAs, octetAs, Below, joinedAs, quadAs, kindAs, markAs, lexemeAs, signOf, stepAt, bodyOf, tokNumber, tokValue, errorNumber, errorChar, classNumber, kindNumber, kindValue, rowOf};
+use rows::TokKind;
 use utf8::Bad;
 use utf8::Decoded;
 use wide::Scaled;
@@ -55,64 +56,27 @@ pub enum LexErrorKind {
 }
 
 impl Tok {
-    // The numbers of the kinds, in the order of lex.rs. The lexer makes `Eof` and `StringLiteral`, which no lexeme is.
-    pub const EOF: u64 = 1;
-
-    pub const LPAREN: u64 = 2;
-
-    pub const RPAREN: u64 = 3;
-
-    pub const DOT: u64 = 4;
-
-    pub const DOUBLE_COLON: u64 = 5;
-
-    pub const COLON: u64 = 6;
-
-    pub const SEMI_COLON: u64 = 7;
-
-    pub const EQUALS: u64 = 8;
-
-    pub const COMMA: u64 = 9;
-
-    pub const SLASH: u64 = 10;
-
-    pub const IMPORT_KEYWORD: u64 = 11;
-
-    pub const LET_KEYWORD: u64 = 12;
-
-    pub const IDENTIFIER: u64 = 13;
-
-    pub const BOOLEAN_LITERAL: u64 = 14;
-
-    pub const IPV4_LITERAL: u64 = 15;
-
-    pub const STRING_LITERAL: u64 = 16;
-
-    pub const HEX_LITERAL: u64 = 17;
-
-    pub const DEC_LITERAL: u64 = 18;
-
     // The number of its kind.
     pub fn kind(self) -> u64
         ensures { λ r. ⌜ r ≡ tokNumber self ⌝ }
     {
         match self {
-            Tok::LParen => Tok::LPAREN,
-            Tok::RParen => Tok::RPAREN,
-            Tok::Dot => Tok::DOT,
-            Tok::DoubleColon => Tok::DOUBLE_COLON,
-            Tok::Colon => Tok::COLON,
-            Tok::SemiColon => Tok::SEMI_COLON,
-            Tok::Equals => Tok::EQUALS,
-            Tok::Comma => Tok::COMMA,
-            Tok::Slash => Tok::SLASH,
-            Tok::ImportKeyword => Tok::IMPORT_KEYWORD,
-            Tok::LetKeyword => Tok::LET_KEYWORD,
-            Tok::Identifier => Tok::IDENTIFIER,
-            Tok::BooleanLiteral(_) => Tok::BOOLEAN_LITERAL,
-            Tok::IPv4Literal(_) => Tok::IPV4_LITERAL,
-            Tok::HexLiteral(_) => Tok::HEX_LITERAL,
-            Tok::DecLiteral(_) => Tok::DEC_LITERAL,
+            Tok::LParen => TokKind::LPAREN,
+            Tok::RParen => TokKind::RPAREN,
+            Tok::Dot => TokKind::DOT,
+            Tok::DoubleColon => TokKind::DOUBLE_COLON,
+            Tok::Colon => TokKind::COLON,
+            Tok::SemiColon => TokKind::SEMI_COLON,
+            Tok::Equals => TokKind::EQUALS,
+            Tok::Comma => TokKind::COMMA,
+            Tok::Slash => TokKind::SLASH,
+            Tok::ImportKeyword => TokKind::IMPORT_KEYWORD,
+            Tok::LetKeyword => TokKind::LET_KEYWORD,
+            Tok::Identifier => TokKind::IDENTIFIER,
+            Tok::BooleanLiteral(_) => TokKind::BOOLEAN_LITERAL,
+            Tok::IPv4Literal(_) => TokKind::IPV4_LITERAL,
+            Tok::HexLiteral(_) => TokKind::HEX_LITERAL,
+            Tok::DecLiteral(_) => TokKind::DEC_LITERAL,
         }
     }
 

@@ -2,20 +2,20 @@
 use printing::output;
 use printing::token;
 use printing::token::Token;
-use printing::token::TokenRow;
+use printing::token::Placed;
 use printing::verdict;
-use scan::Tok;
+use rows::TokKind;
 use scan::Verdict;
 
 fn what(source: &[u8], t: Token, out: &mut [u8], at: usize) -> usize {
     let p = token::show(source, t, out, at);
-    if t.kind == Tok::STRING_LITERAL {
+    if t.kind == TokKind::STRING_LITERAL {
         return token::bodies(source, t, out, p);
     }
     p
 }
 
-fn line_of(source: &[u8], row: TokenRow, out: &mut [u8], at: usize) -> usize {
+fn line_of(source: &[u8], row: Placed, out: &mut [u8], at: usize) -> usize {
     let a = output::pair(out, at, row.line, row.column);
     let b = what(source, row.token, out, a);
     output::byte(out, b, b'\n')

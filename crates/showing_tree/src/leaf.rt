@@ -1,13 +1,13 @@
 // What a row of the table of nodes shows of itself, its children aside.
-use crate::rows;
-use crate::rows::Node;
-use lex::Lexer;
-use parse::NodeKind;
+use crate::node;
+use crate::node::Node;
 use printing::output;
 use printing::token;
 use printing::token::Token;
-use printing::token::TokenRow;
-use scan::Tok;
+use printing::token::Placed;
+use rows::NodeKind;
+use rows::TokKind;
+use rows::TokenRow;
 
 // A bracket and the word for a node's kind: for a literal that for its token's kind, a number above every node's kind. Only
 // a statement has no blank before it.
@@ -28,13 +28,13 @@ fn opened(out: &mut [u8], at: usize, bracket: &[u8], kind: u64) -> usize {
     let words =
         b"-      -      -      sock4  local  path   member slash  call   arg    named  import let    expr   bool   ip4    str    int    int    ";
     let p = output::text(out, at, bracket);
-    if kind <= Tok::DEC_LITERAL {
+    if kind <= TokKind::DEC_LITERAL {
         return output::word(out, p, words, kind as usize * 7);
     }
     p
 }
 
-fn place(t: TokenRow, out: &mut [u8], at: usize) -> usize {
+fn place(t: Placed, out: &mut [u8], at: usize) -> usize {
     let p = output::field(out, at, t.line);
     output::field(out, p, t.column)
 }
@@ -66,7 +66,7 @@ pub fn start(source: &[u8], tokens: &[u64], n: Node, out: &mut [u8], at: usize) 
 }
 
 fn literal(source: &[u8], t: Token, out: &mut [u8], at: usize) -> usize {
-    if t.kind == Tok::STRING_LITERAL {
+    if t.kind == TokKind::STRING_LITERAL {
         return token::bodies(source, t, out, at);
     }
     value(source, t, out, at)
@@ -76,7 +76,7 @@ fn literal(source: &[u8], t: Token, out: &mut [u8], at: usize) -> usize {
 fn sock4(source: &[u8], tokens: &[u64], i: usize, out: &mut [u8], at: usize) -> usize {
     let p = value(source, token::row_at(tokens, i).token, out, at);
     let q = output::byte(out, p, b':');
-    if i < tokens.len() / Lexer::ROW_WORDS {
+    if i < tokens.len() / TokenRow::WORDS {
         return token::show_value(source, token::row_at(tokens, i + 2).token, out, q);
     }
     q
@@ -98,7 +98,7 @@ fn names(
     }
     let mut row = i - n.first;
     while row < i {
-        let further = rows::node_at(nodes, row);
+        let further = node::node_at(nodes, row);
         p = name(source, tokens, further.token, out, p);
         row += 1;
     }

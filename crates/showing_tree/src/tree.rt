@@ -1,9 +1,9 @@
 // Trees from the table of nodes, where a child's row stands before its parent's. A row that does not is not shown, so the
 // walk ends on any table.
 use crate::leaf;
-use crate::rows;
-use crate::rows::Node;
-use parse::NodeKind;
+use crate::node;
+use crate::node::Node;
+use rows::NodeKind;
 use printing::output;
 
 // The tree of a row, a blank before each expression and argument.
@@ -15,7 +15,7 @@ fn show(
     out: &mut [u8],
     at: usize,
 ) -> usize {
-    let n = rows::node_at(nodes, i);
+    let n = node::node_at(nodes, i);
     let a = leaf::start(source, tokens, n, out, at);
     if n.kind < NodeKind::MEMBER || n.kind == NodeKind::IMPORT {
         return leaf::end(source, tokens, nodes, i, n, out, a);
@@ -62,7 +62,7 @@ fn arguments(
     out: &mut [u8],
     at: usize,
 ) -> usize {
-    let first = rows::first_argument(nodes, last);
+    let first = node::first_argument(nodes, last);
     if first == 0 {
         return at;
     }
@@ -70,7 +70,7 @@ fn arguments(
     let mut row = first - 1;
     while row < i {
         p = show(source, tokens, nodes, row, out, p);
-        row = rows::argument_after(nodes, row, i);
+        row = node::argument_after(nodes, row, i);
     }
     p
 }
@@ -84,7 +84,7 @@ fn statement(
     out: &mut [u8],
     at: usize,
 ) -> usize {
-    if rows::node_at(nodes, i).kind < NodeKind::IMPORT {
+    if node::node_at(nodes, i).kind < NodeKind::IMPORT {
         return at;
     }
     let p = show(source, tokens, nodes, i, out, at);

@@ -19,9 +19,9 @@ use Rattle.printing.proofs.output.byte.Reads as byte-reads
 use Rattle.showing_tree.proofs.leaf.end.Reads as end-reads
 use Rattle.showing_tree.proofs.leaf.name.Reads as name-reads
 use Rattle.showing_tree.proofs.leaf.start.Reads as start-reads
-use Rattle.showing_tree.proofs.rows.argument_after.Reads as argument-after-reads
-use Rattle.showing_tree.proofs.rows.first_argument.Reads as first-argument-reads
-use Rattle.showing_tree.proofs.rows.node_at.Reads as node-at-reads
+use Rattle.showing_tree.proofs.node.argument_after.Reads as argument-after-reads
+use Rattle.showing_tree.proofs.node.first_argument.Reads as first-argument-reads
+use Rattle.showing_tree.proofs.node.node_at.Reads as node-at-reads
 use Rattle.showing_tree.proofs.tree.+arguments+rest+show.{statement}
 use Rattle.showing_tree.proofs.tree.+arguments+rest+show.Tie.{close}
 

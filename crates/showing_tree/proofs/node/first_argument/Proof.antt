@@ -1,8 +1,8 @@
 -- Each turn goes to a smaller row.
 use Prim.Native.Nat.{_≤_}
 use borrow.Author.Needs.{needs}
-use Rattle.showing_tree.proofs.rows.first_argument.Statement.{statement}
-use Rattle.showing_tree.proofs.rows.first_argument.Tie as tie
+use Rattle.showing_tree.proofs.node.first_argument.Statement.{statement}
+use Rattle.showing_tree.proofs.node.first_argument.Tie as tie
 
 abbrev Inv-loop : tie.InvT-loop
 Inv-loop nodes last at₀ at = at ≤ last

@@ -1,8 +1,8 @@
 -- The rows are counted up, from the one after `row` on.
 use Prim.Native.Nat.{_-_, _<_}
 use borrow.Author.Needs.{needs}
-use Rattle.showing_tree.proofs.rows.argument_after.Statement.{statement}
-use Rattle.showing_tree.proofs.rows.argument_after.Tie as tie
+use Rattle.showing_tree.proofs.node.argument_after.Statement.{statement}
+use Rattle.showing_tree.proofs.node.argument_after.Tie as tie
 
 abbrev Inv-loop : tie.InvT-loop
 Inv-loop nodes row end link i₀ i = row < i

@@ -2,9 +2,8 @@
 // parser left.
 ghost use Prim.Native.Nat.{_+_, _<_, _≤_};
 ghost use lib.ListN.{length};
-use parse::NodeKind;
-use parse::NodeRow;
-use parse::Parser;
+use rows::NodeKind;
+use rows::NodeRow;
 
 // What the numbers after its token mean depends on a node's kind. The last one, the token of a call's `(`, is not shown.
 pub struct Node {
@@ -27,8 +26,8 @@ fn node_from(nodes: &[u64], at: usize) -> Node
 }
 
 pub fn node_at(nodes: &[u64], i: usize) -> Node {
-    if i < nodes.len() / Parser::ROW_WORDS {
-        return node_from(nodes, i * Parser::ROW_WORDS);
+    if i < nodes.len() / NodeRow::WORDS {
+        return node_from(nodes, i * NodeRow::WORDS);
     }
     Node {
         kind: 0,
