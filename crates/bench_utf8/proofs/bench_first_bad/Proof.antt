@@ -4,15 +4,6 @@ use borrow.Author.Needs.{needs}
 use Rattle.bench_utf8.proofs.bench_first_bad.Statement.{statement}
 use Rattle.bench_utf8.proofs.bench_first_bad.Tie as tie
 
-first-bad-requires : tie.Need-first-bad-requires
-first-bad-requires c κs = search needs
-
-enum-known-bad : tie.Need-enum-known-bad
-enum-known-bad c = search needs
-
-enum-told : tie.Need-enum-told
-enum-told c = search needs
-
 returns : tie.Need-returns
 returns c = bad-at _ _ (sym (c .before .bad .given .1) ∙ c .before .before .before .first-bad .ensures)
 
@@ -21,4 +12,4 @@ returns-2 c = none-bad _ (sym (c .enum-told .given .1) ∙ c .before .before .fi
 
 pub bench-first-bad-spec : {M : Type 1} → statement M
 bench-first-bad-spec =
-    tie.close (tie.spec first-bad-requires enum-known-bad enum-told returns returns-2)
+    tie.close (tie.spec (search needs) (search needs) (search needs) returns returns-2)

@@ -20,35 +20,14 @@ same-length c = c .before .before .loop .inv .1 .writes .size
 returns : tie.Need-returns Inv-loop μ-loop
 returns c = stopped _ _ _ (c .before .before .before .before .before .before .pre) _ _ _ _ (c .before .before .loop .inv .1) (c .if1 .taken)
 
-mul-next : tie.Need-mul-next Inv-loop μ-loop
-mul-next c = search needs
-
-sub-row : tie.Need-sub-row Inv-loop μ-loop
-sub-row c = search needs
-
 token-text-requires : tie.Need-token-text-requires Inv-loop μ-loop
 token-text-requires c κs = (row-fits _ _ _ (c .before .before .before .before .before .before .before .pre) _ _ _ _ (c .before .before .before .loop .inv .1) (search needs) refl refl, search needs)
-
-mul-separator : tie.Need-mul-separator Inv-loop μ-loop
-mul-separator c = search needs
 
 shared-slice-read-separator : tie.Need-shared-slice-read-separator Inv-loop μ-loop
 shared-slice-read-separator c = let f = row-fits _ _ _ (c .before .before .before .before .before .before .before .before .before .before .before .pre) _ _ _ _ (c .before .before .before .before .before .before .before .loop .inv .1) (search needs) refl refl in search needs
 
-mul-separator-2 : tie.Need-mul-separator-2 Inv-loop μ-loop
-mul-separator-2 c = search needs
-
 shared-slice-read-separator-2 : tie.Need-shared-slice-read-separator-2 Inv-loop μ-loop
 shared-slice-read-separator-2 c = next-fits _ _ _ (c .before .before .before .before .before .before .before .before .before .before .before .before .pre) _ _ _ _ (c .before .before .before .before .before .before .before .before .loop .inv .1) (search needs) refl refl
-
-separator-requires : tie.Need-separator-requires Inv-loop μ-loop
-separator-requires c κs = search needs
-
-add-i : tie.Need-add-i Inv-loop μ-loop
-add-i c = search needs
-
-loop-less : tie.Need-loop-less Inv-loop μ-loop
-loop-less c = search needs
 
 loop-again : tie.Need-loop-again Inv-loop μ-loop
 loop-again c = (search needs, more _ _ _ (c .before .before .before .before .before .before .before .before .before .before .before .before .before .before .before .before .pre) _ _ _ _ (c .before .before .before .before .before .before .before .before .before .before .before .before .loop .inv .1) (search needs) refl refl (c .before .before .before .before .before .before .before .before .token-text .ensures .0) (c .before .before .separator .ensures .0))
@@ -62,22 +41,6 @@ returns-2 c = finished _ _ _ (c .before .before .before .before .before .pre) _ 
 pub all-text-spec : {M : Type 1} → statement M
 all-text-spec =
     tie.close
-    (tie.spec
-    Inv-loop
-    μ-loop
-    loop-holds
-    same-length
-    returns
-    mul-next
-    sub-row
-    token-text-requires
-    mul-separator
-    shared-slice-read-separator
-    mul-separator-2
-    shared-slice-read-separator-2
-    separator-requires
-    add-i
-    loop-less
-    loop-again
-    same-length-2
-    returns-2)
+    (tie.spec Inv-loop μ-loop loop-holds same-length returns (search needs) (search needs) token-text-requires
+    (search needs) shared-slice-read-separator (search needs) shared-slice-read-separator-2 (search needs)
+    (search needs) (search needs) loop-again same-length-2 returns-2)

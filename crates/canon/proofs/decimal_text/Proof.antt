@@ -5,21 +5,15 @@ use borrow.Author.Needs.{needs}
 use Rattle.canon.proofs.decimal_text.Statement.{statement}
 use Rattle.canon.proofs.decimal_text.Tie as tie
 
-decimal-requires : tie.Need-decimal-requires
-decimal-requires c κs = search needs
-
 slice-aggregate-copy : tie.Need-slice-aggregate-copy
 slice-aggregate-copy c = (decimal-buffer _ _ (search needs) (search needs) _ _ (c .before .decimal .ensures)) .size
 
 copy-requires : tie.Need-copy-requires
 copy-requires c κs = let b = decimal-buffer _ _ (search needs) (search needs) _ _ (c .before .before .decimal .ensures) in (b .from, omega arith, search needs, search needs)
 
-same-length : tie.Need-same-length
-same-length c = search needs
-
 returns : tie.Need-returns
 returns c = (bytes-are _ ((decimal-buffer _ _ (search needs) (search needs) _ _ (c .before .before .before .before .before .decimal .ensures)) .bytes) (c .before .before .copy .ensures .0), search needs)
 
 pub decimal-text-spec : {M : Type 1} → statement M
 decimal-text-spec =
-    tie.close (tie.spec decimal-requires slice-aggregate-copy copy-requires same-length returns)
+    tie.close (tie.spec (search needs) slice-aggregate-copy copy-requires (search needs) returns)

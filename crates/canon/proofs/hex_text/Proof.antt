@@ -5,23 +5,11 @@ use borrow.Author.Needs.{needs}
 use Rattle.canon.proofs.hex_text.Statement.{statement}
 use Rattle.canon.proofs.hex_text.Tie as tie
 
-hexadecimal-requires : tie.Need-hexadecimal-requires
-hexadecimal-requires c κs = search needs
-
-put-requires : tie.Need-put-requires
-put-requires c κs = search needs
-
-put-requires-2 : tie.Need-put-requires-2
-put-requires-2 c κs = search needs
-
 slice-aggregate-copy : tie.Need-slice-aggregate-copy
 slice-aggregate-copy c = (hexadecimal-buffer _ _ (search needs) (search needs) _ _ (c .before .before .before .before .before .before .before .before .before .hexadecimal .ensures)) .size
 
 copy-requires : tie.Need-copy-requires
 copy-requires c κs = let b = hexadecimal-buffer _ _ (search needs) (search needs) _ _ (c .before .before .before .before .before .before .before .before .before .before .hexadecimal .ensures) in (b .from, omega arith, search needs, search needs)
-
-same-length : tie.Need-same-length
-same-length c = search needs
 
 returns : tie.Need-returns
 returns c = (c .before .before .before .before .before .before .before .before .before .before .before .put .ensures .0 then c .before .before .before .before .before .before .before .put2 .ensures .0 then bytes-are _ ((hexadecimal-buffer _ _ (search needs) (search needs) _ _ (c .before .before .before .before .before .before .before .before .before .before .before .before .before .hexadecimal .ensures)) .bytes) (c .before .before .copy .ensures .0), search needs)
@@ -29,11 +17,4 @@ returns c = (c .before .before .before .before .before .before .before .before .
 pub hex-text-spec : {M : Type 1} → statement M
 hex-text-spec =
     tie.close
-    (tie.spec
-    hexadecimal-requires
-    put-requires
-    put-requires-2
-    slice-aggregate-copy
-    copy-requires
-    same-length
-    returns)
+    (tie.spec (search needs) (search needs) (search needs) slice-aggregate-copy copy-requires (search needs) returns)

@@ -4,23 +4,8 @@ use borrow.Author.Needs.{needs}
 use Rattle.canon.proofs.literal_text.Statement.{statement}
 use Rattle.canon.proofs.literal_text.Tie as tie
 
-quoted-text-requires : tie.Need-quoted-text-requires
-quoted-text-requires c κs = search needs
-
-same-length : tie.Need-same-length
-same-length c = search needs
-
 returns : tie.Need-returns
 returns c = (bytes-are _ (rw (eq-eqb _ _ (c .before .before .before .before .if1 .taken))) (c .before .before .quoted-text .ensures .0), search needs)
-
-put-requires : tie.Need-put-requires
-put-requires c κs = search needs
-
-quoted-text-requires-2 : tie.Need-quoted-text-requires-2
-quoted-text-requires-2 c κs = search needs
-
-same-length-2 : tie.Need-same-length-2
-same-length-2 c = search needs
 
 returns-2 : tie.Need-returns-2
 returns-2 c = (bytes-are _ (rw (ne-eqb _ _ (c .before .before .before .before .before .before .before .before .if1 .left))) (c .before .before .before .before .before .before .put .ensures .0 then c .before .before .quoted-text2 .ensures .0), search needs)
@@ -28,11 +13,4 @@ returns-2 c = (bytes-are _ (rw (ne-eqb _ _ (c .before .before .before .before .b
 pub literal-text-spec : {M : Type 1} → statement M
 literal-text-spec =
     tie.close
-    (tie.spec
-    quoted-text-requires
-    same-length
-    returns
-    put-requires
-    quoted-text-requires-2
-    same-length-2
-    returns-2)
+    (tie.spec (search needs) (search needs) returns (search needs) (search needs) (search needs) returns-2)

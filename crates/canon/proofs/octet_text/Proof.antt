@@ -4,14 +4,8 @@ use borrow.Author.Needs.{needs}
 use Rattle.canon.proofs.octet_text.Statement.{statement}
 use Rattle.canon.proofs.octet_text.Tie as tie
 
-decimal-text-requires : tie.Need-decimal-text-requires
-decimal-text-requires c κs = search needs
-
-same-length : tie.Need-same-length
-same-length c = search needs
-
 returns : tie.Need-returns
 returns c = (bytes-are _ (lower _) (c .before .before .decimal-text .ensures .0), c .before .before .decimal-text .ensures .1)
 
 pub octet-text-spec : {M : Type 1} → statement M
-octet-text-spec = tie.close (tie.spec decimal-text-requires same-length returns)
+octet-text-spec = tie.close (tie.spec (search needs) (search needs) returns)

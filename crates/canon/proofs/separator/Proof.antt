@@ -4,23 +4,11 @@ use borrow.Author.Needs.{needs}
 use Rattle.canon.proofs.separator.Statement.{statement}
 use Rattle.canon.proofs.separator.Tie as tie
 
-put-requires : tie.Need-put-requires
-put-requires c κs = search needs
-
-same-length : tie.Need-same-length
-same-length c = search needs
-
 returns : tie.Need-returns
 returns c = (bytes-are _ (rw (c .before .before .before .before .if1 .taken)) (c .before .before .put .ensures .0), c .before .before .put .ensures .1)
 
 returns-2 : tie.Need-returns-2
 returns-2 c = (bytes-are _ (no-gap _ _ (c .before .if1 .left) (c .if2 .taken)) (none _ _), search needs)
-
-put-requires-2 : tie.Need-put-requires-2
-put-requires-2 c κs = search needs
-
-same-length-2 : tie.Need-same-length-2
-same-length-2 c = search needs
 
 returns-3 : tie.Need-returns-3
 returns-3 c = (bytes-are _ (a-space _ _ (c .before .before .before .before .before .if1 .left) (c .before .before .before .before .if2 .left)) (c .before .before .put2 .ensures .0), c .before .before .put2 .ensures .1)
@@ -28,4 +16,4 @@ returns-3 c = (bytes-are _ (a-space _ _ (c .before .before .before .before .befo
 pub separator-spec : {M : Type 1} → statement M
 separator-spec =
     tie.close
-    (tie.spec put-requires same-length returns returns-2 put-requires-2 same-length-2 returns-3)
+    (tie.spec (search needs) (search needs) returns returns-2 (search needs) (search needs) returns-3)

@@ -5,21 +5,15 @@ use borrow.Author.Needs.{needs}
 use Rattle.checker.proofs.at_token.Statement.{statement}
 use Rattle.checker.proofs.at_token.Tie as tie
 
-mul-rows : tie.Need-mul-rows
-mul-rows c = search needs
-
 slice-aggregate-token-at : tie.Need-slice-aggregate-token-at
 slice-aggregate-token-at c = sym (length-take-le _ _ (c .before .before .pre .1))
 
 token-at-requires : tie.Need-token-at-requires
 token-at-requires c κs = some-words _ _ (c .before .before .pre .0) (c .before .before .pre .1)
 
-new-requires : tie.Need-new-requires
-new-requires c κs = search needs
-
 returns : tie.Need-returns
 returns c s l = at-place s _ _ (c .before .token-at .ensures s l) (c .new .ensures)
 
 pub at-token-spec : {M : Type 1} → statement M
 at-token-spec =
-    tie.close (tie.spec mul-rows slice-aggregate-token-at token-at-requires new-requires returns)
+    tie.close (tie.spec (search needs) slice-aggregate-token-at token-at-requires (search needs) returns)

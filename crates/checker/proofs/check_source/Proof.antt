@@ -6,30 +6,6 @@ use borrow.Author.Needs.{needs}
 use Rattle.checker.proofs.check_source.Statement.{statement}
 use Rattle.checker.proofs.check_source.Tie as tie
 
-clear-requires : tie.Need-clear-requires
-clear-requires c κs = search needs
-
-clear-requires-2 : tie.Need-clear-requires-2
-clear-requires-2 c κs = search needs
-
-parse-source-requires : tie.Need-parse-source-requires
-parse-source-requires c κs = search needs
-
-refused-requires : tie.Need-refused-requires
-refused-requires c κs = search needs
-
-same-length : tie.Need-same-length
-same-length c = search needs
-
-same-length-2 : tie.Need-same-length-2
-same-length-2 c = search needs
-
-same-length-3 : tie.Need-same-length-3
-same-length-3 c = search needs
-
-same-length-4 : tie.Need-same-length-4
-same-length-4 c = search needs
-
 returns : tie.Need-returns
 returns c =
     let tested = c .before in
@@ -45,12 +21,6 @@ check-tree-requires c κs =
     let held = read .before .before .before .before .before in
     let found = held .before .before .before .before in
     (parses (read .parse-source .ensures) (tested .if1 .left), (pad-own _ _ _ (found .clear .ensures) refl, pad-own _ _ _ (held .clear2 .ensures) refl))
-
-same-length-5 : tie.Need-same-length-5
-same-length-5 c = search needs
-
-same-length-6 : tie.Need-same-length-6
-same-length-6 c = search needs
 
 same-length-7 : tie.Need-same-length-7
 same-length-7 c = c .before .before .before .diags2 .given ∙ c .before .before .before .before .before .before .before .before .before .before .before .before .before .before .before .before .before .before .before .before .before .before .before .before .before .before .before .before .diags .given
@@ -69,19 +39,5 @@ returns-2 c =
 pub check-source-spec : {M : Type 1} → statement M
 check-source-spec =
     tie.close
-    (tie.spec
-    clear-requires
-    clear-requires-2
-    parse-source-requires
-    refused-requires
-    same-length
-    same-length-2
-    same-length-3
-    same-length-4
-    returns
-    check-tree-requires
-    same-length-5
-    same-length-6
-    same-length-7
-    same-length-8
-    returns-2)
+    (tie.spec (search needs) (search needs) (search needs) (search needs) (search needs) (search needs) (search needs)
+    (search needs) returns check-tree-requires (search needs) (search needs) same-length-7 same-length-8 returns-2)

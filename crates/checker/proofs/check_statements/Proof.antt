@@ -30,32 +30,8 @@ run-requires c κs =
     let start = c .before .before .before .before .before .before .before .before .before in
     (lexed-part (start .pre .0), rows-fit (start .pre .0) (omega arith))
 
-enum-known-counts : tie.Need-enum-known-counts
-enum-known-counts c = search needs
-
-conclude-requires : tie.Need-conclude-requires
-conclude-requires c κs = search needs
-
-enum-known-t : tie.Need-enum-known-t
-enum-known-t c = search needs
-
 at-token-requires : tie.Need-at-token-requires
 at-token-requires c κs = token-words (c .before .before .before .before .before .before .before .before .before .before .before .before .before .before .before .before .before .before .pre .0)
-
-give-up-requires : tie.Need-give-up-requires
-give-up-requires c κs = search needs
-
-same-length : tie.Need-same-length
-same-length c = search needs
-
-same-length-2 : tie.Need-same-length-2
-same-length-2 c = search needs
-
-same-length-3 : tie.Need-same-length-3
-same-length-3 c = search needs
-
-same-length-4 : tie.Need-same-length-4
-same-length-4 c = search needs
 
 returns : tie.Need-returns
 returns c quiet =
@@ -66,18 +42,6 @@ returns c quiet =
     let ran = found .before in
     let start = ran .before .before .before .before .before .before .before .before .before .before in
     concluded (start .pre .0) quiet (found .diags .given) (held .stmts .given) (ran .run .ensures) (start .pre .1) (arm .counts .given .1) (end .conclude .ensures)
-
-same-length-5 : tie.Need-same-length-5
-same-length-5 c = search needs
-
-same-length-6 : tie.Need-same-length-6
-same-length-6 c = search needs
-
-same-length-7 : tie.Need-same-length-7
-same-length-7 c = search needs
-
-same-length-8 : tie.Need-same-length-8
-same-length-8 c = search needs
 
 returns-2 : tie.Need-returns-2
 returns-2 c quiet =
@@ -93,26 +57,7 @@ returns-2 c quiet =
 pub check-statements-spec : {M : Type 1} → statement M
 check-statements-spec =
     tie.close
-    (tie.spec
-    mul-token-words
-    mul-node-words
-    slice-reshare-prefix-run
-    slice-aggregate-run
-    slice-reshare-prefix-run-2
-    slice-aggregate-run-2
-    run-requires
-    enum-known-counts
-    conclude-requires
-    enum-known-t
-    at-token-requires
-    give-up-requires
-    same-length
-    same-length-2
-    same-length-3
-    same-length-4
-    returns
-    same-length-5
-    same-length-6
-    same-length-7
-    same-length-8
-    returns-2)
+    (tie.spec mul-token-words mul-node-words slice-reshare-prefix-run slice-aggregate-run slice-reshare-prefix-run-2
+    slice-aggregate-run-2 run-requires (search needs) (search needs) (search needs) at-token-requires (search needs)
+    (search needs) (search needs) (search needs) (search needs) returns (search needs) (search needs) (search needs)
+    (search needs) returns-2)

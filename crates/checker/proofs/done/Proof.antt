@@ -2,11 +2,8 @@ use borrow.Author.Needs.{needs}
 use Rattle.checker.proofs.done.Statement.{statement}
 use Rattle.checker.proofs.done.Tie as tie
 
-new-requires : tie.Need-new-requires
-new-requires c κs = search needs
-
 returns : tie.Need-returns
 returns c = rw (c .new .ensures)
 
 pub done-spec : {M : Type 1} → statement M
-done-spec = tie.close (tie.spec new-requires returns)
+done-spec = tie.close (tie.spec (search needs) returns)

@@ -20,41 +20,20 @@ word-requires c κs = (c .before .before .before .before .before .pre .1 .1, ome
 judge-requires : tie.Need-judge-requires
 judge-requires c κs = (c .before .before .before .before .before .before .before .pre .0, fits-expr (c .before .before .before .before .before .before .before .pre .1 .0) (c .before .word .ensures))
 
-enum-known-out : tie.Need-enum-known-out
-enum-known-out c = search needs
-
 word-requires-2 : tie.Need-word-requires-2
 word-requires-2 c κs = (row-in (at-row (c .before .before .before .before .before .before .before .before .before .before .word .ensures) (c .before .before .before .before .before .before .before .before .before .before .before .before .before .before .before .before .pre .1 .0 .rep)), omega arith)
 
 tell-requires : tie.Need-tell-requires
 tell-requires c κs = (some-row (c .before .before .before .before .before .before .before .before .before .before .before .before .before .before .before .before .before .pre .0 .lexed), room-after (c .before .before .before .before .before .before .before .before .before .before .before .before .before .before .before .before .before .pre .1 .0) (c .before .before .before .before .before .before .before .before .before .before .before .before .before .before .before .before .before .args .source .now) 0 (knownIn (c .before .before .before .before .before .before .before .before .before .before .before .before .before .before .before .before .before .args .source .now) (c .before .before .before .before .before .before .before .before .before .before .before .before .before .before .before .before .before .args .bindings .now) (c .before .before .before .before .before .before .before .before .before .before .before .before .before .before .before .before .before .args .imports .now) (c .before .before .before .before .before .before .before .before .before .before .before .before .before .before .before .before .before .args .counts)) (c .before .before .before .before .before .before .before .before .before .judge .ensures 0 (knownIn (c .before .before .before .before .before .before .before .before .before .before .before .before .before .before .before .before .before .args .source .now) (c .before .before .before .before .before .before .before .before .before .before .before .before .before .before .before .before .before .args .bindings .now) (c .before .before .before .before .before .before .before .before .before .before .before .before .before .before .before .before .before .args .imports .now) (c .before .before .before .before .before .before .before .before .before .before .before .before .before .before .before .before .before .args .counts)) (c .before .before .before .before .before .before .before .before .before .before .before .before .before .before .before .before .before .pre .1 .0 .tree) (record { is = refl }) (at-row (c .before .before .before .before .before .before .before .before .before .before .before .word .ensures) (c .before .before .before .before .before .before .before .before .before .before .before .before .before .before .before .before .before .pre .1 .0 .rep))))
 
-enum-known-out-2 : tie.Need-enum-known-out-2
-enum-known-out-2 c = search needs
-
 error-requires : tie.Need-error-requires
 error-requires c κs = omega (arith, room-after (c .before .before .before .before .before .before .before .before .before .before .before .before .before .before .before .pre .1 .0) (c .before .before .before .before .before .before .before .before .before .before .before .before .before .before .before .args .source .now) 0 (knownIn (c .before .before .before .before .before .before .before .before .before .before .before .before .before .before .before .args .source .now) (c .before .before .before .before .before .before .before .before .before .before .before .before .before .before .before .args .bindings .now) (c .before .before .before .before .before .before .before .before .before .before .before .before .before .before .before .args .imports .now) (c .before .before .before .before .before .before .before .before .before .before .before .before .before .before .before .args .counts)) (c .before .before .before .before .before .before .before .judge .ensures 0 (knownIn (c .before .before .before .before .before .before .before .before .before .before .before .before .before .before .before .args .source .now) (c .before .before .before .before .before .before .before .before .before .before .before .before .before .before .before .args .bindings .now) (c .before .before .before .before .before .before .before .before .before .before .before .before .before .before .before .args .imports .now) (c .before .before .before .before .before .before .before .before .before .before .before .before .before .before .before .args .counts)) (c .before .before .before .before .before .before .before .before .before .before .before .before .before .before .before .pre .1 .0 .tree) (record { is = refl }) (at-row (c .before .before .before .before .before .before .before .before .before .word .ensures) (c .before .before .before .before .before .before .before .before .before .before .before .before .before .before .before .pre .1 .0 .rep))) .findings)
-
-enum-told : tie.Need-enum-told
-enum-told c = search needs
-
-same-length : tie.Need-same-length
-same-length c = search needs
-
-same-length-2 : tie.Need-same-length-2
-same-length-2 c = search needs
 
 returns : tie.Need-returns
 returns c = λ n k e kn rep. expr-val (c .before .before .before .before .before .before .before .before .before .before .before .before .before .before .before .before .before .before .before .before .before .before .args .source .now) n k e (c .before .before .before .before .before .before .before .before .before .before .before .before .before .before .judge .ensures n k e kn (at-row (c .before .before .before .before .before .before .before .before .before .before .before .before .before .before .before .before .word .ensures) rep)) (c .before .before .before .before .before .before .before .before .before .out .given .1) (c .before .before .before .before .before .word2 .ensures ∙ first-at (at-row (c .before .before .before .before .before .before .before .before .before .before .before .before .before .before .before .before .word .ensures) rep)) (c .before .before .before .before .tell .ensures _ (c .before .before .before .before .before .before .before .before .before .before .before .before .before .before .before .before .before .before .before .before .before .before .pre .0 .lexed))
 
-same-length-3 : tie.Need-same-length-3
-same-length-3 c = search needs
-
 returns-2 : tie.Need-returns-2
 returns-2 c = λ n k e kn rep. expr-err (c .before .before .before .before .before .before .before .before .before .before .before .before .before .before .before .before .before .before .args .source .now) n k e (c .before .before .before .before .before .before .before .before .before .before .judge .ensures n k e kn (at-row (c .before .before .before .before .before .before .before .before .before .before .before .before .word .ensures) rep)) (c .before .before .before .before .before .out2 .given .1) (c .before .before .error .ensures .0) (c .before .before .error .ensures .1)
-
-same-length-4 : tie.Need-same-length-4
-same-length-4 c = search needs
 
 returns-3 : tie.Need-returns-3
 returns-3 c = λ n k e kn rep. expr-none (c .before .before .before .before .before .before .before .before .before .before .before .before .before .args .source .now) n k e (c .before .before .before .before .before .judge .ensures n k e kn (at-row (c .before .before .before .before .before .before .before .word .ensures) rep)) (c .enum-told .given .1)
@@ -62,19 +41,5 @@ returns-3 c = λ n k e kn rep. expr-none (c .before .before .before .before .bef
 pub expr-stmt-spec : {M : Type 1} → statement M
 expr-stmt-spec =
     tie.close
-    (tie.spec
-    word-requires
-    judge-requires
-    enum-known-out
-    word-requires-2
-    tell-requires
-    enum-known-out-2
-    error-requires
-    enum-told
-    same-length
-    same-length-2
-    returns
-    same-length-3
-    returns-2
-    same-length-4
-    returns-3)
+    (tie.spec word-requires judge-requires (search needs) word-requires-2 tell-requires (search needs) error-requires
+    (search needs) (search needs) (search needs) returns (search needs) returns-2 (search needs) returns-3)

@@ -12,20 +12,11 @@ abbrev μ-loop : tie.MeasureT-loop
 loop-holds : tie.Need-loop-holds Inv-loop μ-loop
 loop-holds c = none-yet _
 
-sub-i : tie.Need-sub-i Inv-loop μ-loop
-sub-i c = search needs
-
 word-requires : tie.Need-word-requires Inv-loop μ-loop
 word-requires c κs = (row-before (c .before .loop .inv) (c .loop-test .taken), search needs)
 
 word-requires-2 : tie.Need-word-requires-2 Inv-loop μ-loop
 word-requires-2 c κs = (row-before (c .before .before .before .loop .inv) (c .before .before .loop-test .taken), search needs)
-
-sooner-requires : tie.Need-sooner-requires Inv-loop μ-loop
-sooner-requires c κs = search needs
-
-loop-less : tie.Need-loop-less Inv-loop μ-loop
-loop-less c = search needs
 
 loop-again : tie.Need-loop-again Inv-loop μ-loop
 loop-again c =
@@ -33,9 +24,6 @@ loop-again c =
     let kind = tested .before in
     let turn = kind .before in
     a-call (turn .before .loop .inv) (turn .loop-test .taken) (kind .word .ensures) (tested .if1 .taken) (c .before .word2 .ensures) (c .sooner .ensures)
-
-loop-less-2 : tie.Need-loop-less-2 Inv-loop μ-loop
-loop-less-2 c = search needs
 
 loop-again-2 : tie.Need-loop-again-2 Inv-loop μ-loop
 loop-again-2 c = no-call (c .before .before .before .loop .inv) (c .before .before .loop-test .taken) (c .before .word .ensures) (c .if1 .left)
@@ -46,16 +34,5 @@ returns c = all-read (c .before .loop .inv) (c .loop-test .left)
 pub first-call-spec : {M : Type 1} → statement M
 first-call-spec =
     tie.close
-    (tie.spec
-    Inv-loop
-    μ-loop
-    loop-holds
-    sub-i
-    word-requires
-    word-requires-2
-    sooner-requires
-    loop-less
-    loop-again
-    loop-less-2
-    loop-again-2
-    returns)
+    (tie.spec Inv-loop μ-loop loop-holds (search needs) word-requires word-requires-2 (search needs) (search needs)
+    loop-again (search needs) loop-again-2 returns)

@@ -27,59 +27,17 @@ use Rattle.judging.proofs.token_at.Reads as token-at-reads
 token-at-requires : tie.Need-token-at-requires
 token-at-requires c κs = some-row (c .before .before .before .pre .0 .0)
 
-name-at-requires : tie.Need-name-at-requires
-name-at-requires c κs = search needs
-
-find-requires : tie.Need-find-requires
-find-requires c κs = search needs
-
-named-requires : tie.Need-named-requires
-named-requires c κs = search needs
-
 warn-requires : tie.Need-warn-requires
 warn-requires c κs = c .before .before .before .before .before .before .before .before .before .before .pre .1 .findings
-
-same-length : tie.Need-same-length
-same-length c = search needs
-
-same-length-2 : tie.Need-same-length-2
-same-length-2 c = search needs
 
 returns : tie.Need-returns
 returns c = λ n k b u kn rd. turn-again (c .before .before .before .before .before .before .before .before .before .before .before .before .before .args .source .now) (c .before .before .before .before .before .before .before .before .before .before .before .before .before .args .toks .now) n (c .before .before .before .before .before .before .before .before .before .before .before .before .before .args .t) k b (c .before .before .before .before .before .before .before .before .before .before .before .before .before .args .imports .now) u (c .before .before .before .before .before .before .before .before .before .before .before .before .before .args .diags .now) (c .before .before .before .before .before .before .before .before .before .before .before .before .before .args .counts) kn rd _ _ (c .before .before .before .before .before .before .find .ensures) (c .before .before .before .before .before .before .before .name-at .ensures (c .before .before .before .before .before .before .before .before .before .before .before .before .before .args .t) (c .before .before .before .before .before .before .before .before .before .token-at .ensures _ (c .before .before .before .before .before .before .before .before .before .before .before .before .before .pre .0 .0))) (c .before .before .before .before .before .if1 .taken) (c .before .before .before .named .ensures ∙ imported-twice _ _ (c .before .before .before .before .before .before .before .before .before .token-at .ensures _ (c .before .before .before .before .before .before .before .before .before .before .before .before .before .pre .0 .0))) (c .before .before .warn .ensures .0) (c .before .before .warn .ensures .1)
 
-same-length-3 : tie.Need-same-length-3
-same-length-3 c = search needs
-
 returns-2 : tie.Need-returns-2
 returns-2 c = λ n k b u kn rd. turn-full (c .before .before .before .before .before .before .before .before .before .args .source .now) (c .before .before .before .before .before .before .before .before .before .args .toks .now) n (c .before .before .before .before .before .before .before .before .before .args .t) k b (c .before .before .before .before .before .before .before .before .before .args .imports .now) u (c .before .before .before .before .before .before .before .before .before .args .diags .now) (c .before .before .before .before .before .before .before .before .before .args .counts) kn rd _ _ (c .before .before .find .ensures) (c .before .before .before .name-at .ensures (c .before .before .before .before .before .before .before .before .before .args .t) (c .before .before .before .before .before .token-at .ensures _ (c .before .before .before .before .before .before .before .before .before .pre .0 .0))) (c .before .if1 .left) (c .if2 .taken)
 
-module-at-requires : tie.Need-module-at-requires
-module-at-requires c κs = search needs
-
-name-span-requires : tie.Need-name-span-requires
-name-span-requires c κs = search needs
-
-key-at-requires : tie.Need-key-at-requires
-key-at-requires c κs = search needs
-
-put-entry-requires : tie.Need-put-entry-requires
-put-entry-requires c κs = search needs
-
-imported-one-requires : tie.Need-imported-one-requires
-imported-one-requires c κs = search needs
-
-named-requires-2 : tie.Need-named-requires-2
-named-requires-2 c κs = search needs
-
 error-requires : tie.Need-error-requires
 error-requires c κs = omega (arith, c .before .before .before .before .before .before .before .before .before .before .before .before .before .before .before .before .before .before .before .pre .1 .findings, ap (λ (l : Counts). l .errors + l .warnings) (c .before .before .before .imported-one .ensures))
-
-same-length-4 : tie.Need-same-length-4
-same-length-4 c = search needs
-
-same-length-5 : tie.Need-same-length-5
-same-length-5 c = search needs
 
 returns-3 : tie.Need-returns-3
 returns-3 c =
@@ -95,9 +53,6 @@ returns-3 c =
     (c .before .before .before .named2 .ensures ∙ no-module _ _ tok) (c .before .before .error .ensures .0 ∙ ap plusError (more .imported-one .ensures))
     (c .before .before .error .ensures .1 ∙ ap (λ (l : Counts). putRow (start .args .diags .now) (l .errors + l .warnings) (faultRow (c .before .before .before .named2 .result))) (more .imported-one .ensures))
 
-same-length-6 : tie.Need-same-length-6
-same-length-6 c = search needs
-
 returns-4 : tie.Need-returns-4
 returns-4 c =
     let put = c .before .before .before in
@@ -112,26 +67,6 @@ returns-4 c =
 pub import-spec : {M : Type 1} → statement M
 import-spec =
     tie.close
-    (tie.spec
-    token-at-requires
-    name-at-requires
-    find-requires
-    named-requires
-    warn-requires
-    same-length
-    same-length-2
-    returns
-    same-length-3
-    returns-2
-    module-at-requires
-    name-span-requires
-    key-at-requires
-    put-entry-requires
-    imported-one-requires
-    named-requires-2
-    error-requires
-    same-length-4
-    same-length-5
-    returns-3
-    same-length-6
-    returns-4)
+    (tie.spec token-at-requires (search needs) (search needs) (search needs) warn-requires (search needs) (search needs)
+    returns (search needs) returns-2 (search needs) (search needs) (search needs) (search needs) (search needs)
+    (search needs) error-requires (search needs) (search needs) returns-3 (search needs) returns-4)

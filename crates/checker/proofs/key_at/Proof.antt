@@ -8,14 +8,8 @@ use Rattle.checker.proofs.key_at.Lts as lts
 use Rattle.judging.proofs.key_of.Reads as key-of-reads
 use Rattle.judging.proofs.name_at.Reads as name-at-reads
 
-name-at-requires : tie.Need-name-at-requires
-name-at-requires c κs = search needs
-
-key-of-requires : tie.Need-key-of-requires
-key-of-requires c κs = search needs
-
 returns : tie.Need-returns
 returns c = λ t e. c .key-of .ensures ∙ ap keyOf (c .before .name-at .ensures t e)
 
 pub key-at-spec : {M : Type 1} → statement M
-key-at-spec = tie.close (tie.spec name-at-requires key-of-requires returns)
+key-at-spec = tie.close (tie.spec (search needs) (search needs) returns)

@@ -21,41 +21,14 @@ use Rattle.judging.proofs.named.Reads as named-reads
 use Rattle.judging.proofs.token_at.Reads as token-at-reads
 use Rattle.judging.proofs.word.Reads as word-reads
 
-word-requires : tie.Need-word-requires
-word-requires c κs = search needs
-
 token-at-requires : tie.Need-token-at-requires
 token-at-requires c κs = some-row (c .before .before .before .before .before .pre .0 .0 .lexed)
-
-name-at-requires : tie.Need-name-at-requires
-name-at-requires c κs = search needs
-
-find-requires : tie.Need-find-requires
-find-requires c κs = search needs
-
-mul-token-at : tie.Need-mul-token-at
-mul-token-at c = search needs
-
-index-1-token-at : tie.Need-index-1-token-at
-index-1-token-at c = search needs
-
-index-2-token-at : tie.Need-index-2-token-at
-index-2-token-at c = search needs
 
 token-at-requires-2 : tie.Need-token-at-requires-2
 token-at-requires-2 c κs = some-row (c .before .before .before .before .before .before .before .before .before .before .before .pre .0 .0 .lexed)
 
-named-requires : tie.Need-named-requires
-named-requires c κs = search needs
-
 error-requires : tie.Need-error-requires
 error-requires c κs = omega (arith, c .before .before .before .before .before .before .before .before .before .before .before .before .before .before .pre .1 .0 .room)
-
-same-length : tie.Need-same-length
-same-length c = search needs
-
-same-length-2 : tie.Need-same-length-2
-same-length-2 c = search needs
 
 returns : tie.Need-returns
 returns c =
@@ -67,9 +40,6 @@ returns c =
     (c .before .before .before .before .before .before .before .before .before .name-at .ensures _ tok) (c .before .before .before .before .before .before .before .if1 .taken)
     (c .before .before .before .named .ensures ∙ bound-twice _ _ _ tok first) (c .before .before .error .ensures .0) (c .before .before .error .ensures .1)
 
-same-length-3 : tie.Need-same-length-3
-same-length-3 c = search needs
-
 returns-2 : tie.Need-returns-2
 returns-2 c =
     let start = c .before .before .before .before .before .before .before .before .before .before .before in
@@ -78,19 +48,10 @@ returns-2 c =
     (start .args .imports .now) u (start .args .diags .now) (start .args .counts) kn (start .pre .0 .0) _ _ (c .before .before .find .ensures)
     (c .before .before .before .name-at .ensures _ tok) (c .before .if1 .left) (c .if2 .taken)
 
-word-requires-2 : tie.Need-word-requires-2
-word-requires-2 c κs = search needs
-
 judge-requires : tie.Need-judge-requires
 judge-requires c κs =
     let start = c .before .before .before .before .before .before .before .before .before .before .before .before .before .before in
     (start .pre .0 .0, fits-expr (start .pre .1 .0) (c .before .before .word2 .ensures))
-
-name-span-requires : tie.Need-name-span-requires
-name-span-requires c κs = search needs
-
-key-at-requires : tie.Need-key-at-requires
-key-at-requires c κs = search needs
 
 bind-requires : tie.Need-bind-requires
 bind-requires c κs =
@@ -100,12 +61,6 @@ bind-requires c κs =
     let agrees = c .before .before .before .before .before .before .judge .ensures 0 known (start .pre .1 .0 .tree) (record { is = refl }) rep in
     let used = used-after agrees (omega (arith, c .before .before .before .before .before .before .before .before .before .before .if2 .left)) in
     ((used, omega (arith, start .pre .0 .1)), room-after (start .pre .1 .0) (start .args .source .now) 0 known agrees)
-
-same-length-4 : tie.Need-same-length-4
-same-length-4 c = search needs
-
-same-length-5 : tie.Need-same-length-5
-same-length-5 c = search needs
 
 returns-3 : tie.Need-returns-3
 returns-3 c =
@@ -122,27 +77,7 @@ returns-3 c =
 pub let-stmt-spec : {M : Type 1} → statement M
 let-stmt-spec =
     tie.close
-    (tie.spec
-    word-requires
-    token-at-requires
-    name-at-requires
-    find-requires
-    mul-token-at
-    index-1-token-at
-    index-2-token-at
-    token-at-requires-2
-    named-requires
-    error-requires
-    same-length
-    same-length-2
-    returns
-    same-length-3
-    returns-2
-    word-requires-2
-    judge-requires
-    name-span-requires
-    key-at-requires
-    bind-requires
-    same-length-4
-    same-length-5
-    returns-3)
+    (tie.spec (search needs) token-at-requires (search needs) (search needs) (search needs) (search needs)
+    (search needs) token-at-requires-2 (search needs) error-requires (search needs) (search needs) returns
+    (search needs) returns-2 (search needs) judge-requires (search needs) (search needs) bind-requires (search needs)
+    (search needs) returns-3)

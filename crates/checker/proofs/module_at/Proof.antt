@@ -12,12 +12,6 @@ use Rattle.constants.proofs.Constants.new.Reads as new-reads
 use Rattle.constants.proofs.lookup.Reads as lookup-reads
 use Rattle.judging.proofs.name_at.Reads as name-at-reads
 
-new-requires : tie.Need-new-requires
-new-requires c κs = search needs
-
-name-at-requires : tie.Need-name-at-requires
-name-at-requires c κs = search needs
-
 lookup-requires : tie.Need-lookup-requires
 lookup-requires c κs = c .before .before .before .before .before .new .ensures
 
@@ -25,4 +19,4 @@ returns : tie.Need-returns
 returns c = λ t e. c .lookup .ensures .0 ∙ ap (λ (w : List ℕ). orZero (lookup 0 w)) (c .before .name-at .ensures t e)
 
 pub module-at-spec : {M : Type 1} → statement M
-module-at-spec = tie.close (tie.spec new-requires name-at-requires lookup-requires returns)
+module-at-spec = tie.close (tie.spec (search needs) (search needs) lookup-requires returns)

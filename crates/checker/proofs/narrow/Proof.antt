@@ -9,24 +9,6 @@ use Rattle.wide.proofs.Wide.smallest.Reads as smallest-reads
 returns : tie.Need-returns
 returns c = record { is = λ u e. narrow-same u e (c .if1 .taken) }
 
-smallest-requires : tie.Need-smallest-requires
-smallest-requires c κs = search needs
-
-enum-told : tie.Need-enum-told
-enum-told c = search needs
-
-enum-told-2 : tie.Need-enum-told-2
-enum-told-2 c = search needs
-
-enum-told-3 : tie.Need-enum-told-3
-enum-told-3 c = search needs
-
-enum-told-4 : tie.Need-enum-told-4
-enum-told-4 c = search needs
-
-enum-told-5 : tie.Need-enum-told-5
-enum-told-5 c = search needs
-
 returns-2 : tie.Need-returns-2
 returns-2 c = record { is = λ u e. narrow-u8 (c .before .before .before .if1 .left) (c .before .before .smallest .ensures) u e (c .enum-told .given .1) }
 
@@ -45,16 +27,5 @@ returns-6 c = record { is = λ u e. narrow-large (c .before .before .before .if1
 pub narrow-spec : {M : Type 1} → statement M
 narrow-spec =
     tie.close
-    (tie.spec
-    returns
-    smallest-requires
-    enum-told
-    enum-told-2
-    enum-told-3
-    enum-told-4
-    enum-told-5
-    returns-2
-    returns-3
-    returns-4
-    returns-5
-    returns-6)
+    (tie.spec returns (search needs) (search needs) (search needs) (search needs) (search needs) (search needs)
+    returns-2 returns-3 returns-4 returns-5 returns-6)

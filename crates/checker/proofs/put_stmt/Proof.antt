@@ -13,36 +13,6 @@ use Rattle.checker.proofs.shown.Reads as shown-reads
 use Rattle.judging.proofs.type_kind.Reads as type-kind-reads
 use Rattle.table.proofs.put_row.Reads as put-row-reads
 
-shown-requires : tie.Need-shown-requires
-shown-requires c κs = search needs
-
-type-kind-requires : tie.Need-type-kind-requires
-type-kind-requires c κs = search needs
-
-mul-at : tie.Need-mul-at
-mul-at c = search needs
-
-mul-put-row : tie.Need-mul-put-row
-mul-put-row c = search needs
-
-sub-put-row : tie.Need-sub-put-row
-sub-put-row c = search needs
-
-part-put-row-start : tie.Need-part-put-row-start
-part-put-row-start c = search needs
-
-part-put-row-end : tie.Need-part-put-row-end
-part-put-row-end c = search needs
-
-slice-aggregate-put-row : tie.Need-slice-aggregate-put-row
-slice-aggregate-put-row c = search needs
-
-put-row-requires : tie.Need-put-row-requires
-put-row-requires c κs = search needs
-
-same-length : tie.Need-same-length
-same-length c = search needs
-
 returns : tie.Need-returns
 returns c = record { is = λ u e. put-part (c .before .before .before .before .before .before .before .before .before .args .stmts .now) _ _ (c .before .before .before .before .before .before .before .before .before .args .row) 7 refl (omega (arith, c .before .before .before .before .before .if1 .taken)) (c .before .before .put-row .ensures) ∙ row-shown (c .before .before .before .before .before .before .before .before .before .args .stmts .now) (c .before .before .before .before .before .before .before .before .before .args .row) (c .before .before .before .before .before .before .before .before .before .args .tok) u (c .before .before .before .before .before .before .before .shown .ensures .is u e) (c .before .before .before .before .before .before .type-kind .ensures .is u e) }
 
@@ -52,16 +22,5 @@ returns-2 c = record { is = λ u e. sym (put-full (c .before .before .before .be
 pub put-stmt-spec : {M : Type 1} → statement M
 put-stmt-spec =
     tie.close
-    (tie.spec
-    shown-requires
-    type-kind-requires
-    mul-at
-    mul-put-row
-    sub-put-row
-    part-put-row-start
-    part-put-row-end
-    slice-aggregate-put-row
-    put-row-requires
-    same-length
-    returns
-    returns-2)
+    (tie.spec (search needs) (search needs) (search needs) (search needs) (search needs) (search needs) (search needs)
+    (search needs) (search needs) (search needs) returns returns-2)

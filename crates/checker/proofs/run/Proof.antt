@@ -12,32 +12,11 @@ Inv-loop source toks nodes diags₀ stmts₀ bindings₀ imports₀ counts₀ ro
 abbrev μ-loop : tie.MeasureT-loop
 μ-loop source toks nodes diags₀ stmts₀ bindings₀ imports₀ counts₀ rows i₀ diags stmts bindings imports counts i = rows - i
 
-names-requires : tie.Need-names-requires Inv-loop μ-loop
-names-requires c κs = search needs
-
-modules-requires : tie.Need-modules-requires Inv-loop μ-loop
-modules-requires c κs = search needs
-
-start-requires : tie.Need-start-requires Inv-loop μ-loop
-start-requires c κs = search needs
-
 loop-holds : tie.Need-loop-holds Inv-loop μ-loop
 loop-holds c = start (c .before .before .before .before .before .before .before .before .pre .0) (c .before .before .before .before .before .before .before .before .pre .1) (c .before .before .names .ensures) (c .before .modules .ensures) (c .start .ensures)
 
-slice-aggregate-stmt : tie.Need-slice-aggregate-stmt Inv-loop μ-loop
-slice-aggregate-stmt c = search needs
-
-slice-aggregate-stmt-2 : tie.Need-slice-aggregate-stmt-2 Inv-loop μ-loop
-slice-aggregate-stmt-2 c = search needs
-
 stmt-requires : tie.Need-stmt-requires Inv-loop μ-loop
 stmt-requires c κs = let l = c .before .before .before .before .before .loop .inv in ((l .ready, l .names, l .modules), (l .fits, omega (arith, c .before .before .before .before .loop-test .taken)))
-
-enum-known-then : tie.Need-enum-known-then Inv-loop μ-loop
-enum-known-then c = search needs
-
-enum-known-t : tie.Need-enum-known-t Inv-loop μ-loop
-enum-known-t c = search needs
 
 same-length : tie.Need-same-length Inv-loop μ-loop
 same-length c = c .before .before .before .before .before .before .before .before .before .stmt .kept .1 .1 .1 .1 .1 .0 ∙ c .before .before .before .before .before .before .before .before .before .before .before .before .before .before .before .loop .inv .diags
@@ -69,24 +48,6 @@ returns-2 c = finished (c .before .loop .inv) (c .loop-test .left)
 pub run-spec : {M : Type 1} → statement M
 run-spec =
     tie.close
-    (tie.spec
-    Inv-loop
-    μ-loop
-    names-requires
-    modules-requires
-    start-requires
-    loop-holds
-    slice-aggregate-stmt
-    slice-aggregate-stmt-2
-    stmt-requires
-    enum-known-then
-    enum-known-t
-    same-length
-    same-length-2
-    returns
-    add-i
-    loop-less
-    loop-again
-    same-length-3
-    same-length-4
-    returns-2)
+    (tie.spec Inv-loop μ-loop (search needs) (search needs) (search needs) loop-holds (search needs) (search needs)
+    stmt-requires (search needs) (search needs) same-length same-length-2 returns add-i loop-less loop-again
+    same-length-3 same-length-4 returns-2)

@@ -6,9 +6,6 @@ use Rattle.checker.proofs.shown.Reads as reads
 use Rattle.checker.proofs.shown.Lts as lts
 use Rattle.judging.proofs.type_text.Reads as type-text-reads
 
-type-text-requires : tie.Need-type-text-requires
-type-text-requires c κs = search needs
-
 returns : tie.Need-returns
 returns c = record { is = λ u e. shown-function u e (c .type-text .ensures .is u e) (c .before .match .keys1) }
 
@@ -22,4 +19,4 @@ returns-4 : tie.Need-returns-4
 returns-4 c = record { is = λ u e. shown-other u e (c .match .rest .0 .0 .1) (c .match .rest .0 .1) (c .match .rest .1) }
 
 pub shown-spec : {M : Type 1} → statement M
-shown-spec = tie.close (tie.spec type-text-requires returns returns-2 returns-3 returns-4)
+shown-spec = tie.close (tie.spec (search needs) returns returns-2 returns-3 returns-4)

@@ -3,14 +3,8 @@ use borrow.Author.Needs.{needs}
 use Rattle.checker.proofs.sooner.Statement.{statement}
 use Rattle.checker.proofs.sooner.Tie as tie
 
-enum-known-found : tie.Need-enum-known-found
-enum-known-found c = search needs
-
 returns : tie.Need-returns
 returns c = sooner-other (c .before .before .found .given .1) (c .if1 .taken)
-
-enum-told : tie.Need-enum-told
-enum-told c = search needs
 
 returns-2 : tie.Need-returns-2
 returns-2 c = sooner-own (c .before .before .found .given .1) (c .if1 .left)
@@ -19,4 +13,4 @@ returns-3 : tie.Need-returns-3
 returns-3 c = sooner-only (c .enum-told .given .1)
 
 pub sooner-spec : {M : Type 1} → statement M
-sooner-spec = tie.close (tie.spec enum-known-found returns enum-told returns-2 returns-3)
+sooner-spec = tie.close (tie.spec (search needs) returns (search needs) returns-2 returns-3)

@@ -11,12 +11,6 @@ use Rattle.checker.proofs.import.Reads as import-reads
 use Rattle.checker.proofs.let_stmt.Reads as let-stmt-reads
 use Rattle.judging.proofs.word.Reads as word-reads
 
-word-requires : tie.Need-word-requires
-word-requires c κs = search needs
-
-word-requires-2 : tie.Need-word-requires-2
-word-requires-2 c κs = search needs
-
 import-requires : tie.Need-import-requires
 import-requires c κs =
     let start = c .before .before .before .before .before .before .before .before .before .before in
@@ -37,12 +31,6 @@ expr-stmt-requires c κs =
     let fits = stmt-fits (start .pre .1 .1) (start .pre .1 .0) (omega (arith, c .before .before .before .before .before .word .ensures, c .before .before .before .before .match .keys3)) in
     (start .pre .0 .0, (fits, start .pre .1 .1))
 
-same-length : tie.Need-same-length
-same-length c = search needs
-
-same-length-2 : tie.Need-same-length-2
-same-length-2 c = search needs
-
 returns : tie.Need-returns
 returns c =
     let start = c .before .before .before .before .before .before .before .before .before .before .before .before .before .before in
@@ -51,15 +39,6 @@ returns c =
     (start .args .imports .now) (start .args .diags .now) (start .args .stmts .now) kind (c .before .before .before .before .word2 .ensures) at
     (c .before .before .before .import .ensures n k _ (start .args .stmts .now) kn (start .pre .0 .0))
 
-same-length-3 : tie.Need-same-length-3
-same-length-3 c = search needs
-
-same-length-4 : tie.Need-same-length-4
-same-length-4 c = search needs
-
-same-length-5 : tie.Need-same-length-5
-same-length-5 c = search needs
-
 returns-2 : tie.Need-returns-2
 returns-2 c =
     let start = c .before .before .before .before .before .before .before .before .before .before .before .before .before .before in
@@ -67,18 +46,6 @@ returns-2 c =
     λ n k ss kn at. row-let (start .pre .1 .1) (start .args .source .now) (start .args .toks .now) n k (start .args .counts) (start .args .bindings .now)
     (start .args .imports .now) (start .args .diags .now) (start .args .stmts .now) kind at
     (λ e rep. c .before .before .before .let-stmt .ensures n k e (start .args .stmts .now) kn rep)
-
-same-length-6 : tie.Need-same-length-6
-same-length-6 c = search needs
-
-same-length-7 : tie.Need-same-length-7
-same-length-7 c = search needs
-
-same-length-8 : tie.Need-same-length-8
-same-length-8 c = search needs
-
-same-length-9 : tie.Need-same-length-9
-same-length-9 c = search needs
 
 returns-3 : tie.Need-returns-3
 returns-3 c =
@@ -99,22 +66,6 @@ returns-4 c =
 pub stmt-spec : {M : Type 1} → statement M
 stmt-spec =
     tie.close
-    (tie.spec
-    word-requires
-    word-requires-2
-    import-requires
-    let-stmt-requires
-    expr-stmt-requires
-    same-length
-    same-length-2
-    returns
-    same-length-3
-    same-length-4
-    same-length-5
-    returns-2
-    same-length-6
-    same-length-7
-    same-length-8
-    same-length-9
-    returns-3
-    returns-4)
+    (tie.spec (search needs) (search needs) import-requires let-stmt-requires expr-stmt-requires (search needs)
+    (search needs) returns (search needs) (search needs) (search needs) returns-2 (search needs) (search needs)
+    (search needs) (search needs) returns-3 returns-4)

@@ -16,47 +16,17 @@ use Rattle.checker.proofs.warn.Reads as warn-reads
 use Rattle.judging.proofs.token_at.Reads as token-at-reads
 use Rattle.judging.proofs.typed.Reads as typed-reads
 
-token-at-requires : tie.Need-token-at-requires
-token-at-requires c κs = search needs
-
-narrow-requires : tie.Need-narrow-requires
-narrow-requires c κs = search needs
-
-enum-known-w : tie.Need-enum-known-w
-enum-known-w c = search needs
-
-put-stmt-requires : tie.Need-put-stmt-requires
-put-stmt-requires c κs = search needs
-
-typed-requires : tie.Need-typed-requires
-typed-requires c κs = search needs
-
 warn-requires : tie.Need-warn-requires
 warn-requires c κs = c .before .before .before .before .before .before .before .before .before .before .before .before .before .before .pre .1 .findings
 
 held-one-requires : tie.Need-held-one-requires
 held-one-requires c κs = omega (arith, c .before .before .before .before .before .before .before .before .before .before .before .before .before .before .before .before .before .pre .1 .held, ap (λ (l : Counts). l .statements) (c .before .before .warn .ensures .0))
 
-enum-told : tie.Need-enum-told
-enum-told c = search needs
-
-bare-requires : tie.Need-bare-requires
-bare-requires c κs = search needs
-
 error-requires : tie.Need-error-requires
 error-requires c κs = omega (arith, c .before .before .before .before .before .before .before .before .before .pre .1 .findings)
 
-same-length : tie.Need-same-length
-same-length c = search needs
-
-same-length-2 : tie.Need-same-length-2
-same-length-2 c = search needs
-
 returns : tie.Need-returns
 returns c = λ s o. tells-fits s (c .before .before .before .before .before .before .before .before .before .before .before .before .before .before .before .before .before .before .args .t) (c .before .before .before .before .before .before .before .before .before .before .before .before .before .before .token-at .ensures s o) (c .before .before .before .before .before .before .before .before .before .before .before .before .before .narrow .ensures) (c .before .before .before .before .before .before .before .before .before .before .before .w .given .1) (c .before .before .before .before .before .before .before .before .put-stmt .ensures) (c .before .before .before .before .typed .ensures) (c .before .before .before .warn .ensures .0) (c .before .before .before .warn .ensures .1) (c .held-one .ensures)
-
-same-length-3 : tie.Need-same-length-3
-same-length-3 c = search needs
 
 returns-2 : tie.Need-returns-2
 returns-2 c = λ s o. tells-large s (c .before .before .before .before .before .before .before .before .before .before .before .before .args .t) (c .before .before .before .before .before .before .before .before .token-at .ensures s o) (c .before .before .before .before .before .before .before .narrow .ensures) (c .before .before .before .before .before .enum-told .given .1) (c .before .before .before .bare .ensures) (c .before .before .error .ensures .0) (c .before .before .error .ensures .1)
@@ -64,19 +34,5 @@ returns-2 c = λ s o. tells-large s (c .before .before .before .before .before .
 pub tell-spec : {M : Type 1} → statement M
 tell-spec =
     tie.close
-    (tie.spec
-    token-at-requires
-    narrow-requires
-    enum-known-w
-    put-stmt-requires
-    typed-requires
-    warn-requires
-    held-one-requires
-    enum-told
-    bare-requires
-    error-requires
-    same-length
-    same-length-2
-    returns
-    same-length-3
-    returns-2)
+    (tie.spec (search needs) (search needs) (search needs) (search needs) (search needs) warn-requires held-one-requires
+    (search needs) (search needs) error-requires (search needs) (search needs) returns (search needs) returns-2)

@@ -20,20 +20,8 @@ abbrev μ-loop : tie.MeasureT-loop
 loop-holds : tie.Need-loop-holds Inv-loop μ-loop
 loop-holds c = (search needs, refl)
 
-is-hit-requires : tie.Need-is-hit-requires Inv-loop μ-loop
-is-hit-requires c κs = search needs
-
-add-result : tie.Need-add-result Inv-loop μ-loop
-add-result c = search needs
-
 returns : tie.Need-returns Inv-loop μ-loop
 returns c = let k = c .before .before .before in (found _ _ (k .loop .i) (c .before .before .loop-test .taken) (let g = c .before .before .before .before .before .pre in rw (sym (g .0), sym (g .1)) (sym (c .before .is-hit .ensures) ∙ c .if1 .taken)) ∙ k .loop .inv .1, search needs)
-
-add-i : tie.Need-add-i Inv-loop μ-loop
-add-i c = search needs
-
-loop-less : tie.Need-loop-less Inv-loop μ-loop
-loop-less c = search needs
 
 loop-again : tie.Need-loop-again Inv-loop μ-loop
 loop-again c = let k = c .before .before .before in (search needs, missed _ _ (k .loop .i) (c .before .before .loop-test .taken) (let g = c .before .before .before .before .before .pre in rw (sym (g .0), sym (g .1)) (sym (c .before .is-hit .ensures) ∙ c .if1 .left)) ∙ k .loop .inv .1)
@@ -44,14 +32,5 @@ returns-2 c = (ended _ _ _ (c .loop-test .left) ∙ c .before .loop .inv .1, sea
 pub lookup-spec : {M : Type 1} → statement M
 lookup-spec =
     tie.close
-    (tie.spec
-    Inv-loop
-    μ-loop
-    loop-holds
-    is-hit-requires
-    add-result
-    returns
-    add-i
-    loop-less
-    loop-again
+    (tie.spec Inv-loop μ-loop loop-holds (search needs) (search needs) returns (search needs) (search needs) loop-again
     returns-2)

@@ -6,17 +6,11 @@ use Rattle.constants.proofs.name_text.Reads as reads
 use Rattle.constants.proofs.name_text.Lts as lts
 use Rattle.constants.proofs.part.Reads as part-reads
 
-part-requires : tie.Need-part-requires
-part-requires c κs = search needs
-
 returns : tie.Need-returns
 returns c = rw (c .before .if1 .taken) (c .part .ensures)
-
-part-requires-2 : tie.Need-part-requires-2
-part-requires-2 c κs = search needs
 
 returns-2 : tie.Need-returns-2
 returns-2 c = rw (c .before .if1 .left) (c .part2 .ensures)
 
 pub name-text-spec : {M : Type 1} → statement M
-name-text-spec = tie.close (tie.spec part-requires returns part-requires-2 returns-2)
+name-text-spec = tie.close (tie.spec (search needs) returns (search needs) returns-2)

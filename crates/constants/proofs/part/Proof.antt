@@ -6,51 +6,17 @@ use Rattle.constants.proofs.part.Tie as tie
 use Rattle.constants.proofs.part.Reads as reads
 use Rattle.constants.proofs.part.Lts as lts
 
-slice-aggregate-result : tie.Need-slice-aggregate-result
-slice-aggregate-result c = search needs
-
 returns : tie.Need-returns
 returns c = part-none _ _ _ (c .before .if1 .taken)
-
-slice-aggregate-result-2 : tie.Need-slice-aggregate-result-2
-slice-aggregate-result-2 c = search needs
 
 returns-2 : tie.Need-returns-2
 returns-2 c = part-past _ _ _ (c .before .if2 .taken)
 
-sub-result : tie.Need-sub-result
-sub-result c = search needs
-
-part-result-start : tie.Need-part-result-start
-part-result-start c = search needs
-
-part-result-end : tie.Need-part-result-end
-part-result-end c = search needs
-
 returns-3 : tie.Need-returns-3
 returns-3 c = part-rest _ _ _ (le-of-lt (c .before .if3 .taken))
-
-part-result-start-2 : tie.Need-part-result-start-2
-part-result-start-2 c = search needs
-
-part-result-end-2 : tie.Need-part-result-end-2
-part-result-end-2 c = search needs
-
-returns-4 : tie.Need-returns-4
-returns-4 c = search needs
 
 pub part-spec : {M : Type 1} → statement M
 part-spec =
     tie.close
-    (tie.spec
-    slice-aggregate-result
-    returns
-    slice-aggregate-result-2
-    returns-2
-    sub-result
-    part-result-start
-    part-result-end
-    returns-3
-    part-result-start-2
-    part-result-end-2
-    returns-4)
+    (tie.spec (search needs) returns (search needs) returns-2 (search needs) (search needs) (search needs) returns-3
+    (search needs) (search needs) (search needs))

@@ -22,20 +22,8 @@ returns c = not-long (c .before .args .x .now) (c .before .args .y .now) (c .if1
 loop-holds : tie.Need-loop-holds Inv-loop μ-loop
 loop-holds c = (search needs, search needs, search needs)
 
-shared-slice-read-if2 : tie.Need-shared-slice-read-if2 Inv-loop μ-loop
-shared-slice-read-if2 c = search needs
-
-shared-slice-read-if2-2 : tie.Need-shared-slice-read-if2-2 Inv-loop μ-loop
-shared-slice-read-if2-2 c = search needs
-
 returns-2 : tie.Need-returns-2 Inv-loop μ-loop
 returns-2 c = let k = c .before .before .before .before in differs _ _ _ (k .loop .inv .1) (c .before .before .before .loop-test .taken) (c .if2 .taken) ∙ k .loop .inv .2
-
-add-i : tie.Need-add-i Inv-loop μ-loop
-add-i c = search needs
-
-loop-less : tie.Need-loop-less Inv-loop μ-loop
-loop-less c = search needs
 
 loop-again : tie.Need-loop-again Inv-loop μ-loop
 loop-again c = let k = c .before .before .before .before in (search needs, search needs, agrees _ _ _ (k .loop .inv .1) (c .before .before .before .loop-test .taken) (c .if2 .left) ∙ k .loop .inv .2)
@@ -46,15 +34,5 @@ returns-3 c = all _ _ _ (c .before .loop .inv .1) (c .loop-test .left) ∙ c .be
 pub same-spec : {M : Type 1} → statement M
 same-spec =
     tie.close
-    (tie.spec
-    Inv-loop
-    μ-loop
-    returns
-    loop-holds
-    shared-slice-read-if2
-    shared-slice-read-if2-2
-    returns-2
-    add-i
-    loop-less
-    loop-again
-    returns-3)
+    (tie.spec Inv-loop μ-loop returns loop-holds (search needs) (search needs) returns-2 (search needs) (search needs)
+    loop-again returns-3)

@@ -17,14 +17,8 @@ Inv-loop source entries used name key i₀ i = (i ≤ used) × (i + place (names
 abbrev μ-loop : tie.MeasureT-loop
 μ-loop source entries used name key i₀ i = used - i
 
-key-of-requires : tie.Need-key-of-requires Inv-loop μ-loop
-key-of-requires c κs = search needs
-
 loop-holds : tie.Need-loop-holds Inv-loop μ-loop
 loop-holds c = (omega arith, search-start _ _ _ _ 0)
-
-is-named-requires : tie.Need-is-named-requires Inv-loop μ-loop
-is-named-requires c κs = search needs
 
 returns : tie.Need-returns Inv-loop μ-loop
 returns c =
@@ -33,12 +27,6 @@ returns c =
     let start = key .before .before .before in
     let same = c .before .is-named .ensures (start .pre .1 .key _ (test .loop-test .taken)) (key .key-of .ensures) in
     search-hit _ _ _ _ _ (test .loop-test .taken) refl same (c .if1 .taken) ∙ test .before .loop .inv .1
-
-add-i : tie.Need-add-i Inv-loop μ-loop
-add-i c = search needs
-
-loop-less : tie.Need-loop-less Inv-loop μ-loop
-loop-less c = search needs
 
 loop-again : tie.Need-loop-again Inv-loop μ-loop
 loop-again c =
@@ -54,14 +42,5 @@ returns-2 c = search-end _ _ _ _ _ (c .before .loop .inv .0) (c .loop-test .left
 pub find-spec : {M : Type 1} → statement M
 find-spec =
     tie.close
-    (tie.spec
-    Inv-loop
-    μ-loop
-    key-of-requires
-    loop-holds
-    is-named-requires
-    returns
-    add-i
-    loop-less
-    loop-again
+    (tie.spec Inv-loop μ-loop (search needs) loop-holds (search needs) returns (search needs) (search needs) loop-again
     returns-2)

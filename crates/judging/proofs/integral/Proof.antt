@@ -6,21 +6,6 @@ use Rattle.judging.proofs.integral.Reads as reads
 use Rattle.judging.proofs.integral.Lts as lts
 use Rattle.judging.proofs.narrow_to.Reads as narrow-to-reads
 
-enum-known-out : tie.Need-enum-known-out
-enum-known-out c = search needs
-
-narrow-to-requires : tie.Need-narrow-to-requires
-narrow-to-requires c κs = search needs
-
-enum-told : tie.Need-enum-told
-enum-told c = search needs
-
-enum-told-2 : tie.Need-enum-told-2
-enum-told-2 c = search needs
-
-same-length : tie.Need-same-length
-same-length c = search needs
-
 returns : tie.Need-returns
 returns c = λ s o. integral-goes s (c .before .before .before .before .before .before .before .before .before .before .args .ip) (c .before .before .before .before .before .before .before .before .before .before .args .t) (c .before .before .before .before .before .before .out .given .1) (c .before .before .narrow-to .ensures s o)
 
@@ -33,12 +18,4 @@ returns-3 c = λ s o. integral-none s (c .before .before .before .before .args .
 pub integral-spec : {M : Type 1} → statement M
 integral-spec =
     tie.close
-    (tie.spec
-    enum-known-out
-    narrow-to-requires
-    enum-told
-    enum-told-2
-    same-length
-    returns
-    returns-2
-    returns-3)
+    (tie.spec (search needs) (search needs) (search needs) (search needs) (search needs) returns returns-2 returns-3)

@@ -19,23 +19,11 @@ abbrev μ-loop : tie.MeasureT-loop
 loop-holds : tie.Need-loop-holds Inv-loop μ-loop
 loop-holds c = (omega arith, refl)
 
-mul-key : tie.Need-mul-key Inv-loop μ-loop
-mul-key c = search needs
-
-shared-slice-read-key : tie.Need-shared-slice-read-key Inv-loop μ-loop
-shared-slice-read-key c = search needs
-
 cast-key : tie.Need-cast-key Inv-loop μ-loop
 cast-key c = omega (arith, c .shared-slice-known .given (c .before .before .loop .i))
 
 add-key : tie.Need-add-key Inv-loop μ-loop
 add-key c = omega (arith, c .shared-slice-known .given (c .before .before .loop .i))
-
-add-i : tie.Need-add-i Inv-loop μ-loop
-add-i c = search needs
-
-loop-less : tie.Need-loop-less Inv-loop μ-loop
-loop-less c = search needs
 
 loop-again : tie.Need-loop-again Inv-loop μ-loop
 loop-again c = (search needs, key-step _ _ _ (c .before .loop-test .taken) ∙ c .before .before .loop .inv .1)
@@ -46,15 +34,5 @@ returns c = key-end _ _ _ (c .loop-test .left) ∙ c .before .loop .inv .1
 pub key-of-spec : {M : Type 1} → statement M
 key-of-spec =
     tie.close
-    (tie.spec
-    Inv-loop
-    μ-loop
-    loop-holds
-    mul-key
-    shared-slice-read-key
-    cast-key
-    add-key
-    add-i
-    loop-less
-    loop-again
-    returns)
+    (tie.spec Inv-loop μ-loop loop-holds (search needs) (search needs) cast-key add-key (search needs) (search needs)
+    loop-again returns)

@@ -12,20 +12,8 @@ use Rattle.judging.proofs.last_item.Lts as lts
 use Rattle.constants.proofs.entry_word.Reads as entry-word-reads
 use Rattle.judging.proofs.named.Reads as named-reads
 
-entry-word-requires : tie.Need-entry-word-requires
-entry-word-requires c κs = search needs
-
-named-requires : tie.Need-named-requires
-named-requires c κs = search needs
-
 returns : tie.Need-returns
 returns c = λ s t e. ap Err (c .named .ensures ∙ not-a-value s t e) ∙ sym (ap (judgedAs s) (item-module s (contents (tokens s)) t (entryAt (c .before .before .before .args .k) .value) (sym (entry-kind (c .before .before .before .args .k) (c .before .before .before .pre) (c .before .before .entry-word .ensures)) ∙ c .before .if1 .taken)))
-
-entry-word-requires-2 : tie.Need-entry-word-requires-2
-entry-word-requires-2 c κs = search needs
-
-entry-word-requires-3 : tie.Need-entry-word-requires-3
-entry-word-requires-3 c κs = search needs
 
 returns-2 : tie.Need-returns-2
 returns-2 c = λ s t e. item-value s (contents (tokens s)) t _ _ _ (entryAt (c .before .before .before .before .args .k) .value) (entry-kind (c .before .before .before .before .args .k) (c .before .before .before .before .pre) (c .before .before .before .entry-word .ensures)) (entry-low (c .before .before .before .before .args .k) (c .before .before .before .before .pre) (c .before .entry-word2 .ensures)) (entry-high (c .before .before .before .before .args .k) (c .before .before .before .before .pre) (c .entry-word3 .ensures)) (c .before .before .if1 .left)
@@ -33,10 +21,4 @@ returns-2 c = λ s t e. item-value s (contents (tokens s)) t _ _ _ (entryAt (c .
 pub last-item-spec : {M : Type 1} → statement M
 last-item-spec =
     tie.close
-    (tie.spec
-    entry-word-requires
-    named-requires
-    returns
-    entry-word-requires-2
-    entry-word-requires-3
-    returns-2)
+    (tie.spec (search needs) (search needs) returns (search needs) (search needs) returns-2)

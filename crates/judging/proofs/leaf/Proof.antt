@@ -13,12 +13,6 @@ use Rattle.judging.proofs.sock4.Reads as sock4-reads
 use Rattle.judging.proofs.token_at.Reads as token-at-reads
 use Rattle.judging.proofs.word.Reads as word-reads
 
-word-requires : tie.Need-word-requires
-word-requires c κs = search needs
-
-word-requires-2 : tie.Need-word-requires-2
-word-requires-2 c κs = search needs
-
 literal-requires : tie.Need-literal-requires
 literal-requires c κs = some-row (c .before .before .before .before .before .before .pre .0 .lexed)
 
@@ -30,9 +24,6 @@ token-at-requires c κs = some-row (c .before .before .before .before .before .b
 
 local-requires : tie.Need-local-requires
 local-requires c κs = let ready = c .before .before .before .before .before .before .before .pre .0 in (ready .bound, ready .keyed)
-
-word-requires-3 : tie.Need-word-requires-3
-word-requires-3 c κs = search needs
 
 path-requires : tie.Need-path-requires
 path-requires c κs = let ready = c .before .before .before .before .before .before .before .pre .0 in (ready .lexed, ready .modules, ready .keyed-modules)
@@ -52,16 +43,5 @@ returns-4 c = λ n k e kn rep l. leaf-path (c .before .before .before .before .b
 pub leaf-spec : {M : Type 1} → statement M
 leaf-spec =
     tie.close
-    (tie.spec
-    word-requires
-    word-requires-2
-    literal-requires
-    sock4-requires
-    token-at-requires
-    local-requires
-    word-requires-3
-    path-requires
-    returns
-    returns-2
-    returns-3
-    returns-4)
+    (tie.spec (search needs) (search needs) literal-requires sock4-requires token-at-requires local-requires
+    (search needs) path-requires returns returns-2 returns-3 returns-4)

@@ -7,9 +7,6 @@ use Rattle.judging.proofs.literal.Reads as reads
 use Rattle.judging.proofs.literal.Lts as lts
 use Rattle.judging.proofs.token_at.Reads as token-at-reads
 
-token-at-requires : tie.Need-token-at-requires
-token-at-requires c κs = search needs
-
 returns : tie.Need-returns
 returns c = λ s o. literal-bool (c .before .before .before .args .t) s (c .before .token-at .ensures s o) (c .match .keys1)
 
@@ -23,4 +20,4 @@ returns-4 : tie.Need-returns-4
 returns-4 c = λ s o. literal-other (c .before .before .before .args .t) s (c .before .token-at .ensures s o) (c .match .rest .0 .0 .1) (c .match .rest .0 .1) (c .match .rest .1)
 
 pub literal-spec : {M : Type 1} → statement M
-literal-spec = tie.close (tie.spec token-at-requires returns returns-2 returns-3 returns-4)
+literal-spec = tie.close (tie.spec (search needs) returns returns-2 returns-3 returns-4)

@@ -8,21 +8,6 @@ use Rattle.judging.proofs.member.Lts as lts
 use Rattle.judging.proofs.token_at.Reads as token-at-reads
 use Rattle.judging.proofs.typed.Reads as typed-reads
 
-enum-known-out : tie.Need-enum-known-out
-enum-known-out c = search needs
-
-token-at-requires : tie.Need-token-at-requires
-token-at-requires c κs = search needs
-
-typed-requires : tie.Need-typed-requires
-typed-requires c κs = search needs
-
-enum-told : tie.Need-enum-told
-enum-told c = search needs
-
-enum-told-2 : tie.Need-enum-told-2
-enum-told-2 c = search needs
-
 returns : tie.Need-returns
 returns c = λ s o. members s (c .before .before .before .before .before .before .before .args .t) (c .before .before .before .out .given .1) (λ u e. c .typed .ensures .is u e ∙ no-members s (c .before .before .before .before .before .before .before .args .t) (c .before .token-at .ensures s o) u) refl refl
 
@@ -35,12 +20,4 @@ returns-3 c = λ s o. members-none s (c .before .before .before .before .args .t
 pub member-spec : {M : Type 1} → statement M
 member-spec =
     tie.close
-    (tie.spec
-    enum-known-out
-    token-at-requires
-    typed-requires
-    enum-told
-    enum-told-2
-    returns
-    returns-2
-    returns-3)
+    (tie.spec (search needs) (search needs) (search needs) (search needs) (search needs) returns returns-2 returns-3)

@@ -6,17 +6,11 @@ use Rattle.judging.proofs.name_at.Reads as reads
 use Rattle.judging.proofs.name_at.Lts as lts
 use Rattle.constants.proofs.part.Reads as part-reads
 
-part-requires : tie.Need-part-requires
-part-requires c κs = search needs
-
 returns : tie.Need-returns
 returns c = λ t e. is-named _ t e (c .before .if1 .taken) (c .part .ensures)
-
-part-requires-2 : tie.Need-part-requires-2
-part-requires-2 c κs = search needs
 
 returns-2 : tie.Need-returns-2
 returns-2 c = λ t e. not-named _ t e (c .before .if1 .left) (c .part2 .ensures)
 
 pub name-at-spec : {M : Type 1} → statement M
-name-at-spec = tie.close (tie.spec part-requires returns part-requires-2 returns-2)
+name-at-spec = tie.close (tie.spec (search needs) returns (search needs) returns-2)

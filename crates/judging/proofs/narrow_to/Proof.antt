@@ -15,35 +15,8 @@ use Rattle.judging.proofs.truncated.Reads as truncated-reads
 use Rattle.judging.proofs.warned.Reads as warned-reads
 use Rattle.wide.proofs.Wide.low16.Reads as low16-reads
 
-is-integral-requires : tie.Need-is-integral-requires
-is-integral-requires c κs = search needs
-
-operand-requires : tie.Need-operand-requires
-operand-requires c κs = search needs
-
 returns : tie.Need-returns
 returns c = λ s o. not-integer s (c .before .before .before .before .before .args .ip) (c .before .before .before .before .before .args .t) (sym (c .before .before .is-integral .ensures) ∙ not-true _ (c .before .if1 .taken)) (c .operand .ensures s o) refl
-
-low16-requires : tie.Need-low16-requires
-low16-requires c κs = search needs
-
-add-put-diag : tie.Need-add-put-diag
-add-put-diag c = search needs
-
-token-at-requires : tie.Need-token-at-requires
-token-at-requires c κs = search needs
-
-truncated-requires : tie.Need-truncated-requires
-truncated-requires c κs = search needs
-
-put-diag-requires : tie.Need-put-diag-requires
-put-diag-requires c κs = search needs
-
-warned-requires : tie.Need-warned-requires
-warned-requires c κs = search needs
-
-same-length : tie.Need-same-length
-same-length c = search needs
 
 returns-2 : tie.Need-returns-2
 returns-2 c = λ s o. narrows-cut s (c .before .before .before .before .before .before .before .before .before .before .before .before .before .before .args .ip) (c .before .before .before .before .before .before .before .before .before .before .before .before .before .before .args .t) (c .before .before .before .before .before .before .before .before .before .before .before .before .before .before .args .v) (sym (c .before .before .before .before .before .before .before .before .before .before .before .is-integral .ensures) ∙ not-false _ (c .before .before .before .before .before .before .before .before .before .before .if1 .left)) (c .before .before .before .before .before .before .before .before .before .low16 .ensures .0) (sym (c .before .before .before .before .before .before .before .before .if2 .taken) ∙ c .before .before .before .before .before .before .before .before .before .low16 .ensures .1) refl (omega (arith, c .before .before .before .before .before .before .before .before .before .before .before .before .before .before .good .1 .1 .1 .1 .0)) (c .before .before .before .before .before .token-at .ensures s o) (c .before .before .before .before .truncated .ensures) (c .before .before .before .put-diag .ensures) (c .warned .ensures)
@@ -54,16 +27,5 @@ returns-3 c = λ s o. narrows-same s (c .before .before .before .before .before 
 pub narrow-to-spec : {M : Type 1} → statement M
 narrow-to-spec =
     tie.close
-    (tie.spec
-    is-integral-requires
-    operand-requires
-    returns
-    low16-requires
-    add-put-diag
-    token-at-requires
-    truncated-requires
-    put-diag-requires
-    warned-requires
-    same-length
-    returns-2
-    returns-3)
+    (tie.spec (search needs) (search needs) returns (search needs) (search needs) (search needs) (search needs)
+    (search needs) (search needs) (search needs) returns-2 returns-3)

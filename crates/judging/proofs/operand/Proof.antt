@@ -9,14 +9,8 @@ use Rattle.judging.proofs.operand.Lts as lts
 use Rattle.judging.proofs.token_at.Reads as token-at-reads
 use Rattle.judging.proofs.typed.Reads as typed-reads
 
-token-at-requires : tie.Need-token-at-requires
-token-at-requires c κs = search needs
-
-typed-requires : tie.Need-typed-requires
-typed-requires c κs = search needs
-
 returns : tie.Need-returns
 returns c = λ s o. record { is = λ u d ty e p q. ap Err (c .typed .ensures .is u e ∙ operand-is s _ (c .before .token-at .ensures s o) u d ty p q) }
 
 pub operand-spec : {M : Type 1} → statement M
-operand-spec = tie.close (tie.spec token-at-requires typed-requires returns)
+operand-spec = tie.close (tie.spec (search needs) (search needs) returns)

@@ -17,32 +17,11 @@ use Rattle.judging.proofs.walk.Reads as walk-reads
 token-at-requires : tie.Need-token-at-requires
 token-at-requires c κs = some-row (c .before .before .pre .0)
 
-name-at-requires : tie.Need-name-at-requires
-name-at-requires c κs = search needs
-
-find-requires : tie.Need-find-requires
-find-requires c κs = search needs
-
-mul-top : tie.Need-mul-top
-mul-top c = search needs
-
-index-1-top : tie.Need-index-1-top
-index-1-top c = search needs
-
-index-2-top : tie.Need-index-2-top
-index-2-top c = search needs
-
 returns : tie.Need-returns
 returns c = record { is = ap (judgedAs _) (below-failed _ _ _ _ _ _ _ _ _ (c .before .before .before .find .ensures) (c .before .before .before .before .name-at .ensures _ (c .before .before .before .before .before .token-at .ensures _ (c .before .before .before .before .before .before .before .before .pre .0))) _ (c .before .before .if1 .taken) refl (c .if2 .taken)) }
 
-walk-requires : tie.Need-walk-requires
-walk-requires c κs = search needs
-
 returns-2 : tie.Need-returns-2
 returns-2 c = record { is = c .walk .ensures ∙ ap (judgedAs _) (below-found _ _ _ _ _ _ _ _ _ (c .before .before .before .before .find .ensures) (c .before .before .before .before .before .name-at .ensures _ (c .before .before .before .before .before .before .token-at .ensures _ (c .before .before .before .before .before .before .before .before .before .pre .0))) _ (c .before .before .before .if1 .taken) refl (c .before .if2 .left)) }
-
-named-requires : tie.Need-named-requires
-named-requires c κs = search needs
 
 returns-3 : tie.Need-returns-3
 returns-3 c = record { is = ap Err (c .named .ensures ∙ not-imported _ _ (c .before .before .before .before .token-at .ensures _ (c .before .before .before .before .before .before .before .pre .0))) ∙ ap (judgedAs _) (below-lost _ _ _ _ _ _ _ _ _ (c .before .before .find .ensures) (c .before .before .before .name-at .ensures _ (c .before .before .before .before .token-at .ensures _ (c .before .before .before .before .before .before .before .pre .0))) (c .before .if1 .left)) }
@@ -50,15 +29,5 @@ returns-3 c = record { is = ap Err (c .named .ensures ∙ not-imported _ _ (c .b
 pub path-spec : {M : Type 1} → statement M
 path-spec =
     tie.close
-    (tie.spec
-    token-at-requires
-    name-at-requires
-    find-requires
-    mul-top
-    index-1-top
-    index-2-top
-    returns
-    walk-requires
-    returns-2
-    named-requires
-    returns-3)
+    (tie.spec token-at-requires (search needs) (search needs) (search needs) (search needs) (search needs) returns
+    (search needs) returns-2 (search needs) returns-3)

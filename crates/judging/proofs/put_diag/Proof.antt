@@ -10,30 +10,6 @@ use Rattle.judging.proofs.put_diag.Reads as reads
 use Rattle.judging.proofs.put_diag.Lts as lts
 use Rattle.table.proofs.put_row.Reads as put-row-reads
 
-mul-at : tie.Need-mul-at
-mul-at c = search needs
-
-mul-put-row : tie.Need-mul-put-row
-mul-put-row c = search needs
-
-sub-put-row : tie.Need-sub-put-row
-sub-put-row c = search needs
-
-part-put-row-start : tie.Need-part-put-row-start
-part-put-row-start c = search needs
-
-part-put-row-end : tie.Need-part-put-row-end
-part-put-row-end c = search needs
-
-slice-aggregate-put-row : tie.Need-slice-aggregate-put-row
-slice-aggregate-put-row c = search needs
-
-put-row-requires : tie.Need-put-row-requires
-put-row-requires c κs = search needs
-
-same-length : tie.Need-same-length
-same-length c = search needs
-
 returns : tie.Need-returns
 returns c = put-part (c .before .before .before .before .before .before .before .before .args .diags .now) (faultRow (c .before .before .before .before .before .before .before .before .args .f)) _ (c .before .before .before .before .before .before .before .before .args .row) 11 refl (omega (arith, c .before .before .before .before .before .if1 .taken)) (c .before .before .put-row .ensures)
 
@@ -43,14 +19,5 @@ returns-2 c = sym (put-full (c .before .before .before .args .diags .now) (c .be
 pub put-diag-spec : {M : Type 1} → statement M
 put-diag-spec =
     tie.close
-    (tie.spec
-    mul-at
-    mul-put-row
-    sub-put-row
-    part-put-row-start
-    part-put-row-end
-    slice-aggregate-put-row
-    put-row-requires
-    same-length
-    returns
-    returns-2)
+    (tie.spec (search needs) (search needs) (search needs) (search needs) (search needs) (search needs) (search needs)
+    (search needs) returns returns-2)

@@ -9,14 +9,8 @@ use Rattle.judging.proofs.sock4.Lts as lts
 use Rattle.judging.proofs.token_at.Reads as token-at-reads
 use Rattle.judging.proofs.two_after.Reads as two-after-reads
 
-token-at-requires : tie.Need-token-at-requires
-token-at-requires c κs = search needs
-
-two-after-requires : tie.Need-two-after-requires
-two-after-requires c κs = search needs
-
 returns : tie.Need-returns
 returns c = λ s o. sock4-is (tokenOf s (c .before .before .before .args .t)) (tokenOf s (c .before .before .before .args .t + 2)) (c .before .token-at .ensures s o) (c .two-after .ensures s o)
 
 pub sock4-spec : {M : Type 1} → statement M
-sock4-spec = tie.close (tie.spec token-at-requires two-after-requires returns)
+sock4-spec = tie.close (tie.spec (search needs) (search needs) returns)

@@ -6,21 +6,12 @@ use Rattle.judging.proofs.token_at.Reads as reads
 use Rattle.judging.proofs.token_at.Lts as lts
 use Rattle.judging.proofs.token_row.Reads as token-row-reads
 
-token-row-requires : tie.Need-token-row-requires
-token-row-requires c κs = search needs
-
 returns : tie.Need-returns
 returns c = λ s o. token-in o _ (c .token-row .ensures) (c .before .if1 .taken)
-
-sub-token-row : tie.Need-sub-token-row
-sub-token-row c = search needs
-
-token-row-requires-2 : tie.Need-token-row-requires-2
-token-row-requires-2 c κs = search needs
 
 returns-2 : tie.Need-returns-2
 returns-2 c = λ s o. token-past o _ (c .token-row2 .ensures) (c .before .if1 .left)
 
 pub token-at-spec : {M : Type 1} → statement M
 token-at-spec =
-    tie.close (tie.spec token-row-requires returns sub-token-row token-row-requires-2 returns-2)
+    tie.close (tie.spec (search needs) returns (search needs) (search needs) returns-2)

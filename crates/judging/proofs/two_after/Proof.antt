@@ -6,21 +6,12 @@ use Rattle.judging.proofs.two_after.Reads as reads
 use Rattle.judging.proofs.two_after.Lts as lts
 use Rattle.judging.proofs.token_at.Reads as token-at-reads
 
-add-token-at : tie.Need-add-token-at
-add-token-at c = search needs
-
-token-at-requires : tie.Need-token-at-requires
-token-at-requires c κs = search needs
-
 returns : tie.Need-returns
 returns c = λ s o. c .token-at .ensures s o
-
-token-at-requires-2 : tie.Need-token-at-requires-2
-token-at-requires-2 c κs = search needs
 
 returns-2 : tie.Need-returns-2
 returns-2 c = λ s o. token-after o _ (c .token-at2 .ensures s o) (c .before .if1 .left)
 
 pub two-after-spec : {M : Type 1} → statement M
 two-after-spec =
-    tie.close (tie.spec add-token-at token-at-requires returns token-at-requires-2 returns-2)
+    tie.close (tie.spec (search needs) (search needs) returns (search needs) returns-2)

@@ -12,18 +12,9 @@ use Rattle.constants.proofs.entry_word.Reads as entry-word-reads
 returns : tie.Need-returns
 returns c = record { is = λ u e. plain-text u (λ q. c .if1 .taken (ap (λ (v : Value). v .kind) e ∙ q)) }
 
-new-requires : tie.Need-new-requires
-new-requires c κs = search needs
-
-entry-word-requires : tie.Need-entry-word-requires
-entry-word-requires c κs = search needs
-
-entry-word-requires-2 : tie.Need-entry-word-requires-2
-entry-word-requires-2 c κs = search needs
-
 returns-2 : tie.Need-returns-2
 returns-2 c = record { is = λ u e. shown-text u e (c .before .before .before .before .before .new .ensures .0) (c .before .before .before .before .before .before .if1 .left) (c .before .before .entry-word .ensures) (c .entry-word2 .ensures) }
 
 pub type-text-spec : {M : Type 1} → statement M
 type-text-spec =
-    tie.close (tie.spec returns new-requires entry-word-requires entry-word-requires-2 returns-2)
+    tie.close (tie.spec returns (search needs) (search needs) (search needs) returns-2)

@@ -7,14 +7,8 @@ use Rattle.judging.proofs.typed.Lts as lts
 use Rattle.judging.proofs.type_kind.Reads as type-kind-reads
 use Rattle.judging.proofs.type_text.Reads as type-text-reads
 
-type-text-requires : tie.Need-type-text-requires
-type-text-requires c κs = search needs
-
-type-kind-requires : tie.Need-type-kind-requires
-type-kind-requires c κs = search needs
-
 returns : tie.Need-returns
 returns c = record { is = λ u e. typed-is (c .before .before .args .tok) u (c .before .type-text .ensures .is u e) (c .type-kind .ensures .is u e) }
 
 pub typed-spec : {M : Type 1} → statement M
-typed-spec = tie.close (tie.spec type-text-requires type-kind-requires returns)
+typed-spec = tie.close (tie.spec (search needs) (search needs) returns)

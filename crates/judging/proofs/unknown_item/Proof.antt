@@ -9,18 +9,9 @@ use Rattle.judging.proofs.unknown_item.Lts as lts
 use Rattle.constants.proofs.entry_word.Reads as entry-word-reads
 use Rattle.judging.proofs.named.Reads as named-reads
 
-entry-word-requires : tie.Need-entry-word-requires
-entry-word-requires c κs = search needs
-
-entry-word-requires-2 : tie.Need-entry-word-requires-2
-entry-word-requires-2 c κs = search needs
-
-named-requires : tie.Need-named-requires
-named-requires c κs = search needs
-
 returns : tie.Need-returns
 returns c = λ s t e. ap Err (c .named .ensures ∙ unknown-item s t e (c .before .before .before .args .inside) (c .before .before .before .pre) (c .before .before .entry-word .ensures) (c .before .entry-word2 .ensures))
 
 pub unknown-item-spec : {M : Type 1} → statement M
 unknown-item-spec =
-    tie.close (tie.spec entry-word-requires entry-word-requires-2 named-requires returns)
+    tie.close (tie.spec (search needs) (search needs) (search needs) returns)

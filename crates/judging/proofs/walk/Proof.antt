@@ -29,17 +29,11 @@ Inv-loop source toks top t names rows text inside₀ at₀ left₀ inside at lef
 abbrev μ-loop : tie.MeasureT-loop
 μ-loop source toks top t names rows text inside₀ at₀ left₀ inside at left = left
 
-new-requires : tie.Need-new-requires Inv-loop μ-loop
-new-requires c κs = search needs
-
 loop-holds : tie.Need-loop-holds Inv-loop μ-loop
 loop-holds c = refl
 
 two-after-requires : tie.Need-two-after-requires Inv-loop μ-loop
 two-after-requires c κs = some-row (c .before .before .before .before .before .before .before .pre)
-
-name-at-requires : tie.Need-name-at-requires Inv-loop μ-loop
-name-at-requires c κs = search needs
 
 lookup-requires : tie.Need-lookup-requires Inv-loop μ-loop
 lookup-requires c κs = c .before .before .before .before .before .before .before .before .new .ensures
@@ -50,26 +44,17 @@ unknown-item-requires c κs = (c .before .before .before .before .before .before
 returns : tie.Need-returns Inv-loop μ-loop
 returns c = c .unknown-item .ensures _ _ (c .before .before .before .before .before .before .before .two-after .ensures _ (c .before .before .before .before .before .before .before .before .before .before .before .before .before .before .before .pre)) ∙ ap (judgedAs _) (walk-missing (c .before .before .before .before .before .before .before .before .before .before .before .before .before .before .before .args .source .now) (c .before .before .before .before .before .before .before .before .before .loop .left) (c .before .before .before .before .before .before .before .before .before .loop .inside) (c .before .before .before .before .before .before .before .before .before .loop .at) (c .before .before .before .lookup .result) (looked (c .before .before .before .before .before .before .before .before .before .before .before .before .before .before .before .args .source .now) (c .before .before .before .before .before .before .before .before .before .loop .inside) (c .before .before .before .before .before .before .before .before .before .loop .at + 2) (c .before .before .before .before .name-at .ensures _ (c .before .before .before .before .before .before .before .two-after .ensures _ (c .before .before .before .before .before .before .before .before .before .before .before .before .before .before .before .pre))) (c .before .before .before .lookup .ensures .0)) (c .before .before .before .before .before .before .before .before .loop-test .taken) (c .before .before .if1 .taken) ∙ c .before .before .before .before .before .before .before .before .before .loop .inv)
 
-entry-word-requires : tie.Need-entry-word-requires Inv-loop μ-loop
-entry-word-requires c κs = search needs
-
 last-item-requires : tie.Need-last-item-requires Inv-loop μ-loop
 last-item-requires c κs = (c .before .before .before .before .before .before .before .before .before .before .before .before .before .before .new .ensures .0)
 
 returns-2 : tie.Need-returns-2 Inv-loop μ-loop
 returns-2 c = c .last-item .ensures _ _ (c .before .before .before .before .before .before .before .before .before .before .two-after .ensures _ (c .before .before .before .before .before .before .before .before .before .before .before .before .before .before .before .before .before .before .pre)) ∙ ap (judgedAs _) (walk-last (c .before .before .before .before .before .before .before .before .before .before .before .before .before .before .before .before .before .before .args .source .now) (c .before .before .before .before .before .before .before .before .before .before .before .before .loop .left) (c .before .before .before .before .before .before .before .before .before .before .before .before .loop .inside) (c .before .before .before .before .before .before .before .before .before .before .before .before .loop .at) (c .before .before .before .before .before .before .lookup .result) (looked (c .before .before .before .before .before .before .before .before .before .before .before .before .before .before .before .before .before .before .args .source .now) (c .before .before .before .before .before .before .before .before .before .before .before .before .loop .inside) (c .before .before .before .before .before .before .before .before .before .before .before .before .loop .at + 2) (c .before .before .before .before .before .before .before .name-at .ensures _ (c .before .before .before .before .before .before .before .before .before .before .two-after .ensures _ (c .before .before .before .before .before .before .before .before .before .before .before .before .before .before .before .before .before .before .pre))) (c .before .before .before .before .before .before .lookup .ensures .0)) (c .before .before .before .before .before .if1 .left) (c .before .before .if2 .taken) ∙ c .before .before .before .before .before .before .before .before .before .before .before .before .loop .inv)
 
-named-requires : tie.Need-named-requires Inv-loop μ-loop
-named-requires c κs = search needs
-
 returns-3 : tie.Need-returns-3 Inv-loop μ-loop
 returns-3 c = ap Err (c .named .ensures ∙ not-a-module _ _ (c .before .before .before .before .before .before .before .before .before .before .two-after .ensures _ (c .before .before .before .before .before .before .before .before .before .before .before .before .before .before .before .before .before .before .pre))) ∙ ap (judgedAs _) (walk-stops (c .before .before .before .before .before .before .before .before .before .before .before .before .before .before .before .before .before .before .args .source .now) (c .before .before .before .before .before .before .before .before .before .before .before .before .loop .left) (c .before .before .before .before .before .before .before .before .before .before .before .before .loop .inside) (c .before .before .before .before .before .before .before .before .before .before .before .before .loop .at) (c .before .before .before .before .before .before .lookup .result) (looked (c .before .before .before .before .before .before .before .before .before .before .before .before .before .before .before .before .before .before .args .source .now) (c .before .before .before .before .before .before .before .before .before .before .before .before .loop .inside) (c .before .before .before .before .before .before .before .before .before .before .before .before .loop .at + 2) (c .before .before .before .before .before .before .before .name-at .ensures _ (c .before .before .before .before .before .before .before .before .before .before .two-after .ensures _ (c .before .before .before .before .before .before .before .before .before .before .before .before .before .before .before .before .before .before .pre))) (c .before .before .before .before .before .before .lookup .ensures .0)) (c .before .before .before .before .before .if1 .left) (c .before .before .before .before .before .before .before .before .before .before .before .loop-test .taken) (c .before .before .if2 .left) (λ z. c .before .if3 .taken ((entry-kind (c .before .before .before .before .before .before .lookup .result) (c .before .before .before .before .before .before .before .before .before .before .before .before .before .before .before .new .ensures .0) (c .before .before .before .entry-word .ensures)) ∙ z)) ∙ c .before .before .before .before .before .before .before .before .before .before .before .before .loop .inv)
 
 add-at : tie.Need-add-at Inv-loop μ-loop
 add-at c = omega (arith, in-source (c .before .before .before .before .before .before .before .before .before .before .before .before .before .before .before .before .before .args .source .now) (c .before .before .before .before .before .before .before .before .before .before .before .loop .left) (c .before .before .before .before .before .before .before .before .before .before .before .loop .inside) (c .before .before .before .before .before .before .before .before .before .before .before .loop .at) (c .before .before .before .before .before .lookup .result) (looked (c .before .before .before .before .before .before .before .before .before .before .before .before .before .before .before .before .before .args .source .now) (c .before .before .before .before .before .before .before .before .before .before .before .loop .inside) (c .before .before .before .before .before .before .before .before .before .before .before .loop .at + 2) (c .before .before .before .before .before .before .name-at .ensures _ (c .before .before .before .before .before .before .before .before .before .two-after .ensures _ (c .before .before .before .before .before .before .before .before .before .before .before .before .before .before .before .before .before .pre))) (c .before .before .before .before .before .lookup .ensures .0)) (c .before .before .before .before .if1 .left), rows-long (c .before .before .before .before .before .before .before .before .before .before .before .before .before .before .before .before .before .pre))
-
-sub-left : tie.Need-sub-left Inv-loop μ-loop
-sub-left c = search needs
 
 loop-less : tie.Need-loop-less Inv-loop μ-loop
 loop-less c = omega (arith, c .before .before .before .before .before .before .before .before .before .before .loop-test .taken)
@@ -83,23 +68,6 @@ returns-4 c = ap (judgedAs _) (walk-ended _ _ _ _ (c .loop-test .left) ∙ c .be
 pub walk-spec : {M : Type 1} → statement M
 walk-spec =
     tie.close
-    (tie.spec
-    Inv-loop
-    μ-loop
-    new-requires
-    loop-holds
-    two-after-requires
-    name-at-requires
-    lookup-requires
-    unknown-item-requires
-    returns
-    entry-word-requires
-    last-item-requires
-    returns-2
-    named-requires
-    returns-3
-    add-at
-    sub-left
-    loop-less
-    loop-again
-    returns-4)
+    (tie.spec Inv-loop μ-loop (search needs) loop-holds two-after-requires (search needs) lookup-requires
+    unknown-item-requires returns (search needs) last-item-requires returns-2 (search needs) returns-3 add-at
+    (search needs) loop-less loop-again returns-4)

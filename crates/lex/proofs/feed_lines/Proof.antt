@@ -12,26 +12,11 @@ Inv-loop source table₀ lexer₀ at₀ table lexer at = LinesFed source table�
 abbrev μ-loop : tie.MeasureT-loop
 μ-loop source table₀ lexer₀ at₀ table lexer at = length source + 1 - at
 
-new-requires : tie.Need-new-requires Inv-loop μ-loop
-new-requires c κs = search needs
-
 loop-holds : tie.Need-loop-holds Inv-loop μ-loop
 loop-holds c = start _ _ _ (c .new .ensures)
 
-line-end-requires : tie.Need-line-end-requires Inv-loop μ-loop
-line-end-requires c κs = search needs
-
 line-requires : tie.Need-line-requires Inv-loop μ-loop
 line-requires c κs = let e = end-within _ _ (c .before .before .loop-test .taken) _ (c .before .line-end .ensures) in (few _ _ _ _ _ (c .before .before .before .loop .inv) (c .before .before .before .before .before .before .before .pre) (c .before .before .loop-test .taken), e .0, e .1, omega (arith, e .1, c .before .before .before .before .before .before .before .pre))
-
-enum-known-fed : tie.Need-enum-known-fed Inv-loop μ-loop
-enum-known-fed c = search needs
-
-enum-told : tie.Need-enum-told Inv-loop μ-loop
-enum-told c = search needs
-
-same-length : tie.Need-same-length Inv-loop μ-loop
-same-length c = search needs
 
 returns : tie.Need-returns Inv-loop μ-loop
 returns c = stopped _ _ _ _ _ (c .before .before .before .before .before .before .before .before .loop .inv) (c .before .before .before .before .before .before .before .loop-test .taken) _ (c .before .before .before .before .before .before .line-end .ensures) _ (c .enum-told .given .1) (c .before .before .before .before .line .ensures)
@@ -45,28 +30,11 @@ loop-less c = let e = end-within _ _ (c .before .before .before .before .before 
 loop-again : tie.Need-loop-again Inv-loop μ-loop
 loop-again c = more _ _ _ _ _ (c .before .before .before .before .before .before .before .before .before .loop .inv) (c .before .before .before .before .before .before .before .before .loop-test .taken) _ (c .before .before .before .before .before .before .before .line-end .ensures) _ (c .before .fed .given .1) (c .before .before .before .before .before .line .ensures)
 
-same-length-2 : tie.Need-same-length-2 Inv-loop μ-loop
-same-length-2 c = search needs
-
 returns-2 : tie.Need-returns-2 Inv-loop μ-loop
 returns-2 c = finished _ _ _ _ _ (c .before .loop .inv) (c .loop-test .left)
 
 pub feed-lines-spec : {M : Type 1} → statement M
 feed-lines-spec =
     tie.close
-    (tie.spec
-    Inv-loop
-    μ-loop
-    new-requires
-    loop-holds
-    line-end-requires
-    line-requires
-    enum-known-fed
-    enum-told
-    same-length
-    returns
-    add-at
-    loop-less
-    loop-again
-    same-length-2
-    returns-2)
+    (tie.spec Inv-loop μ-loop (search needs) loop-holds (search needs) line-requires (search needs) (search needs)
+    (search needs) returns add-at loop-less loop-again (search needs) returns-2)

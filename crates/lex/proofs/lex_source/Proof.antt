@@ -7,35 +7,14 @@ use borrow.Author.Needs.{needs}
 use Rattle.lex.proofs.lex_source.Statement.{statement}
 use Rattle.lex.proofs.lex_source.Tie as tie
 
-clear-requires : tie.Need-clear-requires
-clear-requires c κs = search needs
-
-new-requires : tie.Need-new-requires
-new-requires c κs = search needs
-
-refused-requires : tie.Need-refused-requires
-refused-requires c κs = search needs
-
 same-length : tie.Need-same-length
 same-length c = search needs
 
 returns : tie.Need-returns
 returns c = refused _ _ (verdict 1 0 0) refl (too-long _ _ (c .before .before .if1 .taken)) _ (c .before .new .ensures) (c .refused .ensures) _ (c .before .before .before .before .before .clear .ensures) (same-length c)
 
-first-bad-requires : tie.Need-first-bad-requires
-first-bad-requires c κs = search needs
-
-enum-known-bad : tie.Need-enum-known-bad
-enum-known-bad c = search needs
-
 spot-of-requires : tie.Need-spot-of-requires
 spot-of-requires c κs = let h = bad-within _ _ (sym (c .before .bad .given .1) ∙ c .before .before .before .first-bad .ensures) in (omega arith, (c .before .before .before .before .if1 .left))
-
-new-requires-2 : tie.Need-new-requires-2
-new-requires-2 c κs = search needs
-
-refused-requires-2 : tie.Need-refused-requires-2
-refused-requires-2 c κs = search needs
 
 same-length-2 : tie.Need-same-length-2
 same-length-2 c = search needs
@@ -43,44 +22,14 @@ same-length-2 c = search needs
 returns-2 : tie.Need-returns-2
 returns-2 c = refused _ _ (placed 2 _) refl (bad-byte _ _ (c .before .before .before .before .before .before .before .if1 .left) _ (sym (c .before .before .before .before .bad .given .1) ∙ c .before .before .before .before .before .before .first-bad .ensures)) _ (placed-as _ _ (c .before .before .spot-of .ensures) (c .before .new2 .ensures)) (c .refused2 .ensures) _ (c .before .before .before .before .before .before .before .before .before .before .clear .ensures) (same-length-2 c)
 
-enum-told : tie.Need-enum-told
-enum-told c = search needs
-
-feed-lines-requires : tie.Need-feed-lines-requires
-feed-lines-requires c κs = search needs
-
-enum-known-fed : tie.Need-enum-known-fed
-enum-known-fed c = search needs
-
-clear-requires-2 : tie.Need-clear-requires-2
-clear-requires-2 c κs = search needs
-
-refused-requires-3 : tie.Need-refused-requires-3
-refused-requires-3 c κs = search needs
-
-enum-known-fed-2 : tie.Need-enum-known-fed-2
-enum-known-fed-2 c = search needs
-
 finish-requires : tie.Need-finish-requires
 finish-requires c κs = few _ _ _ _ (c .before .before .before .before .before .before .before .before .before .before .before .before .before .before .clear .ensures) _ (c .before .before .fed2 .given .1) (c .before .before .before .before .before .before .feed-lines .ensures) (c .before .before .before .before .before .before .before .before .before .before .before .if1 .left)
-
-clear-requires-3 : tie.Need-clear-requires-3
-clear-requires-3 c κs = search needs
-
-new-requires-3 : tie.Need-new-requires-3
-new-requires-3 c κs = search needs
-
-refused-requires-4 : tie.Need-refused-requires-4
-refused-requires-4 c κs = search needs
 
 same-length-3 : tie.Need-same-length-3
 same-length-3 c = omega (arith, c .before .before .before .table5 .given, c .before .before .before .before .before .before .before .before .before .table4 .given, c .before .before .before .before .before .before .before .before .before .before .before .before .before .before .before .before .table2 .given, c .before .before .before .before .before .before .before .before .before .before .before .before .before .before .before .before .before .before .before .before .before .before .before .before .table .given)
 
 returns-3 : tie.Need-returns-3
 returns-3 c = refused _ _ (verdict 4 0 0) refl (full _ _ (c .before .before .before .before .before .before .before .before .before .before .before .before .before .before .before .before .before .before .before .before .before .before .if1 .left) (sym (c .before .before .before .before .before .before .before .before .before .before .before .before .before .before .before .before .before .before .before .enum-told .given .1) ∙ c .before .before .before .before .before .before .before .before .before .before .before .before .before .before .before .before .before .before .before .before .before .first-bad .ensures) (no-wrong _ _ _ _ (c .before .before .before .before .before .before .before .before .before .before .before .before .before .before .before .before .before .before .before .before .before .before .before .before .before .clear .ensures) _ (c .before .before .before .before .before .before .before .before .before .before .before .before .before .fed2 .given .1) (c .before .before .before .before .before .before .before .before .before .before .before .before .before .before .before .before .before .feed-lines .ensures)) _ ((finished _ _ _ _ (c .before .before .before .before .before .before .before .before .before .before .before .before .before .before .before .before .before .before .before .before .before .before .before .before .before .clear .ensures) _ (c .before .before .before .before .before .before .before .before .before .before .before .before .before .fed2 .given .1) (c .before .before .before .before .before .before .before .before .before .before .before .before .before .before .before .before .before .feed-lines .ensures) (c .before .before .before .before .before .before .before .before .before .before .finish .ensures)) .counted) (c .before .before .before .before .before .before .if2 .taken)) _ (c .before .new3 .ensures) (c .refused4 .ensures) _ (c .before .before .before .before .clear3 .ensures) (same-length-3 c)
-
-new-requires-4 : tie.Need-new-requires-4
-new-requires-4 c κs = search needs
 
 same-length-4 : tie.Need-same-length-4
 same-length-4 c = search needs
@@ -97,33 +46,7 @@ returns-5 c = accepted _ _ _ (fits _ _ (c .before .before .before .before .befor
 pub lex-source-spec : {M : Type 1} → statement M
 lex-source-spec =
     tie.close
-    (tie.spec
-    clear-requires
-    new-requires
-    refused-requires
-    same-length
-    returns
-    first-bad-requires
-    enum-known-bad
-    spot-of-requires
-    new-requires-2
-    refused-requires-2
-    same-length-2
-    returns-2
-    enum-told
-    feed-lines-requires
-    enum-known-fed
-    clear-requires-2
-    refused-requires-3
-    enum-known-fed-2
-    finish-requires
-    clear-requires-3
-    new-requires-3
-    refused-requires-4
-    same-length-3
-    returns-3
-    new-requires-4
-    same-length-4
-    returns-4
-    same-length-5
-    returns-5)
+    (tie.spec (search needs) (search needs) (search needs) same-length returns (search needs) (search needs)
+    spot-of-requires (search needs) (search needs) same-length-2 returns-2 (search needs) (search needs) (search needs)
+    (search needs) (search needs) (search needs) finish-requires (search needs) (search needs) (search needs)
+    same-length-3 returns-3 (search needs) same-length-4 returns-4 same-length-5 returns-5)

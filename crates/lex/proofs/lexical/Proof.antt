@@ -6,17 +6,8 @@ use Rattle.lex.proofs.lexical.Lts as lts
 use Rattle.scan.proofs.LexErrorKind.character.Reads as character-reads
 use Rattle.scan.proofs.LexErrorKind.kind.Reads as kind-reads
 
-kind-requires : tie.Need-kind-requires
-kind-requires c κs = search needs
-
-add-t6 : tie.Need-add-t6
-add-t6 c = search needs
-
-character-requires : tie.Need-character-requires
-character-requires c κs = search needs
-
 returns : tie.Need-returns
 returns c = rw (c .before .kind .ensures, c .character .ensures)
 
 pub lexical-spec : {M : Type 1} → statement M
-lexical-spec = tie.close (tie.spec kind-requires add-t6 character-requires returns)
+lexical-spec = tie.close (tie.spec (search needs) (search needs) (search needs) returns)

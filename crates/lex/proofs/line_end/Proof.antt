@@ -3,12 +3,9 @@ use borrow.Author.Needs.{needs}
 use Rattle.lex.proofs.line_end.Statement.{statement}
 use Rattle.lex.proofs.line_end.Tie as tie
 
-eat-comment-requires : tie.Need-eat-comment-requires
-eat-comment-requires c κs = search needs
-
 returns : tie.Need-returns
 unfolding runEnd
 returns c = c .eat-comment .ensures
 
 pub line-end-spec : {M : Type 1} → statement M
-line-end-spec = tie.close (tie.spec eat-comment-requires returns)
+line-end-spec = tie.close (tie.spec (search needs) returns)

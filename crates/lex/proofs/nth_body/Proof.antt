@@ -12,38 +12,14 @@ Inv-loop text i left₀ scanner₀ left scanner = Looking text i left (scanner .
 abbrev μ-loop : tie.MeasureT-loop
 μ-loop text i left₀ scanner₀ left scanner = length text - scanner .pos
 
-new-requires : tie.Need-new-requires Inv-loop μ-loop
-new-requires c κs = search needs
-
 loop-holds : tie.Need-loop-holds Inv-loop μ-loop
 loop-holds c = start _ _ _ (c .new .ensures)
-
-next-requires : tie.Need-next-requires Inv-loop μ-loop
-next-requires c κs = search needs
-
-enum-known-step : tie.Need-enum-known-step Inv-loop μ-loop
-enum-known-step c = search needs
-
-enum-told : tie.Need-enum-told Inv-loop μ-loop
-enum-told c = search needs
-
-slice-aggregate-result : tie.Need-slice-aggregate-result Inv-loop μ-loop
-slice-aggregate-result c = search needs
 
 returns : tie.Need-returns Inv-loop μ-loop
 returns c = none-left _ _ _ _ (c .before .before .before .before .loop .inv) (sym (c .before .enum-told .given .1) ∙ c .before .before .before .next .ensures)
 
-enum-told-2 : tie.Need-enum-told-2 Inv-loop μ-loop
-enum-told-2 c = search needs
-
-body-requires : tie.Need-body-requires Inv-loop μ-loop
-body-requires c κs = search needs
-
 returns-2 : tie.Need-returns-2 Inv-loop μ-loop
 returns-2 c = is-it _ _ _ _ (c .before .before .before .before .before .before .before .before .loop .inv) _ _ (sym (c .before .before .before .before .before .step .given .1) ∙ c .before .before .before .before .before .before .before .next .ensures) (c .before .before .enum-told2 .given .1) (c .before .if1 .taken) (c .body .ensures)
-
-sub-left : tie.Need-sub-left Inv-loop μ-loop
-sub-left c = search needs
 
 loop-less : tie.Need-loop-less Inv-loop μ-loop
 loop-less c = shrinks _ _ _ _ (c .before .before .before .before .before .before .before .loop .inv) _ _ (sym (c .before .before .before .before .step .given .1) ∙ c .before .before .before .before .before .before .next .ensures)
@@ -60,21 +36,5 @@ loop-again-2 c = passed _ _ _ _ (c .before .before .before .before .before .loop
 pub nth-body-spec : {M : Type 1} → statement M
 nth-body-spec =
     tie.close
-    (tie.spec
-    Inv-loop
-    μ-loop
-    new-requires
-    loop-holds
-    next-requires
-    enum-known-step
-    enum-told
-    slice-aggregate-result
-    returns
-    enum-told-2
-    body-requires
-    returns-2
-    sub-left
-    loop-less
-    loop-again
-    loop-less-2
-    loop-again-2)
+    (tie.spec Inv-loop μ-loop (search needs) loop-holds (search needs) (search needs) (search needs) (search needs)
+    returns (search needs) (search needs) returns-2 (search needs) loop-less loop-again loop-less-2 loop-again-2)

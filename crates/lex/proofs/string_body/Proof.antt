@@ -6,20 +6,8 @@ use borrow.Author.Needs.{needs}
 use Rattle.lex.proofs.string_body.Statement.{statement}
 use Rattle.lex.proofs.string_body.Tie as tie
 
-part-nth-body-start : tie.Need-part-nth-body-start
-part-nth-body-start c = search needs
-
-part-nth-body-end : tie.Need-part-nth-body-end
-part-nth-body-end c = search needs
-
-nth-body-requires : tie.Need-nth-body-requires
-nth-body-requires c κs = search needs
-
 returns : tie.Need-returns
 returns c = c .nth-body .ensures ∙ some-part _ _ _ _ (c .before .before .before .if1 .taken) (c .before .before .if2 .taken)
-
-slice-aggregate-result : tie.Need-slice-aggregate-result
-slice-aggregate-result c = search needs
 
 returns-2 : tie.Need-returns-2
 returns-2 c = no-part _ _ _ _ (⊎-elim (λ w. omega arith) (λ w. omega arith) (c .before .if1 .came))
@@ -27,10 +15,4 @@ returns-2 c = no-part _ _ _ _ (⊎-elim (λ w. omega arith) (λ w. omega arith) 
 pub string-body-spec : {M : Type 1} → statement M
 string-body-spec =
     tie.close
-    (tie.spec
-    part-nth-body-start
-    part-nth-body-end
-    nth-body-requires
-    returns
-    slice-aggregate-result
-    returns-2)
+    (tie.spec (search needs) (search needs) (search needs) returns (search needs) returns-2)

@@ -10,64 +10,10 @@ use borrow.Author.Needs.{needs}
 use Rattle.parse.proofs.address.Statement.{statement}
 use Rattle.parse.proofs.address.Tie as tie
 
-add-kind-at : tie.Need-add-kind-at
-add-kind-at c = search needs
-
-kind-at-requires : tie.Need-kind-at-requires
-kind-at-requires c κs = search needs
-
-push-requires : tie.Need-push-requires
-push-requires c κs = search needs
-
-add-t12 : tie.Need-add-t12
-add-t12 c = search needs
-
-add-t13 : tie.Need-add-t13
-add-t13 c = search needs
-
-same-length : tie.Need-same-length
-same-length c = search needs
-
 returns : tie.Need-returns
 returns c =
     let a = c .before .before .before .before .before .before .before .before .args in
     (omega (arith, inside (a .toks .now) (a .at) 13 (c .before .before .before .before .before .before .before .before .pre .1)), λ ts ns rep l h. met-ok refl (address-plain rep _ _ (unseen (c .before .before .before .before .before .kind-at .ensures) (c .before .before .before .before .if1 .taken))) (leaf-pushed (literal _) l h refl refl (c .before .before .push .ensures)))
-
-add-port : tie.Need-add-port
-add-port c = search needs
-
-port-requires : tie.Need-port-requires
-port-requires c κs = search needs
-
-enum-told : tie.Need-enum-told
-enum-told c = search needs
-
-push-requires-2 : tie.Need-push-requires-2
-push-requires-2 c κs = search needs
-
-add-t19 : tie.Need-add-t19
-add-t19 c = search needs
-
-add-t20 : tie.Need-add-t20
-add-t20 c = search needs
-
-enum-told-2 : tie.Need-enum-told-2
-enum-told-2 c = search needs
-
-add-t21 : tie.Need-add-t21
-add-t21 c = search needs
-
-enum-told-3 : tie.Need-enum-told-3
-enum-told-3 c = search needs
-
-add-unexpected : tie.Need-add-unexpected
-add-unexpected c = search needs
-
-unexpected-requires : tie.Need-unexpected-requires
-unexpected-requires c κs = search needs
-
-same-length-2 : tie.Need-same-length-2
-same-length-2 c = search needs
 
 returns-2 : tie.Need-returns-2
 returns-2 c =
@@ -86,26 +32,6 @@ returns-4 c =
 pub address-spec : {M : Type 1} → statement M
 address-spec =
     tie.close
-    (tie.spec
-    add-kind-at
-    kind-at-requires
-    push-requires
-    add-t12
-    add-t13
-    same-length
-    returns
-    add-port
-    port-requires
-    enum-told
-    push-requires-2
-    add-t19
-    add-t20
-    enum-told-2
-    add-t21
-    enum-told-3
-    add-unexpected
-    unexpected-requires
-    same-length-2
-    returns-2
-    returns-3
-    returns-4)
+    (tie.spec (search needs) (search needs) (search needs) (search needs) (search needs) (search needs) returns
+    (search needs) (search needs) (search needs) (search needs) (search needs) (search needs) (search needs)
+    (search needs) (search needs) (search needs) (search needs) (search needs) returns-2 returns-3 returns-4)

@@ -5,18 +5,6 @@ use borrow.Author.Needs.{needs}
 use Rattle.parse.proofs.arg_head.Statement.{statement}
 use Rattle.parse.proofs.arg_head.Tie as tie
 
-kind-at-requires : tie.Need-kind-at-requires
-kind-at-requires c κs = search needs
-
-add-kind-at : tie.Need-add-kind-at
-add-kind-at c = search needs
-
-kind-at-requires-2 : tie.Need-kind-at-requires-2
-kind-at-requires-2 c κs = search needs
-
-add-t8 : tie.Need-add-t8
-add-t8 c = search needs
-
 returns : tie.Need-returns
 returns c =
     let is6 = seen (c .before .kind-at2 .ensures) (c .if2 .taken) in
@@ -31,4 +19,4 @@ returns-3 c = (head-bare _ _ (named-no _ _ (unseen (c .before .kind-at .ensures)
 pub arg-head-spec : {M : Type 1} → statement M
 arg-head-spec =
     tie.close
-    (tie.spec kind-at-requires add-kind-at kind-at-requires-2 add-t8 returns returns-2 returns-3)
+    (tie.spec (search needs) (search needs) (search needs) (search needs) returns returns-2 returns-3)

@@ -8,27 +8,9 @@ use borrow.Author.Needs.{needs}
 use Rattle.parse.proofs.end_stmt.Statement.{statement}
 use Rattle.parse.proofs.end_stmt.Tie as tie
 
-kind-at-requires : tie.Need-kind-at-requires
-kind-at-requires c κs = search needs
-
-unexpected-requires : tie.Need-unexpected-requires
-unexpected-requires c κs = search needs
-
 returns : tie.Need-returns
 returns c =
     (ahead-no (c .unexpected .ensures) (omega arith), λ ts ms rep l h ns s e. stmt-no (c .unexpected .ensures) (ended-no rep s _ (unseen (c .before .before .kind-at .ensures) (c .before .if1 .taken))))
-
-push-requires : tie.Need-push-requires
-push-requires c κs = search needs
-
-add-t13 : tie.Need-add-t13
-add-t13 c = search needs
-
-add-t14 : tie.Need-add-t14
-add-t14 c = search needs
-
-same-length : tie.Need-same-length
-same-length c = search needs
 
 returns-2 : tie.Need-returns-2
 returns-2 c =
@@ -41,12 +23,5 @@ returns-2 c =
 pub end-stmt-spec : {M : Type 1} → statement M
 end-stmt-spec =
     tie.close
-    (tie.spec
-    kind-at-requires
-    unexpected-requires
-    returns
-    push-requires
-    add-t13
-    add-t14
-    same-length
+    (tie.spec (search needs) (search needs) returns (search needs) (search needs) (search needs) (search needs)
     returns-2)

@@ -9,23 +9,11 @@ use borrow.Author.Needs.{needs}
 use Rattle.parse.proofs.expr_stmt.Statement.{statement}
 use Rattle.parse.proofs.expr_stmt.Tie as tie
 
-expr-requires : tie.Need-expr-requires
-expr-requires c κs = search needs
-
-enum-known-next : tie.Need-enum-known-next
-enum-known-next c = search needs
-
 sub-end-stmt : tie.Need-sub-end-stmt
 sub-end-stmt c = omega (arith, ahead (c .before .before .next .given .1) (c .before .before .before .before .before .before .expr .ensures .0))
 
 end-stmt-requires : tie.Need-end-stmt-requires
 end-stmt-requires c κs = omega (arith, ahead (c .before .before .next .given .1) (c .before .before .before .before .before .before .expr .ensures .0))
-
-enum-known-number : tie.Need-enum-known-number
-enum-known-number c = search needs
-
-same-length : tie.Need-same-length
-same-length c = search needs
 
 returns : tie.Need-returns
 returns c =
@@ -37,9 +25,6 @@ returns c =
           stmt-by (stmt-go ts _ _ _ (d .0) (d .1)) (c .before .before .end-stmt .ensures .1 ts (withExpr ns (d .0)) rep (d .2 .long) (d .2 .held) ns (expr′ (d .0)) (expr-node (d .2))),
     )
 
-same-length-2 : tie.Need-same-length-2
-same-length-2 c = search needs
-
 returns-2 : tie.Need-returns-2
 returns-2 c =
     let e = c .before .number .given .1 in
@@ -48,13 +33,5 @@ returns-2 c =
 pub expr-stmt-spec : {M : Type 1} → statement M
 expr-stmt-spec =
     tie.close
-    (tie.spec
-    expr-requires
-    enum-known-next
-    sub-end-stmt
-    end-stmt-requires
-    enum-known-number
-    same-length
-    returns
-    same-length-2
-    returns-2)
+    (tie.spec (search needs) (search needs) sub-end-stmt end-stmt-requires (search needs) (search needs) returns
+    (search needs) returns-2)

@@ -9,33 +9,12 @@ use borrow.Author.Needs.{needs}
 use Rattle.parse.proofs.import_stmt.Statement.{statement}
 use Rattle.parse.proofs.import_stmt.Tie as tie
 
-add-kind-at : tie.Need-add-kind-at
-add-kind-at c = search needs
-
-kind-at-requires : tie.Need-kind-at-requires
-kind-at-requires c κs = search needs
-
-add-unexpected : tie.Need-add-unexpected
-add-unexpected c = search needs
-
-unexpected-requires : tie.Need-unexpected-requires
-unexpected-requires c κs = search needs
-
 returns : tie.Need-returns
 returns c =
     (ahead-no (c .unexpected .ensures) (omega arith), λ ts ns rep l h. stmt-no (c .unexpected .ensures) (import-bad rep _ (unseen (c .before .before .kind-at .ensures) (c .before .if1 .taken))))
 
-add-end-stmt : tie.Need-add-end-stmt
-add-end-stmt c = search needs
-
-add-end-stmt-2 : tie.Need-add-end-stmt-2
-add-end-stmt-2 c = search needs
-
 end-stmt-requires : tie.Need-end-stmt-requires
 end-stmt-requires c κs = omega (arith, inside (c .before .before .before .before .before .args .toks .now) (c .before .before .before .before .before .args .at + 1) 11 (seen (c .before .before .kind-at .ensures) (c .before .if1 .left)))
-
-same-length : tie.Need-same-length
-same-length c = search needs
 
 returns-2 : tie.Need-returns-2
 returns-2 c = (
@@ -46,14 +25,5 @@ returns-2 c = (
 pub import-stmt-spec : {M : Type 1} → statement M
 import-stmt-spec =
     tie.close
-    (tie.spec
-    add-kind-at
-    kind-at-requires
-    add-unexpected
-    unexpected-requires
-    returns
-    add-end-stmt
-    add-end-stmt-2
-    end-stmt-requires
-    same-length
-    returns-2)
+    (tie.spec (search needs) (search needs) (search needs) (search needs) returns (search needs) (search needs)
+    end-stmt-requires (search needs) returns-2)

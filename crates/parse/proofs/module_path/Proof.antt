@@ -108,26 +108,6 @@ returns-2 c =
 pub module-path-spec : {M : Type 1} → statement M
 module-path-spec =
     tie.close
-    (tie.spec
-    Inv-loop
-    μ-loop
-    add-next
-    loop-holds
-    kind-at-requires
-    add-kind-at
-    kind-at-requires-2
-    add-unexpected
-    unexpected-requires
-    same-length
-    returns
-    add-push
-    push-requires
-    add-have
-    add-names
-    add-next-2
-    loop-less
-    loop-again
-    push-requires-2
-    add-t19
-    same-length-2
-    returns-2)
+    (tie.spec Inv-loop μ-loop add-next loop-holds kind-at-requires add-kind-at kind-at-requires-2 add-unexpected
+    unexpected-requires same-length returns add-push push-requires add-have add-names add-next-2 loop-less loop-again
+    push-requires-2 add-t19 same-length-2 returns-2)

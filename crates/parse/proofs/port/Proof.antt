@@ -3,15 +3,6 @@ use borrow.Author.Needs.{needs}
 use Rattle.parse.proofs.port.Statement.{statement}
 use Rattle.parse.proofs.port.Tie as tie
 
-port-tok-requires : tie.Need-port-tok-requires
-port-tok-requires c κs = search needs
-
-enum-known-tok : tie.Need-enum-known-tok
-enum-known-tok c = search needs
-
-enum-told : tie.Need-enum-told
-enum-told c = search needs
-
 returns : tie.Need-returns
 returns c = port-not _ _ _ (c .before .before .port-tok .ensures) (c .enum-told .given .1)
 
@@ -27,4 +18,4 @@ returns-4 c = port-huge _ _ _ (c .before .before .before .before .before .port-t
 pub port-spec : {M : Type 1} → statement M
 port-spec =
     tie.close
-    (tie.spec port-tok-requires enum-known-tok enum-told returns returns-2 returns-3 returns-4)
+    (tie.spec (search needs) (search needs) (search needs) returns returns-2 returns-3 returns-4)

@@ -28,15 +28,6 @@ abbrev μ-loop : tie.MeasureT-loop
 loop-holds : tie.Need-loop-holds Inv-loop μ-loop
 loop-holds c = (omega arith, omega arith, refl, λ ts rep h. let n = no-stmt h in ([], suc (length ts), n .0, n .1, omega arith, program-is ts))
 
-kind-at-requires : tie.Need-kind-at-requires Inv-loop μ-loop
-kind-at-requires c κs = search needs
-
-stmt-requires : tie.Need-stmt-requires Inv-loop μ-loop
-stmt-requires c κs = search needs
-
-enum-known-next : tie.Need-enum-known-next Inv-loop μ-loop
-enum-known-next c = search needs
-
 loop-less : tie.Need-loop-less Inv-loop μ-loop
 loop-less c = omega (arith, ahead (c .before .next .given .1) (c .before .before .before .before .before .stmt .ensures .0))
 
@@ -55,9 +46,6 @@ loop-again c =
           let n = stmt-more (g .0) (d .0) (d .3) (d .4) in
           (g .0 ++ d .0 ∷ [], m .0, n .0, n .1, m .1, g .5 ∙ m .2),
     )
-
-enum-known-number : tie.Need-enum-known-number Inv-loop μ-loop
-enum-known-number c = search needs
 
 same-length : tie.Need-same-length Inv-loop μ-loop
 same-length c = omega (arith, c .before .before .before .before .before .stmt .kept .1 .0, c .before .before .before .before .before .before .before .before .before .loop .inv .2)
@@ -85,17 +73,5 @@ returns-2 c =
 pub program-spec : {M : Type 1} → statement M
 program-spec =
     tie.close
-    (tie.spec
-    Inv-loop
-    μ-loop
-    loop-holds
-    kind-at-requires
-    stmt-requires
-    enum-known-next
-    loop-less
-    loop-again
-    enum-known-number
-    same-length
-    returns
-    same-length-2
-    returns-2)
+    (tie.spec Inv-loop μ-loop loop-holds (search needs) (search needs) (search needs) loop-less loop-again
+    (search needs) same-length returns same-length-2 returns-2)

@@ -5,32 +5,11 @@ use borrow.Author.Needs.{needs}
 use Rattle.parse.proofs.stmt.Statement.{statement}
 use Rattle.parse.proofs.stmt.Tie as tie
 
-kind-at-requires : tie.Need-kind-at-requires
-kind-at-requires c κs = search needs
-
-import-stmt-requires : tie.Need-import-stmt-requires
-import-stmt-requires c κs = search needs
-
-let-stmt-requires : tie.Need-let-stmt-requires
-let-stmt-requires c κs = search needs
-
-expr-stmt-requires : tie.Need-expr-stmt-requires
-expr-stmt-requires c κs = search needs
-
-same-length : tie.Need-same-length
-same-length c = search needs
-
 returns : tie.Need-returns
 returns c = (c .before .before .import-stmt .ensures .0, λ ts ns rep l h. stmt-by (stmt-import rep _ (seen (c .before .before .before .before .before .kind-at .ensures) (c .before .before .before .before .match .keys1))) (c .before .before .import-stmt .ensures .1 ts ns rep l h))
 
-same-length-2 : tie.Need-same-length-2
-same-length-2 c = search needs
-
 returns-2 : tie.Need-returns-2
 returns-2 c = (c .before .before .let-stmt .ensures .0, λ ts ns rep l h. stmt-by (stmt-let rep _ (seen (c .before .before .before .before .before .kind-at .ensures) (c .before .before .before .before .match .keys2))) (c .before .before .let-stmt .ensures .1 ts ns rep l h))
-
-same-length-3 : tie.Need-same-length-3
-same-length-3 c = search needs
 
 returns-3 : tie.Need-returns-3
 returns-3 c =
@@ -42,14 +21,5 @@ returns-3 c =
 pub stmt-spec : {M : Type 1} → statement M
 stmt-spec =
     tie.close
-    (tie.spec
-    kind-at-requires
-    import-stmt-requires
-    let-stmt-requires
-    expr-stmt-requires
-    same-length
-    returns
-    same-length-2
-    returns-2
-    same-length-3
-    returns-3)
+    (tie.spec (search needs) (search needs) (search needs) (search needs) (search needs) returns (search needs)
+    returns-2 (search needs) returns-3)

@@ -12,12 +12,6 @@ slice-aggregate-run c = sym (length-replicate {A = ℕ} 65537 0)
 slice-aggregate-run-2 : tie.Need-slice-aggregate-run-2
 slice-aggregate-run-2 c = sym (length-replicate {A = ℕ} 65536 0)
 
-run-requires : tie.Need-run-requires
-run-requires c κs = search needs
-
-returns : tie.Need-returns
-returns c = search needs
-
 pub main-spec : {M : Type 1} → statement M
 main-spec =
-    tie.close (tie.spec slice-aggregate-run slice-aggregate-run-2 run-requires returns)
+    tie.close (tie.spec slice-aggregate-run slice-aggregate-run-2 (search needs) (search needs))

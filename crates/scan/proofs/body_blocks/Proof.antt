@@ -19,20 +19,8 @@ abbrev μ-loop : tie.MeasureT-loop
 loop-holds : tie.Need-loop-holds Inv-loop μ-loop
 loop-holds c = begin (c .before .pre)
 
-add-loop : tie.Need-add-loop Inv-loop μ-loop
-add-loop c = search needs
-
-body8-requires : tie.Need-body8-requires Inv-loop μ-loop
-body8-requires c κs = search needs
-
 returns : tie.Need-returns Inv-loop μ-loop
 returns c = let r = c .before .before .before .loop .inv in (r .in-line, r .same)
-
-add-i : tie.Need-add-i Inv-loop μ-loop
-add-i c = search needs
-
-loop-less : tie.Need-loop-less Inv-loop μ-loop
-loop-less c = search needs
 
 loop-again : tie.Need-loop-again Inv-loop μ-loop
 loop-again c = run-block isBody 8 (c .before .before .before .loop .inv) (omega arith) (sym (c .before .body8 .ensures) ∙ not-false _ (c .if1 .left))
@@ -43,14 +31,5 @@ returns-2 c = let r = c .before .loop .inv in (r .in-line, r .same)
 pub body-blocks-spec : {M : Type 1} → statement M
 body-blocks-spec =
     tie.close
-    (tie.spec
-    Inv-loop
-    μ-loop
-    loop-holds
-    add-loop
-    body8-requires
-    returns
-    add-i
-    loop-less
-    loop-again
+    (tie.spec Inv-loop μ-loop loop-holds (search needs) (search needs) returns (search needs) (search needs) loop-again
     returns-2)

@@ -17,26 +17,8 @@ abbrev μ-loop : tie.MeasureT-loop
 loop-holds : tie.Need-loop-holds Inv-loop μ-loop
 loop-holds c = begin (c .before .pre)
 
-add-loop : tie.Need-add-loop Inv-loop μ-loop
-add-loop c = search needs
-
-comment8-requires : tie.Need-comment8-requires Inv-loop μ-loop
-comment8-requires c κs = search needs
-
-add-comment8 : tie.Need-add-comment8 Inv-loop μ-loop
-add-comment8 c = search needs
-
-comment8-requires-2 : tie.Need-comment8-requires-2 Inv-loop μ-loop
-comment8-requires-2 c κs = search needs
-
 returns : tie.Need-returns Inv-loop μ-loop
 returns c = let r = c .before .before .before .before .loop .inv in (r .in-line, r .same)
-
-add-i : tie.Need-add-i Inv-loop μ-loop
-add-i c = search needs
-
-loop-less : tie.Need-loop-less Inv-loop μ-loop
-loop-less c = search needs
 
 loop-again : tie.Need-loop-again Inv-loop μ-loop
 loop-again c = run-two notNewline (c .before .before .before .before .loop .inv) (omega arith) (c .before .before .comment8 .ensures) (c .before .comment82 .ensures) (c .if1 .left)
@@ -47,16 +29,5 @@ returns-2 c = let r = c .before .loop .inv in (r .in-line, r .same)
 pub comment-blocks-spec : {M : Type 1} → statement M
 comment-blocks-spec =
     tie.close
-    (tie.spec
-    Inv-loop
-    μ-loop
-    loop-holds
-    add-loop
-    comment8-requires
-    add-comment8
-    comment8-requires-2
-    returns
-    add-i
-    loop-less
-    loop-again
-    returns-2)
+    (tie.spec Inv-loop μ-loop loop-holds (search needs) (search needs) (search needs) (search needs) returns
+    (search needs) (search needs) loop-again returns-2)

@@ -4,21 +4,6 @@ use Rattle.scan.proofs.Bytes.{dec-digit, small-digit, large-digit, no-d
 use Rattle.scan.proofs.digit.Statement.{statement}
 use Rattle.scan.proofs.digit.Tie as tie
 
-cast-result : tie.Need-cast-result
-cast-result c = search needs
-
-sub-result : tie.Need-sub-result
-sub-result c = search needs
-
-cast-result-2 : tie.Need-cast-result-2
-cast-result-2 c = search needs
-
-sub-result-2 : tie.Need-sub-result-2
-sub-result-2 c = search needs
-
-cast-result-3 : tie.Need-cast-result-3
-cast-result-3 c = search needs
-
 returns : tie.Need-returns
 returns c = dec-digit _ (c .before .if1 .left) (c .if2 .taken)
 
@@ -43,16 +28,5 @@ returns-7 c = no-digit _ (omega arith) (omega arith) (omega arith)
 pub digit-spec : {M : Type 1} → statement M
 digit-spec =
     tie.close
-    (tie.spec
-    cast-result
-    sub-result
-    cast-result-2
-    sub-result-2
-    cast-result-3
-    returns
-    returns-2
-    returns-3
-    returns-4
-    returns-5
-    returns-6
-    returns-7)
+    (tie.spec (search needs) (search needs) (search needs) (search needs) (search needs) returns returns-2 returns-3
+    returns-4 returns-5 returns-6 returns-7)

@@ -37,9 +37,6 @@ returns-2 c =
     let d = p .before .before .before in
     whole (d .before .loop .inv) _ (d .eat-digits .ensures) (p .before .before .if1 .left) _ (p .quad-part .ensures) _ (c .join .ensures) (p .before .if2 .taken)
 
-peek-requires : tie.Need-peek-requires Inv-loop μ-loop
-peek-requires c κs = search needs
-
 returns-3 : tie.Need-returns-3 Inv-loop μ-loop
 returns-3 c =
     let d = c .before .before .before .before in
@@ -78,20 +75,5 @@ loop-again c =
 pub dotted-quad-spec : {M : Type 1} → statement M
 dotted-quad-spec =
     tie.close
-    (tie.spec
-    Inv-loop
-    μ-loop
-    loop-holds
-    eat-digits-requires
-    returns
-    quad-part-requires
-    join-requires
-    returns-2
-    peek-requires
-    returns-3
-    quad-part-requires-2
-    join-requires-2
-    add-i
-    sub-dots
-    loop-less
-    loop-again)
+    (tie.spec Inv-loop μ-loop loop-holds eat-digits-requires returns quad-part-requires join-requires returns-2
+    (search needs) returns-3 quad-part-requires-2 join-requires-2 add-i sub-dots loop-less loop-again)

@@ -14,23 +14,11 @@ Inv-loop line at i₀ i = Reached (runEnd isBody) line at i
 abbrev μ-loop : tie.MeasureT-loop
 μ-loop line at i₀ i = length line - i
 
-body-blocks-requires : tie.Need-body-blocks-requires Inv-loop μ-loop
-body-blocks-requires c κs = search needs
-
 loop-holds : tie.Need-loop-holds Inv-loop μ-loop
 loop-holds c = record { in-line = c .body-blocks .ensures .0; same = c .body-blocks .ensures .1 }
 
-shared-slice-read-b : tie.Need-shared-slice-read-b Inv-loop μ-loop
-shared-slice-read-b c = search needs
-
 returns : tie.Need-returns Inv-loop μ-loop
 returns c = run-stop isBody (c .before .before .before .loop .inv) (c .before .before .loop-test .taken) (body-test _ (c .if1 .taken))
-
-add-i : tie.Need-add-i Inv-loop μ-loop
-add-i c = search needs
-
-loop-less : tie.Need-loop-less Inv-loop μ-loop
-loop-less c = search needs
 
 loop-again : tie.Need-loop-again Inv-loop μ-loop
 loop-again c = run-more isBody (c .before .before .before .loop .inv) (c .before .before .loop-test .taken) (body-test _ (c .if1 .left))
@@ -41,14 +29,5 @@ returns-2 c = run-end isBody (c .before .loop .inv) (c .loop-test .left)
 pub eat-body-spec : {M : Type 1} → statement M
 eat-body-spec =
     tie.close
-    (tie.spec
-    Inv-loop
-    μ-loop
-    body-blocks-requires
-    loop-holds
-    shared-slice-read-b
-    returns
-    add-i
-    loop-less
-    loop-again
+    (tie.spec Inv-loop μ-loop (search needs) loop-holds (search needs) returns (search needs) (search needs) loop-again
     returns-2)

@@ -14,23 +14,11 @@ Inv-loop line at i₀ i = Reached (runEnd notNewline) line at i
 abbrev μ-loop : tie.MeasureT-loop
 μ-loop line at i₀ i = length line - i
 
-comment-blocks-requires : tie.Need-comment-blocks-requires Inv-loop μ-loop
-comment-blocks-requires c κs = search needs
-
 loop-holds : tie.Need-loop-holds Inv-loop μ-loop
 loop-holds c = record { in-line = c .comment-blocks .ensures .0; same = c .comment-blocks .ensures .1 }
 
-shared-slice-read-if1 : tie.Need-shared-slice-read-if1 Inv-loop μ-loop
-shared-slice-read-if1 c = search needs
-
 returns : tie.Need-returns Inv-loop μ-loop
 returns c = run-stop notNewline (c .before .before .before .loop .inv) (c .before .before .loop-test .taken) (newline _ (c .if1 .taken))
-
-add-i : tie.Need-add-i Inv-loop μ-loop
-add-i c = search needs
-
-loop-less : tie.Need-loop-less Inv-loop μ-loop
-loop-less c = search needs
 
 loop-again : tie.Need-loop-again Inv-loop μ-loop
 loop-again c = run-more notNewline (c .before .before .before .loop .inv) (c .before .before .loop-test .taken) (no-newline _ (c .if1 .left))
@@ -41,14 +29,5 @@ returns-2 c = run-end notNewline (c .before .loop .inv) (c .loop-test .left)
 pub eat-comment-spec : {M : Type 1} → statement M
 eat-comment-spec =
     tie.close
-    (tie.spec
-    Inv-loop
-    μ-loop
-    comment-blocks-requires
-    loop-holds
-    shared-slice-read-if1
-    returns
-    add-i
-    loop-less
-    loop-again
+    (tie.spec Inv-loop μ-loop (search needs) loop-holds (search needs) returns (search needs) (search needs) loop-again
     returns-2)

@@ -19,26 +19,8 @@ abbrev μ-loop : tie.MeasureT-loop
 loop-holds : tie.Need-loop-holds Inv-loop μ-loop
 loop-holds c = begin (c .before .pre)
 
-shared-slice-read-if1 : tie.Need-shared-slice-read-if1 Inv-loop μ-loop
-shared-slice-read-if1 c = search needs
-
-add-i : tie.Need-add-i Inv-loop μ-loop
-add-i c = search needs
-
-loop-less : tie.Need-loop-less Inv-loop μ-loop
-loop-less c = search needs
-
 loop-again : tie.Need-loop-again Inv-loop μ-loop
 loop-again c = blank-space (c .before .before .before .loop .inv) (c .before .before .loop-test .taken) (c .if1 .taken)
-
-decode-requires : tie.Need-decode-requires Inv-loop μ-loop
-decode-requires c κs = search needs
-
-enum-known-d : tie.Need-enum-known-d Inv-loop μ-loop
-enum-known-d c = search needs
-
-is-space-requires : tie.Need-is-space-requires Inv-loop μ-loop
-is-space-requires c κs = search needs
 
 returns : tie.Need-returns Inv-loop μ-loop
 returns c =
@@ -59,9 +41,6 @@ loop-again-2 c =
     let l = m .before .before .before .before .before in
     blank-more (l .before .loop .inv) (l .loop-test .taken) (sym (m .d .given .1) ∙ m .before .before .decode .ensures) (passed (c .before .is-space .ensures) (c .if2 .left))
 
-enum-told : tie.Need-enum-told Inv-loop μ-loop
-enum-told c = search needs
-
 returns-2 : tie.Need-returns-2 Inv-loop μ-loop
 returns-2 c =
     let m = c .before .before in
@@ -73,20 +52,5 @@ returns-3 c = blank-end (c .before .loop .inv) (c .loop-test .left)
 pub eat-spaces-spec : {M : Type 1} → statement M
 eat-spaces-spec =
     tie.close
-    (tie.spec
-    Inv-loop
-    μ-loop
-    loop-holds
-    shared-slice-read-if1
-    add-i
-    loop-less
-    loop-again
-    decode-requires
-    enum-known-d
-    is-space-requires
-    returns
-    loop-less-2
-    loop-again-2
-    enum-told
-    returns-2
-    returns-3)
+    (tie.spec Inv-loop μ-loop loop-holds (search needs) (search needs) (search needs) loop-again (search needs)
+    (search needs) (search needs) returns loop-less-2 loop-again-2 (search needs) returns-2 returns-3)

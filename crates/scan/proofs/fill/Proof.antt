@@ -19,32 +19,11 @@ Inv-loop line table₀ scanner₀ count₀ table scanner count = (length table �
 abbrev μ-loop : tie.MeasureT-loop
 μ-loop line table₀ scanner₀ count₀ table scanner count = length line - scanner .pos
 
-new-requires : tie.Need-new-requires Inv-loop μ-loop
-new-requires c κs = search needs
-
 loop-holds : tie.Need-loop-holds Inv-loop μ-loop
 loop-holds c = (refl, start _ _ _ (c .before .before .before .pre .1) _ (c .new .ensures))
 
-next-requires : tie.Need-next-requires Inv-loop μ-loop
-next-requires c κs = search needs
-
-enum-known-step : tie.Need-enum-known-step Inv-loop μ-loop
-enum-known-step c = search needs
-
-enum-told : tie.Need-enum-told Inv-loop μ-loop
-enum-told c = search needs
-
-same-length : tie.Need-same-length Inv-loop μ-loop
-same-length c = search needs
-
 returns : tie.Need-returns Inv-loop μ-loop
 returns c = (counted-all _ _ _ _ _ (c .before .before .before .loop .inv .1) (sym (c .enum-told .given .1) ∙ c .before .before .next .ensures), rows-all _ _ _ _ _ (c .before .before .before .loop .inv .1) (sym (c .enum-told .given .1) ∙ c .before .before .next .ensures))
-
-row-of-requires : tie.Need-row-of-requires Inv-loop μ-loop
-row-of-requires c κs = search needs
-
-slice-aggregate-put-row : tie.Need-slice-aggregate-put-row Inv-loop μ-loop
-slice-aggregate-put-row c = search needs
 
 put-row-requires : tie.Need-put-row-requires Inv-loop μ-loop
 put-row-requires c κs = let f = c .before .before .before .before .before .before .before .loop .inv .1 in (omega (arith, f .few, f .within, c .before .before .before .before .before .before .before .before .before .before .before .pre .0), row-long (c .before .before .before .before .step .given .0 .0) (c .before .before .row-of .ensures))
@@ -61,19 +40,5 @@ loop-again c = (search needs, more-is _ _ _ _ _ (c .before .before .before .befo
 pub fill-spec : {M : Type 1} → statement M
 fill-spec =
     tie.close
-    (tie.spec
-    Inv-loop
-    μ-loop
-    new-requires
-    loop-holds
-    next-requires
-    enum-known-step
-    enum-told
-    same-length
-    returns
-    row-of-requires
-    slice-aggregate-put-row
-    put-row-requires
-    add-count
-    loop-less
-    loop-again)
+    (tie.spec Inv-loop μ-loop (search needs) loop-holds (search needs) (search needs) (search needs) (search needs)
+    returns (search needs) (search needs) put-row-requires add-count loop-less loop-again)

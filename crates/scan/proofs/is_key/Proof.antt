@@ -11,34 +11,16 @@ Inv-loop line at end key size i₀ i = Matched line key at end i
 abbrev μ-loop : tie.MeasureT-loop
 μ-loop line at end key size i₀ i = length key - i
 
-sub-size : tie.Need-sub-size Inv-loop μ-loop
-sub-size c = search needs
-
 returns : tie.Need-returns Inv-loop μ-loop
 returns c = key-size _ _ _ _ (c .before .pre) (c .if1 .taken)
 
 loop-holds : tie.Need-loop-holds Inv-loop μ-loop
 loop-holds c = key-begin _ _ _ _ (c .before .pre) (c .if1 .left)
 
-add-p : tie.Need-add-p Inv-loop μ-loop
-add-p c = search needs
-
-shared-slice-read-if2 : tie.Need-shared-slice-read-if2 Inv-loop μ-loop
-shared-slice-read-if2 c = search needs
-
-shared-slice-read-if2-2 : tie.Need-shared-slice-read-if2-2 Inv-loop μ-loop
-shared-slice-read-if2-2 c = search needs
-
 returns-2 : tie.Need-returns-2 Inv-loop μ-loop
 returns-2 c =
     let l = c .before .before .before in
     key-stop _ _ _ _ (l .before .before .before .pre) (l .before .loop .inv) (l .loop-test .taken) (c .if2 .taken)
-
-add-i : tie.Need-add-i Inv-loop μ-loop
-add-i c = search needs
-
-loop-less : tie.Need-loop-less Inv-loop μ-loop
-loop-less c = search needs
 
 loop-again : tie.Need-loop-again Inv-loop μ-loop
 loop-again c =
@@ -51,17 +33,5 @@ returns-3 c = key-end _ _ _ _ (c .before .before .before .pre) (c .before .loop 
 pub is-key-spec : {M : Type 1} → statement M
 is-key-spec =
     tie.close
-    (tie.spec
-    Inv-loop
-    μ-loop
-    sub-size
-    returns
-    loop-holds
-    add-p
-    shared-slice-read-if2
-    shared-slice-read-if2-2
-    returns-2
-    add-i
-    loop-less
-    loop-again
-    returns-3)
+    (tie.spec Inv-loop μ-loop (search needs) returns loop-holds (search needs) (search needs) (search needs) returns-2
+    (search needs) (search needs) loop-again returns-3)

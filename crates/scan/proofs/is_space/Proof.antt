@@ -39,13 +39,4 @@ returns-9 c = blank-in _ 1 (c .before .if1 .left) (omega arith)
 pub is-space-spec : {M : Type 1} → statement M
 is-space-spec =
     tie.close
-    (tie.spec
-    returns
-    returns-2
-    returns-3
-    returns-4
-    returns-5
-    returns-6
-    returns-7
-    returns-8
-    returns-9)
+    (tie.spec returns returns-2 returns-3 returns-4 returns-5 returns-6 returns-7 returns-8 returns-9)

@@ -5,9 +5,6 @@ use Rattle.scan.proofs.Digits.{sixteen}
 use Rattle.scan.proofs.push_digit.Statement.{statement}
 use Rattle.scan.proofs.push_digit.Tie as tie
 
-times10-plus-requires : tie.Need-times10-plus-requires
-times10-plus-requires c κs = search needs
-
 returns : tie.Need-returns
 returns c = rw (c .before .if1 .taken) (c .times10-plus .ensures)
 
@@ -21,4 +18,4 @@ returns-2 c =
 
 pub push-digit-spec : {M : Type 1} → statement M
 push-digit-spec =
-    tie.close (tie.spec times10-plus-requires returns times16-plus-requires returns-2)
+    tie.close (tie.spec (search needs) returns times16-plus-requires returns-2)

@@ -8,9 +8,6 @@ use Rattle.scan.proofs.Quads.{part-ends, too-long, zero-first, not-numb
 use Rattle.scan.proofs.quad_part.Statement.{statement}
 use Rattle.scan.proofs.quad_part.Tie as tie
 
-sub-if1 : tie.Need-sub-if1
-sub-if1 c = search needs
-
 returns : tie.Need-returns
 returns c =
     let s = c .before .before in
@@ -31,12 +28,6 @@ read-digits-requires : tie.Need-read-digits-requires
 read-digits-requires c κs =
     let s = c .before .before .before .before in
     (omega arith, part-ends (s .args .line .now) (s .args .at) _ (s .pre) .1, inl refl)
-
-enum-known-n : tie.Need-enum-known-n
-enum-known-n c = search needs
-
-enum-told : tie.Need-enum-told
-enum-told c = search needs
 
 returns-3 : tie.Need-returns-3
 returns-3 c =
@@ -66,15 +57,5 @@ returns-5 c =
 pub quad-part-spec : {M : Type 1} → statement M
 quad-part-spec =
     tie.close
-    (tie.spec
-    sub-if1
-    returns
-    starts-zero-requires
-    returns-2
-    read-digits-requires
-    enum-known-n
-    enum-told
-    returns-3
-    cast-t12
-    returns-4
-    returns-5)
+    (tie.spec (search needs) returns starts-zero-requires returns-2 read-digits-requires (search needs) (search needs)
+    returns-3 cast-t12 returns-4 returns-5)

@@ -11,43 +11,19 @@ Inv-loop line at end base v₀ i₀ v i = Reading base line at end v i
 abbrev μ-loop : tie.MeasureT-loop
 μ-loop line at end base v₀ i₀ v i = end - i
 
-zero-requires : tie.Need-zero-requires Inv-loop μ-loop
-zero-requires c κs = search needs
-
 loop-holds : tie.Need-loop-holds Inv-loop μ-loop
 loop-holds c = start _ _ _ _ _ (c .before .before .pre .0) (c .zero .ensures)
-
-shared-slice-read-b : tie.Need-shared-slice-read-b Inv-loop μ-loop
-shared-slice-read-b c = search needs
-
-digit-requires : tie.Need-digit-requires Inv-loop μ-loop
-digit-requires c κs = search needs
 
 returns : tie.Need-returns Inv-loop μ-loop
 returns c =
     let l = c .before .before .before in
     suffix (l .before .loop .inv) (l .loop-test .taken) (l .before .before .before .before .pre .1) _ (c .before .digit .ensures) (c .if1 .taken)
 
-push-digit-requires : tie.Need-push-digit-requires Inv-loop μ-loop
-push-digit-requires c κs = search needs
-
-enum-known-next : tie.Need-enum-known-next Inv-loop μ-loop
-enum-known-next c = search needs
-
-enum-told : tie.Need-enum-told Inv-loop μ-loop
-enum-told c = search needs
-
 returns-2 : tie.Need-returns-2 Inv-loop μ-loop
 returns-2 c =
     let l = c .before .before .before .before .before .before in
     let p = c .before .before in
     out-of-range (l .before .loop .inv) (l .loop-test .taken) (l .before .before .before .before .pre .1) _ (p .before .before .digit .ensures) (p .before .if1 .left) _ (p .push-digit .ensures) (c .enum-told .given .1)
-
-add-i : tie.Need-add-i Inv-loop μ-loop
-add-i c = search needs
-
-loop-less : tie.Need-loop-less Inv-loop μ-loop
-loop-less c = search needs
 
 loop-again : tie.Need-loop-again Inv-loop μ-loop
 loop-again c =
@@ -61,19 +37,5 @@ returns-3 c = finished (c .before .loop .inv) (c .loop-test .left)
 pub read-digits-spec : {M : Type 1} → statement M
 read-digits-spec =
     tie.close
-    (tie.spec
-    Inv-loop
-    μ-loop
-    zero-requires
-    loop-holds
-    shared-slice-read-b
-    digit-requires
-    returns
-    push-digit-requires
-    enum-known-next
-    enum-told
-    returns-2
-    add-i
-    loop-less
-    loop-again
-    returns-3)
+    (tie.spec Inv-loop μ-loop (search needs) loop-holds (search needs) (search needs) returns (search needs)
+    (search needs) (search needs) returns-2 (search needs) (search needs) loop-again returns-3)

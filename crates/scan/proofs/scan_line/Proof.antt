@@ -15,29 +15,14 @@ use Rattle.scan.proofs.fill.Reads as fill-reads
 use Rattle.table.proofs.clear.Reads as clear-reads
 use Rattle.utf8.proofs.first_bad.Reads as first-bad-reads
 
-clear-requires : tie.Need-clear-requires
-clear-requires c κs = search needs
-
-new-requires : tie.Need-new-requires
-new-requires c κs = search needs
-
 same-length : tie.Need-same-length
 same-length c = search needs
 
 returns : tie.Need-returns
 returns c = refused _ _ (verdict 1 0 0) refl (too-long _ _ (c .before .if1 .taken)) _ (c .new .ensures) _ (c .before .before .before .before .clear .ensures) (same-length c)
 
-first-bad-requires : tie.Need-first-bad-requires
-first-bad-requires c κs = search needs
-
-enum-known-bad : tie.Need-enum-known-bad
-enum-known-bad c = search needs
-
 add-new : tie.Need-add-new
 add-new c = let h = bad-within _ _ (sym (c .before .bad .given .1) ∙ c .before .before .before .first-bad .ensures) in omega arith
-
-new-requires-2 : tie.Need-new-requires-2
-new-requires-2 c κs = search needs
 
 same-length-2 : tie.Need-same-length-2
 same-length-2 c = search needs
@@ -45,26 +30,14 @@ same-length-2 c = search needs
 returns-2 : tie.Need-returns-2
 returns-2 c = refused _ _ (verdict 2 1 _) refl (bad-byte _ _ (c .before .before .before .before .before .if1 .left) _ (sym (c .before .before .bad .given .1) ∙ c .before .before .before .before .first-bad .ensures)) _ (c .new2 .ensures) _ (c .before .before .before .before .before .before .before .before .clear .ensures) (same-length-2 c)
 
-enum-told : tie.Need-enum-told
-enum-told c = search needs
-
 fill-requires : tie.Need-fill-requires
 fill-requires c κs = (c .before .before .before .before .if1 .left, pad-own _ _ [] (c .before .before .before .before .before .before .before .clear .ensures) refl)
-
-clear-requires-2 : tie.Need-clear-requires-2
-clear-requires-2 c κs = search needs
-
-new-requires-3 : tie.Need-new-requires-3
-new-requires-3 c κs = search needs
 
 same-length-3 : tie.Need-same-length-3
 same-length-3 c = search needs
 
 returns-3 : tie.Need-returns-3
 returns-3 c = refused _ _ (verdict 4 0 0) refl (full _ _ (c .before .before .before .before .before .before .before .before .before .before .before .before .before .if1 .left) (sym (c .before .before .before .before .before .before .before .before .before .before .enum-told .given .1) ∙ c .before .before .before .before .before .before .before .before .before .before .before .before .first-bad .ensures) _ (c .before .before .before .before .before .before .before .before .fill .ensures .0) (c .before .before .before .before .before .if2 .taken)) _ (c .new3 .ensures) _ (c .before .before .before .clear2 .ensures) (same-length-3 c)
-
-new-requires-4 : tie.Need-new-requires-4
-new-requires-4 c κs = search needs
 
 same-length-4 : tie.Need-same-length-4
 same-length-4 c = search needs
@@ -75,23 +48,6 @@ returns-4 c = accepted _ _ _ (fits _ _ (c .before .before .before .before .befor
 pub scan-line-spec : {M : Type 1} → statement M
 scan-line-spec =
     tie.close
-    (tie.spec
-    clear-requires
-    new-requires
-    same-length
-    returns
-    first-bad-requires
-    enum-known-bad
-    add-new
-    new-requires-2
-    same-length-2
-    returns-2
-    enum-told
-    fill-requires
-    clear-requires-2
-    new-requires-3
-    same-length-3
-    returns-3
-    new-requires-4
-    same-length-4
-    returns-4)
+    (tie.spec (search needs) (search needs) same-length returns (search needs) (search needs) add-new (search needs)
+    same-length-2 returns-2 (search needs) fill-requires (search needs) (search needs) same-length-3 returns-3
+    (search needs) same-length-4 returns-4)

@@ -4,34 +4,16 @@ use Rattle.scan.proofs.Numerals.{not-hex, not-x, hex-start}
 use Rattle.scan.proofs.starts_hex.Statement.{statement}
 use Rattle.scan.proofs.starts_hex.Tie as tie
 
-peek-requires : tie.Need-peek-requires
-peek-requires c κs = search needs
-
 returns : tie.Need-returns
 returns c =
     let a = c .before .before .before .args in
     not-hex (a .line .now) (a .at) _ (c .before .peek .ensures) (c .if1 .taken)
-
-add-peek : tie.Need-add-peek
-add-peek c = search needs
-
-peek-requires-2 : tie.Need-peek-requires-2
-peek-requires-2 c κs = search needs
 
 returns-2 : tie.Need-returns-2
 returns-2 c =
     let p = c .before .before in
     let a = p .before .before .before .args in
     not-x (a .line .now) (a .at) _ (p .before .peek .ensures) (p .if1 .left) _ (c .before .peek2 .ensures) (c .if2 .taken)
-
-add-peek-2 : tie.Need-add-peek-2
-add-peek-2 c = search needs
-
-peek-requires-3 : tie.Need-peek-requires-3
-peek-requires-3 c κs = search needs
-
-digit-requires : tie.Need-digit-requires
-digit-requires c κs = search needs
 
 returns-3 : tie.Need-returns-3
 returns-3 c =
@@ -42,13 +24,5 @@ returns-3 c =
 pub starts-hex-spec : {M : Type 1} → statement M
 starts-hex-spec =
     tie.close
-    (tie.spec
-    peek-requires
-    returns
-    add-peek
-    peek-requires-2
-    returns-2
-    add-peek-2
-    peek-requires-3
-    digit-requires
-    returns-3)
+    (tie.spec (search needs) returns (search needs) (search needs) returns-2 (search needs) (search needs)
+    (search needs) returns-3)

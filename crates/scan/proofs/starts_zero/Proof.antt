@@ -4,22 +4,10 @@ use Rattle.scan.proofs.Numerals.{not-zero, zero-start}
 use Rattle.scan.proofs.starts_zero.Statement.{statement}
 use Rattle.scan.proofs.starts_zero.Tie as tie
 
-peek-requires : tie.Need-peek-requires
-peek-requires c κs = search needs
-
 returns : tie.Need-returns
 returns c =
     let a = c .before .before .before .args in
     not-zero (a .line .now) (a .at) _ (c .before .peek .ensures) (c .if1 .taken)
-
-add-peek : tie.Need-add-peek
-add-peek c = search needs
-
-peek-requires-2 : tie.Need-peek-requires-2
-peek-requires-2 c κs = search needs
-
-is-digit-requires : tie.Need-is-digit-requires
-is-digit-requires c κs = search needs
 
 returns-2 : tie.Need-returns-2
 returns-2 c =
@@ -29,4 +17,4 @@ returns-2 c =
 
 pub starts-zero-spec : {M : Type 1} → statement M
 starts-zero-spec =
-    tie.close (tie.spec peek-requires returns add-peek peek-requires-2 is-digit-requires returns-2)
+    tie.close (tie.spec (search needs) returns (search needs) (search needs) (search needs) returns-2)

@@ -11,15 +11,6 @@ use Rattle.scan.proofs.string.Lts as lts
 use Rattle.scan.proofs.eat_body.Reads as eat-body-reads
 use Rattle.scan.proofs.peek.Reads as peek-reads
 
-add-eat-body : tie.Need-add-eat-body
-add-eat-body c = search needs
-
-eat-body-requires : tie.Need-eat-body-requires
-eat-body-requires c κs = search needs
-
-peek-requires : tie.Need-peek-requires
-peek-requires c κs = search needs
-
 add-t7 : tie.Need-add-t7
 add-t7 c = let e = run-ends (c .before .before .before .before .args .line .now) ((c .before .before .before .before .args .at) + 1) isBody (omega arith) in let r = c .before .before .eat-body .ensures in omega arith
 
@@ -31,4 +22,4 @@ returns-2 c = string-open (c .before .before .before .before .args .line .now) (
 
 pub string-spec : {M : Type 1} → statement M
 string-spec =
-    tie.close (tie.spec add-eat-body eat-body-requires peek-requires add-t7 returns returns-2)
+    tie.close (tie.spec (search needs) (search needs) (search needs) add-t7 returns returns-2)

@@ -4,43 +4,19 @@ use Rattle.scan.proofs.Words.{word-import, word-let, word-true, word-fa
 use Rattle.scan.proofs.word.Statement.{statement}
 use Rattle.scan.proofs.word.Tie as tie
 
-slice-aggregate-is-key : tie.Need-slice-aggregate-is-key
-slice-aggregate-is-key c = search needs
-
-is-key-requires : tie.Need-is-key-requires
-is-key-requires c κs = search needs
-
 returns : tie.Need-returns
 returns c = word-import _ (sym (c .before .is-key .ensures) ∙ c .if1 .taken)
-
-slice-aggregate-is-key-2 : tie.Need-slice-aggregate-is-key-2
-slice-aggregate-is-key-2 c = search needs
-
-is-key-requires-2 : tie.Need-is-key-requires-2
-is-key-requires-2 c κs = search needs
 
 returns-2 : tie.Need-returns-2
 returns-2 c =
     let k1 = c .before .before .before in
     word-let _ (sym (k1 .before .is-key .ensures) ∙ k1 .if1 .left) (sym (c .before .is-key2 .ensures) ∙ c .if2 .taken)
 
-slice-aggregate-is-key-3 : tie.Need-slice-aggregate-is-key-3
-slice-aggregate-is-key-3 c = search needs
-
-is-key-requires-3 : tie.Need-is-key-requires-3
-is-key-requires-3 c κs = search needs
-
 returns-3 : tie.Need-returns-3
 returns-3 c =
     let k2 = c .before .before .before in
     let k1 = k2 .before .before .before in
     word-true _ (sym (k1 .before .is-key .ensures) ∙ k1 .if1 .left) (sym (k2 .before .is-key2 .ensures) ∙ k2 .if2 .left) (sym (c .before .is-key3 .ensures) ∙ c .if3 .taken)
-
-slice-aggregate-is-key-4 : tie.Need-slice-aggregate-is-key-4
-slice-aggregate-is-key-4 c = search needs
-
-is-key-requires-4 : tie.Need-is-key-requires-4
-is-key-requires-4 c κs = search needs
 
 returns-4 : tie.Need-returns-4
 returns-4 c =
@@ -59,17 +35,5 @@ returns-5 c =
 pub word-spec : {M : Type 1} → statement M
 word-spec =
     tie.close
-    (tie.spec
-    slice-aggregate-is-key
-    is-key-requires
-    returns
-    slice-aggregate-is-key-2
-    is-key-requires-2
-    returns-2
-    slice-aggregate-is-key-3
-    is-key-requires-3
-    returns-3
-    slice-aggregate-is-key-4
-    is-key-requires-4
-    returns-4
-    returns-5)
+    (tie.spec (search needs) (search needs) returns (search needs) (search needs) returns-2 (search needs)
+    (search needs) returns-3 (search needs) (search needs) returns-4 returns-5)

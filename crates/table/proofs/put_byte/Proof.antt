@@ -6,17 +6,8 @@ use Rattle.table.proofs.put_byte.Tie as tie
 use Rattle.table.proofs.put_byte.Reads as reads
 use Rattle.table.proofs.put_byte.Lts as lts
 
-slice-write-text : tie.Need-slice-write-text
-slice-write-text c = search needs
-
-same-length : tie.Need-same-length
-same-length c = search needs
-
-returns : tie.Need-returns
-returns c = search needs
-
 returns-2 : tie.Need-returns-2
 returns-2 c = sym (set-out _ _ _ (c .if1 .left))
 
 pub put-byte-spec : {M : Type 1} → statement M
-put-byte-spec = tie.close (tie.spec slice-write-text same-length returns returns-2)
+put-byte-spec = tie.close (tie.spec (search needs) (search needs) (search needs) returns-2)

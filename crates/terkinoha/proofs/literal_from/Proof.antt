@@ -15,20 +15,8 @@ abbrev μ-loop : tie.MeasureT-loop
 loop-holds : tie.Need-loop-holds Inv-loop μ-loop
 loop-holds c = start _ _ _ refl
 
-next-requires : tie.Need-next-requires Inv-loop μ-loop
-next-requires c κs = search needs
-
-enum-known-step : tie.Need-enum-known-step Inv-loop μ-loop
-enum-known-step c = search needs
-
-enum-told : tie.Need-enum-told Inv-loop μ-loop
-enum-told c = search needs
-
 returns : tie.Need-returns Inv-loop μ-loop
 returns c = none-left _ _ _ (c .before .before .before .loop .inv) (sym (c .enum-told .given .1) ∙ c .before .before .next .ensures)
-
-enum-told-2 : tie.Need-enum-told-2 Inv-loop μ-loop
-enum-told-2 c = search needs
 
 returns-2 : tie.Need-returns-2 Inv-loop μ-loop
 returns-2 c = is-it _ _ _ (c .before .before .before .before .before .before .loop .inv) _ _ (sym (c .before .before .before .step .given .1) ∙ c .before .before .before .before .before .next .ensures) (c .enum-told2 .given .1)
@@ -42,15 +30,5 @@ loop-again c = passed _ _ _ (c .before .before .before .before .before .loop .in
 pub literal-from-spec : {M : Type 1} → statement M
 literal-from-spec =
     tie.close
-    (tie.spec
-    Inv-loop
-    μ-loop
-    loop-holds
-    next-requires
-    enum-known-step
-    enum-told
-    returns
-    enum-told-2
-    returns-2
-    loop-less
-    loop-again)
+    (tie.spec Inv-loop μ-loop loop-holds (search needs) (search needs) (search needs) returns (search needs) returns-2
+    loop-less loop-again)

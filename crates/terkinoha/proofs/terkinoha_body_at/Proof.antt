@@ -10,17 +10,11 @@ Inv-loop source start end i left₀ body₀ left body = Seeking source start end
 abbrev μ-loop : tie.MeasureT-loop
 μ-loop source start end i left₀ body₀ left body = left
 
-terkinoha-next-body-requires : tie.Need-terkinoha-next-body-requires Inv-loop μ-loop
-terkinoha-next-body-requires c κs = search needs
-
 loop-holds : tie.Need-loop-holds Inv-loop μ-loop
 loop-holds c = begin (c .terkinoha-next-body .ensures)
 
 returns : tie.Need-returns Inv-loop μ-loop
 returns c = none-there (c .before .before .before .loop .inv) (c .if1 .taken)
-
-terkinoha-next-body-requires-2 : tie.Need-terkinoha-next-body-requires-2 Inv-loop μ-loop
-terkinoha-next-body-requires-2 c κs = search needs
 
 sub-left : tie.Need-sub-left Inv-loop μ-loop
 sub-left c = omega arith
@@ -37,14 +31,4 @@ returns-2 c = this-one (c .before .loop .inv) (omega arith)
 pub terkinoha-body-at-spec : {M : Type 1} → statement M
 terkinoha-body-at-spec =
     tie.close
-    (tie.spec
-    Inv-loop
-    μ-loop
-    terkinoha-next-body-requires
-    loop-holds
-    returns
-    terkinoha-next-body-requires-2
-    sub-left
-    loop-less
-    loop-again
-    returns-2)
+    (tie.spec Inv-loop μ-loop (search needs) loop-holds returns (search needs) sub-left loop-less loop-again returns-2)

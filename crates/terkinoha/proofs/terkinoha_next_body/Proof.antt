@@ -6,32 +6,17 @@ use borrow.Author.Needs.{needs}
 use Rattle.terkinoha.proofs.terkinoha_next_body.Statement.{statement}
 use Rattle.terkinoha.proofs.terkinoha_next_body.Tie as tie
 
-no-body-requires : tie.Need-no-body-requires
-no-body-requires c κs = search needs
-
 returns : tie.Need-returns
 returns c = c .no-body .ensures ∙ too-short _ _ _ (c .before .if1 .taken)
 
 slice-aggregate-literal-from : tie.Need-slice-aggregate-literal-from
 slice-aggregate-literal-from c = sym (length-take-le _ _ (omega arith))
 
-literal-from-requires : tie.Need-literal-from-requires
-literal-from-requires c κs = search needs
-
-enum-known-from : tie.Need-enum-known-from
-enum-known-from c = search needs
-
 add-t14 : tie.Need-add-t14
 add-t14 c = let b = bounds (c .before .before .before .before .before .before .before .args .source .now) (c .before .before .before .before .before .before .before .args .at) (c .before .before .before .before .before .before .before .args .end) (c .before .before .before .literal-from .ensures) _ _ (c .before .from .given .1) in search needs
 
 sub-t16 : tie.Need-sub-t16
 sub-t16 c = let b = bounds (c .before .before .before .before .before .before .before .args .source .now) (c .before .before .before .before .before .before .before .args .at) (c .before .before .before .before .before .before .before .args .end) (c .before .before .before .literal-from .ensures) _ _ (c .before .from .given .1) in omega arith
-
-enum-told : tie.Need-enum-told
-enum-told c = search needs
-
-no-body-requires-2 : tie.Need-no-body-requires-2
-no-body-requires-2 c κs = search needs
 
 returns-2 : tie.Need-returns-2
 returns-2 c = there _ _ _ (c .before .before .before .literal-from .ensures) _ _ (c .before .from .given .1) (omega arith)
@@ -42,15 +27,5 @@ returns-3 c = c .no-body2 .ensures ∙ nowhere _ _ _ (c .before .before .before 
 pub terkinoha-next-body-spec : {M : Type 1} → statement M
 terkinoha-next-body-spec =
     tie.close
-    (tie.spec
-    no-body-requires
-    returns
-    slice-aggregate-literal-from
-    literal-from-requires
-    enum-known-from
-    add-t14
-    sub-t16
-    enum-told
-    no-body-requires-2
-    returns-2
-    returns-3)
+    (tie.spec (search needs) returns slice-aggregate-literal-from (search needs) (search needs) add-t14 sub-t16
+    (search needs) (search needs) returns-2 returns-3)

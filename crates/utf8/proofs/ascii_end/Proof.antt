@@ -12,26 +12,14 @@ Inv-loop src at blocks i₀ i = Passed src at i
 abbrev μ-loop : tie.MeasureT-loop
 μ-loop src at blocks i₀ i = length src - i
 
-ascii-blocks-requires : tie.Need-ascii-blocks-requires Inv-loop μ-loop
-ascii-blocks-requires c κs = search needs
-
 ascii-eights-requires : tie.Need-ascii-eights-requires Inv-loop μ-loop
 ascii-eights-requires c κs = c .ascii-blocks .ensures .in-source
 
 loop-holds : tie.Need-loop-holds Inv-loop μ-loop
 loop-holds c = pass-on (c .before .ascii-blocks .ensures) (c .ascii-eights .ensures)
 
-shared-slice-read-if1 : tie.Need-shared-slice-read-if1 Inv-loop μ-loop
-shared-slice-read-if1 c = search needs
-
 returns : tie.Need-returns Inv-loop μ-loop
 returns c = c .before .before .before .loop .inv
-
-add-i : tie.Need-add-i Inv-loop μ-loop
-add-i c = search needs
-
-loop-less : tie.Need-loop-less Inv-loop μ-loop
-loop-less c = search needs
 
 loop-again : tie.Need-loop-again Inv-loop μ-loop
 loop-again c = pass-byte (c .before .before .before .loop .inv) (c .before .before .loop-test .taken) (c .if1 .left)
@@ -42,15 +30,5 @@ returns-2 c = c .before .loop .inv
 pub ascii-end-spec : {M : Type 1} → statement M
 ascii-end-spec =
     tie.close
-    (tie.spec
-    Inv-loop
-    μ-loop
-    ascii-blocks-requires
-    ascii-eights-requires
-    loop-holds
-    shared-slice-read-if1
-    returns
-    add-i
-    loop-less
-    loop-again
-    returns-2)
+    (tie.spec Inv-loop μ-loop (search needs) ascii-eights-requires loop-holds (search needs) returns (search needs)
+    (search needs) loop-again returns-2)

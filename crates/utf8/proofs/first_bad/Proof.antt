@@ -16,20 +16,8 @@ Inv-loop src i₀ i = (i ≤ length src) × (badFrom 0 i (drop i src) ≡ firstB
 abbrev μ-loop : tie.MeasureT-loop
 μ-loop src i₀ i = length src - i
 
-ascii-end-requires : tie.Need-ascii-end-requires Inv-loop μ-loop
-ascii-end-requires c κs = search needs
-
 loop-holds : tie.Need-loop-holds Inv-loop μ-loop
 loop-holds c = (c .ascii-end .ensures .in-source, c .ascii-end .ensures .same)
-
-shared-slice-read-if1 : tie.Need-shared-slice-read-if1 Inv-loop μ-loop
-shared-slice-read-if1 c = search needs
-
-add-ascii-end : tie.Need-add-ascii-end Inv-loop μ-loop
-add-ascii-end c = search needs
-
-ascii-end-requires-2 : tie.Need-ascii-end-requires-2 Inv-loop μ-loop
-ascii-end-requires-2 c κs = search needs
 
 loop-less : tie.Need-loop-less Inv-loop μ-loop
 loop-less c = omega (arith, c .ascii-end2 .ensures .further, c .ascii-end2 .ensures .in-source)
@@ -40,12 +28,6 @@ loop-again c =
     let p = c .ascii-end2 .ensures in
     (p .in-source, p .same ∙ o .same ∙ c .before .before .before .before .loop .inv .1)
 
-two-octets-requires : tie.Need-two-octets-requires Inv-loop μ-loop
-two-octets-requires c κs = search needs
-
-add-i : tie.Need-add-i Inv-loop μ-loop
-add-i c = search needs
-
 loop-less-2 : tie.Need-loop-less-2 Inv-loop μ-loop
 loop-less-2 c = omega arith
 
@@ -53,12 +35,6 @@ loop-again-2 : tie.Need-loop-again-2 Inv-loop μ-loop
 loop-again-2 c =
     let p = c .before .two-octets .ensures (c .if2 .taken) in
     (p .in-source, p .same ∙ c .before .before .before .before .before .loop .inv .1)
-
-longer-requires : tie.Need-longer-requires Inv-loop μ-loop
-longer-requires c κs = search needs
-
-enum-known-here : tie.Need-enum-known-here Inv-loop μ-loop
-enum-known-here c = search needs
 
 loop-less-3 : tie.Need-loop-less-3 Inv-loop μ-loop
 loop-less-3 c =
@@ -74,9 +50,6 @@ loop-again-3 c =
     let o = bad-char _ _ (l .loop-test .taken) _ _ e in
     (o .in-source, o .same ∙ l .before .loop .inv .1)
 
-enum-told : tie.Need-enum-told Inv-loop μ-loop
-enum-told c = search needs
-
 returns : tie.Need-returns Inv-loop μ-loop
 returns c =
     let l = c .before .before .before .before .before .before .before in
@@ -89,24 +62,6 @@ returns-2 c = bad-end _ _ (c .loop-test .left) ∙ ap badOf (c .before .loop .in
 pub first-bad-spec : {M : Type 1} → statement M
 first-bad-spec =
     tie.close
-    (tie.spec
-    Inv-loop
-    μ-loop
-    ascii-end-requires
-    loop-holds
-    shared-slice-read-if1
-    add-ascii-end
-    ascii-end-requires-2
-    loop-less
-    loop-again
-    two-octets-requires
-    add-i
-    loop-less-2
-    loop-again-2
-    longer-requires
-    enum-known-here
-    loop-less-3
-    loop-again-3
-    enum-told
-    returns
-    returns-2)
+    (tie.spec Inv-loop μ-loop (search needs) loop-holds (search needs) (search needs) (search needs) loop-less
+    loop-again (search needs) (search needs) loop-less-2 loop-again-2 (search needs) (search needs) loop-less-3
+    loop-again-3 (search needs) returns returns-2)

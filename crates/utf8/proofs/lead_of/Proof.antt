@@ -6,57 +6,6 @@ use Rattle.utf8.proofs.Leads.{row-ascii, row-C2, row-E0, row-E1, row-ED
 use Rattle.utf8.proofs.lead_of.Statement.{statement}
 use Rattle.utf8.proofs.lead_of.Tie as tie
 
-wide-requires : tie.Need-wide-requires
-wide-requires c κs = search needs
-
-sub-t4 : tie.Need-sub-t4
-sub-t4 c = search needs
-
-wide-requires-2 : tie.Need-wide-requires-2
-wide-requires-2 c κs = search needs
-
-sub-t6 : tie.Need-sub-t6
-sub-t6 c = search needs
-
-wide-requires-3 : tie.Need-wide-requires-3
-wide-requires-3 c κs = search needs
-
-sub-t8 : tie.Need-sub-t8
-sub-t8 c = search needs
-
-wide-requires-4 : tie.Need-wide-requires-4
-wide-requires-4 c κs = search needs
-
-sub-t10 : tie.Need-sub-t10
-sub-t10 c = search needs
-
-wide-requires-5 : tie.Need-wide-requires-5
-wide-requires-5 c κs = search needs
-
-wide-requires-6 : tie.Need-wide-requires-6
-wide-requires-6 c κs = search needs
-
-sub-t14 : tie.Need-sub-t14
-sub-t14 c = search needs
-
-wide-requires-7 : tie.Need-wide-requires-7
-wide-requires-7 c κs = search needs
-
-sub-t16 : tie.Need-sub-t16
-sub-t16 c = search needs
-
-wide-requires-8 : tie.Need-wide-requires-8
-wide-requires-8 c κs = search needs
-
-sub-t18 : tie.Need-sub-t18
-sub-t18 c = search needs
-
-wide-requires-9 : tie.Need-wide-requires-9
-wide-requires-9 c κs = search needs
-
-sub-t20 : tie.Need-sub-t20
-sub-t20 c = search needs
-
 returns : tie.Need-returns
 returns c = row-E0 _ _ (c .wide .ensures) (c .before .match .keys1)
 
@@ -93,32 +42,7 @@ returns-11 c = not-F5 _ (omega (arith, c .before .before .before .before .before
 pub lead-of-spec : {M : Type 1} → statement M
 lead-of-spec =
     tie.close
-    (tie.spec
-    wide-requires
-    sub-t4
-    wide-requires-2
-    sub-t6
-    wide-requires-3
-    sub-t8
-    wide-requires-4
-    sub-t10
-    wide-requires-5
-    wide-requires-6
-    sub-t14
-    wide-requires-7
-    sub-t16
-    wide-requires-8
-    sub-t18
-    wide-requires-9
-    sub-t20
-    returns
-    returns-2
-    returns-3
-    returns-4
-    returns-5
-    returns-6
-    returns-7
-    returns-8
-    returns-9
-    returns-10
-    returns-11)
+    (tie.spec (search needs) (search needs) (search needs) (search needs) (search needs) (search needs) (search needs)
+    (search needs) (search needs) (search needs) (search needs) (search needs) (search needs) (search needs)
+    (search needs) (search needs) (search needs) returns returns-2 returns-3 returns-4 returns-5 returns-6 returns-7
+    returns-8 returns-9 returns-10 returns-11)

@@ -6,23 +6,11 @@ use borrow.Author.Needs.{needs}
 use Rattle.utf8.proofs.longer.Statement.{statement}
 use Rattle.utf8.proofs.longer.Tie as tie
 
-shared-slice-read-b : tie.Need-shared-slice-read-b
-shared-slice-read-b c = search needs
-
-lead-of-requires : tie.Need-lead-of-requires
-lead-of-requires c κs = search needs
-
-enum-known-lead : tie.Need-enum-known-lead
-enum-known-lead c = search needs
-
 read-tails-requires : tie.Need-read-tails-requires
 read-tails-requires c κs =
     let l = c .before .before .before in
     let e = sym (c .before .lead .given .1) ∙ l .lead-of .ensures in
     (l .before .before .before .pre .0, small _ _ _ _ _ (l .before .before .before .pre .1) e)
-
-enum-told : tie.Need-enum-told
-enum-told c = search needs
 
 returns : tie.Need-returns
 returns c =
@@ -38,11 +26,4 @@ returns-2 c =
 pub longer-spec : {M : Type 1} → statement M
 longer-spec =
     tie.close
-    (tie.spec
-    shared-slice-read-b
-    lead-of-requires
-    enum-known-lead
-    read-tails-requires
-    enum-told
-    returns
-    returns-2)
+    (tie.spec (search needs) (search needs) (search needs) read-tails-requires (search needs) returns returns-2)

@@ -15,17 +15,11 @@ Inv-loop src at tails least most first low₀ high₀ bits₀ left₀ i₀ low h
 abbrev μ-loop : tie.MeasureT-loop
 μ-loop src at tails least most first low₀ high₀ bits₀ left₀ i₀ low high bits left i = left
 
-add-i : tie.Need-add-i Inv-loop μ-loop
-add-i c = search needs
-
 loop-holds : tie.Need-loop-holds Inv-loop μ-loop
 loop-holds c = start _ _ _ _ _ _ (c .before .pre .1)
 
 returns : tie.Need-returns Inv-loop μ-loop
 returns c = ended _ _ _ _ _ _ _ _ _ (c .before .before .loop .inv) (c .before .loop-test .taken) (c .if1 .taken)
-
-shared-slice-read-b : tie.Need-shared-slice-read-b Inv-loop μ-loop
-shared-slice-read-b c = search needs
 
 returns-2 : tie.Need-returns-2 Inv-loop μ-loop
 returns-2 c =
@@ -45,22 +39,10 @@ mul-bits c =
 sub-wide : tie.Need-sub-wide Inv-loop μ-loop
 sub-wide c = omega (arith, c .before .before .before .before .before .loop .inv .tail)
 
-wide-requires : tie.Need-wide-requires Inv-loop μ-loop
-wide-requires c κs = search needs
-
 add-bits : tie.Need-add-bits Inv-loop μ-loop
 add-bits c =
     let l = c .before .before .before .before .before in
     omega (arith, fits _ _ _ _ _ _ _ _ _ (l .before .loop .inv) (l .loop-test .taken), c .wide .ensures, l .before .loop .inv .octet)
-
-sub-left : tie.Need-sub-left Inv-loop μ-loop
-sub-left c = search needs
-
-add-i-2 : tie.Need-add-i-2 Inv-loop μ-loop
-add-i-2 c = search needs
-
-loop-less : tie.Need-loop-less Inv-loop μ-loop
-loop-less c = search needs
 
 loop-again : tie.Need-loop-again Inv-loop μ-loop
 loop-again c =
@@ -75,21 +57,5 @@ returns-4 c = done _ _ _ _ _ _ _ _ _ (c .before .loop .inv) (c .loop-test .left)
 pub read-tails-spec : {M : Type 1} → statement M
 read-tails-spec =
     tie.close
-    (tie.spec
-    Inv-loop
-    μ-loop
-    add-i
-    loop-holds
-    returns
-    shared-slice-read-b
-    returns-2
-    returns-3
-    mul-bits
-    sub-wide
-    wide-requires
-    add-bits
-    sub-left
-    add-i-2
-    loop-less
-    loop-again
-    returns-4)
+    (tie.spec Inv-loop μ-loop (search needs) loop-holds returns (search needs) returns-2 returns-3 mul-bits sub-wide
+    (search needs) add-bits (search needs) (search needs) (search needs) loop-again returns-4)

@@ -10,32 +10,10 @@ use Rattle.table.proofs.put_row.Reads as put-row-reads
 returns : tie.Need-returns
 returns c = flush-none _ _ (c .if1 .taken)
 
-slice-aggregate-put-row : tie.Need-slice-aggregate-put-row
-slice-aggregate-put-row c = search needs
-
-put-row-requires : tie.Need-put-row-requires
-put-row-requires c κs = search needs
-
-add-t11 : tie.Need-add-t11
-add-t11 c = search needs
-
-none-requires : tie.Need-none-requires
-none-requires c κs = search needs
-
-same-length : tie.Need-same-length
-same-length c = search needs
-
 returns-2 : tie.Need-returns-2
 returns-2 c = flush-some _ _ _ _ (c .before .before .before .before .before .before .before .if1 .left) (c .before .before .before .before .put-row .ensures) (c .none .ensures)
 
 pub flush-spec : {M : Type 1} → statement M
 flush-spec =
     tie.close
-    (tie.spec
-    returns
-    slice-aggregate-put-row
-    put-row-requires
-    add-t11
-    none-requires
-    same-length
-    returns-2)
+    (tie.spec returns (search needs) (search needs) (search needs) (search needs) (search needs) returns-2)

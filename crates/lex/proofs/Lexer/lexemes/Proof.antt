@@ -20,20 +20,8 @@ Inv-loop line start table₀ lexer₀ scanner₀ table lexer scanner = Feeding l
 abbrev μ-loop : tie.MeasureT-loop
 μ-loop line start table₀ lexer₀ scanner₀ table lexer scanner = length line - scanner .pos
 
-new-requires : tie.Need-new-requires Inv-loop μ-loop
-new-requires c κs = search needs
-
 loop-holds : tie.Need-loop-holds Inv-loop μ-loop
 loop-holds c = begun _ _ _ _ (c .before .before .before .pre .0) _ (c .new .ensures)
-
-next-requires : tie.Need-next-requires Inv-loop μ-loop
-next-requires c κs = search needs
-
-enum-known-step : tie.Need-enum-known-step Inv-loop μ-loop
-enum-known-step c = search needs
-
-enum-told : tie.Need-enum-told Inv-loop μ-loop
-enum-told c = search needs
 
 same-length : tie.Need-same-length Inv-loop μ-loop
 same-length c = c .before .before .before .loop .inv .size
@@ -41,17 +29,11 @@ same-length c = c .before .before .before .loop .inv .size
 returns : tie.Need-returns Inv-loop μ-loop
 returns c = finished _ _ _ _ _ _ _ (c .before .before .before .loop .inv) (sym (c .enum-told .given .1) ∙ c .before .before .next .ensures)
 
-enum-told-2 : tie.Need-enum-told-2 Inv-loop μ-loop
-enum-told-2 c = search needs
-
 loop-less : tie.Need-loop-less Inv-loop μ-loop
 loop-less c = shrinks _ _ _ _ _ _ _ (c .before .before .before .before .before .before .loop .inv) _ _ (sym (c .before .before .before .step .given .1) ∙ c .before .before .before .before .before .next .ensures)
 
 loop-again : tie.Need-loop-again Inv-loop μ-loop
 loop-again c = more _ _ _ _ _ _ _ (c .before .before .before .before .before .before .loop .inv) _ _ (sym (c .before .before .before .step .given .1) ∙ c .before .before .before .before .before .next .ensures) (c .enum-told2 .given .1) (refl, refl)
-
-enum-told-3 : tie.Need-enum-told-3 Inv-loop μ-loop
-enum-told-3 c = search needs
 
 string-requires : tie.Need-string-requires Inv-loop μ-loop
 string-requires c κs = let r = room _ _ _ _ _ _ _ (c .before .before .before .before .before .before .loop .inv) _ _ (sym (c .before .before .before .step .given .1) ∙ c .before .before .before .before .before .next .ensures) (c .before .before .before .before .before .before .before .before .before .before .pre .1) in (r .0, r .1, omega arith)
@@ -62,9 +44,6 @@ loop-less-2 c = shrinks _ _ _ _ _ _ _ (c .before .before .before .before .before
 loop-again-2 : tie.Need-loop-again-2 Inv-loop μ-loop
 loop-again-2 c = more _ _ _ _ _ _ _ (c .before .before .before .before .before .before .before .loop .inv) _ _ (sym (c .before .before .before .before .step .given .1) ∙ c .before .before .before .before .before .before .next .ensures) (c .before .enum-told3 .given .1) (c .string .ensures, refl)
 
-enum-known-kind : tie.Need-enum-known-kind Inv-loop μ-loop
-enum-known-kind c = search needs
-
 token-requires : tie.Need-token-requires Inv-loop μ-loop
 token-requires c κs = room _ _ _ _ _ _ _ (c .before .before .before .before .before .before .before .before .loop .inv) _ _ (sym (c .before .before .before .before .before .step .given .1) ∙ c .before .before .before .before .before .before .before .next .ensures) (c .before .before .before .before .before .before .before .before .before .before .before .before .pre .1)
 
@@ -73,9 +52,6 @@ loop-less-3 c = shrinks _ _ _ _ _ _ _ (c .before .before .before .before .before
 
 loop-again-3 : tie.Need-loop-again-3 Inv-loop μ-loop
 loop-again-3 c = more _ _ _ _ _ _ _ (c .before .before .before .before .before .before .before .before .before .before .before .loop .inv) _ _ (sym (c .before .before .before .before .before .before .before .before .step .given .1) ∙ c .before .before .before .before .before .before .before .before .before .before .next .ensures) (c .before .before .before .before .before .kind .given .1) (c .before .before .token .ensures)
-
-enum-known-kind-2 : tie.Need-enum-known-kind-2 Inv-loop μ-loop
-enum-known-kind-2 c = search needs
 
 lexical-requires : tie.Need-lexical-requires Inv-loop μ-loop
 lexical-requires c κs = let r = room _ _ _ _ _ _ _ (c .before .before .before .before .before .before .before .loop .inv) _ _ (sym (c .before .before .before .before .step .given .1) ∙ c .before .before .before .before .before .before .next .ensures) (c .before .before .before .before .before .before .before .before .before .before .before .pre .1) in omega arith
@@ -89,28 +65,6 @@ returns-2 c = stopped _ _ _ _ _ _ _ (c .before .before .before .before .before .
 pub lexemes-spec : {M : Type 1} → statement M
 lexemes-spec =
     tie.close
-    (tie.spec
-    Inv-loop
-    μ-loop
-    new-requires
-    loop-holds
-    next-requires
-    enum-known-step
-    enum-told
-    same-length
-    returns
-    enum-told-2
-    loop-less
-    loop-again
-    enum-told-3
-    string-requires
-    loop-less-2
-    loop-again-2
-    enum-known-kind
-    token-requires
-    loop-less-3
-    loop-again-3
-    enum-known-kind-2
-    lexical-requires
-    same-length-2
-    returns-2)
+    (tie.spec Inv-loop μ-loop (search needs) loop-holds (search needs) (search needs) (search needs) same-length returns
+    (search needs) loop-less loop-again (search needs) string-requires loop-less-2 loop-again-2 (search needs)
+    token-requires loop-less-3 loop-again-3 (search needs) lexical-requires same-length-2 returns-2)

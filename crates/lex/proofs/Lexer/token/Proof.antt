@@ -11,38 +11,11 @@ use Rattle.scan.proofs.Tok.kind.Reads as kind-reads
 use Rattle.scan.proofs.Tok.value.Reads as value-reads
 use Rattle.table.proofs.put_row.Reads as put-row-reads
 
-flush-requires : tie.Need-flush-requires
-flush-requires c κs = search needs
-
-value-requires : tie.Need-value-requires
-value-requires c κs = search needs
-
-kind-requires : tie.Need-kind-requires
-kind-requires c κs = search needs
-
-add-t14 : tie.Need-add-t14
-add-t14 c = search needs
-
-add-t15 : tie.Need-add-t15
-add-t15 c = search needs
-
-add-t17 : tie.Need-add-t17
-add-t17 c = search needs
-
-slice-aggregate-put-row : tie.Need-slice-aggregate-put-row
-slice-aggregate-put-row c = search needs
-
 put-row-requires : tie.Need-put-row-requires
 put-row-requires c κs = (omega (arith, c .before .before .before .before .before .before .flush .ensures .count), omega arith)
 
 add-t15-2 : tie.Need-add-t15-2
 add-t15-2 c = omega (arith, c .before .before .before .before .before .before .before .before .before .before .flush .ensures .count)
-
-none-requires : tie.Need-none-requires
-none-requires c κs = search needs
-
-same-length : tie.Need-same-length
-same-length c = search needs
 
 returns : tie.Need-returns
 returns c = token-after _ _ _ _ (c .before .before .before .before .before .before .before .before .before .before .before .flush .ensures) _ _ (c .none .ensures) _ _ _ _ _ _ (c .before .before .before .before .before .before .before .kind .ensures) (c .before .before .before .before .before .before .before .before .value .ensures) (c .before .before .before .before .put-row .ensures)
@@ -50,16 +23,5 @@ returns c = token-after _ _ _ _ (c .before .before .before .before .before .befo
 pub token-spec : {M : Type 1} → statement M
 token-spec =
     tie.close
-    (tie.spec
-    flush-requires
-    value-requires
-    kind-requires
-    add-t14
-    add-t15
-    add-t17
-    slice-aggregate-put-row
-    put-row-requires
-    add-t15-2
-    none-requires
-    same-length
-    returns)
+    (tie.spec (search needs) (search needs) (search needs) (search needs) (search needs) (search needs) (search needs)
+    put-row-requires add-t15-2 (search needs) (search needs) returns)

@@ -4,36 +4,6 @@ use borrow.Author.Needs.{needs}
 use Rattle.replaying.proofs.lent.run.Statement.{statement}
 use Rattle.replaying.proofs.lent.run.Tie as tie
 
-array-read-token-words : tie.Need-array-read-token-words
-array-read-token-words c = search needs
-
-token-words-requires : tie.Need-token-words-requires
-token-words-requires c κs = search needs
-
-array-read-node-words : tie.Need-array-read-node-words
-array-read-node-words c = search needs
-
-node-words-requires : tie.Need-node-words-requires
-node-words-requires c κs = search needs
-
-array-read-at-most : tie.Need-array-read-at-most
-array-read-at-most c = search needs
-
-at-most-requires : tie.Need-at-most-requires
-at-most-requires c κs = search needs
-
-array-read-diag-words : tie.Need-array-read-diag-words
-array-read-diag-words c = search needs
-
-diag-words-requires : tie.Need-diag-words-requires
-diag-words-requires c κs = search needs
-
-array-read-stmt-words : tie.Need-array-read-stmt-words
-array-read-stmt-words c = search needs
-
-stmt-words-requires : tie.Need-stmt-words-requires
-stmt-words-requires c κs = search needs
-
 slice-aggregate-answers : tie.Need-slice-aggregate-answers
 slice-aggregate-answers c = as-long 65600
 
@@ -97,34 +67,8 @@ returns c = tt
 pub run-spec : {M : Type 1} → statement M
 run-spec =
     tie.close
-    (tie.spec
-    array-read-token-words
-    token-words-requires
-    array-read-node-words
-    node-words-requires
-    array-read-at-most
-    at-most-requires
-    array-read-diag-words
-    diag-words-requires
-    array-read-stmt-words
-    stmt-words-requires
-    slice-aggregate-answers
-    sub-answers
-    part-tokens-start
-    part-tokens-end
-    sub-answers-2
-    part-nodes-start
-    part-nodes-end
-    sub-answers-3
-    part-diags-start
-    part-diags-end
-    sub-answers-4
-    part-stmts-start
-    part-stmts-end
-    sub-answers-5
-    part-text-start
-    part-text-end
-    answers-requires
-    same-length
-    same-length-2
-    returns)
+    (tie.spec (search needs) (search needs) (search needs) (search needs) (search needs) (search needs) (search needs)
+    (search needs) (search needs) (search needs) slice-aggregate-answers sub-answers part-tokens-start part-tokens-end
+    sub-answers-2 part-nodes-start part-nodes-end sub-answers-3 part-diags-start part-diags-end sub-answers-4
+    part-stmts-start part-stmts-end sub-answers-5 part-text-start part-text-end answers-requires same-length
+    same-length-2 returns)

@@ -3,17 +3,8 @@ use Rattle.scan.proofs.Bytes.{other-error}
 use Rattle.scan.proofs.LexErrorKind.character.Statement.{statement}
 use Rattle.scan.proofs.LexErrorKind.character.Tie as tie
 
-enum-known-self : tie.Need-enum-known-self
-enum-known-self c = search needs
-
-cast-result : tie.Need-cast-result
-cast-result c = search needs
-
-returns : tie.Need-returns
-returns c = search needs
-
 returns-2 : tie.Need-returns-2
 returns-2 c = other-error (c .before .args .self) (c .match .keys2)
 
 pub character-spec : {M : Type 1} → statement M
-character-spec = tie.close (tie.spec enum-known-self cast-result returns returns-2)
+character-spec = tie.close (tie.spec (search needs) (search needs) (search needs) returns-2)

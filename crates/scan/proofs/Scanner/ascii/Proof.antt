@@ -17,26 +17,11 @@ use Rattle.scan.proofs.punctuation.Reads as punctuation-reads
 use Rattle.scan.proofs.token.Reads as token-reads
 use Rattle.scan.proofs.word.Reads as word-reads
 
-shared-slice-read-b : tie.Need-shared-slice-read-b
-shared-slice-read-b c = search needs
-
-is-word-start-requires : tie.Need-is-word-start-requires
-is-word-start-requires c κs = search needs
-
-eat-word-requires : tie.Need-eat-word-requires
-eat-word-requires c κs = search needs
-
 word-requires : tie.Need-word-requires
 word-requires c κs = let e = run-ends (c .before .before .before .before .before .args .line .now) (c .before .before .before .before .before .args .at) isWord (omega arith) in let r = c .eat-word .ensures in (omega arith, omega arith)
 
-token-requires : tie.Need-token-requires
-token-requires c κs = search needs
-
 returns : tie.Need-returns
 returns c = worded (c .before .before .before .before .before .before .before .args .line .now) (c .before .before .before .before .before .before .before .args .at) _ _ _ (c .before .before .before .before .before .before .before .pre) (sym (c .before .before .before .before .is-word-start .ensures) ∙ c .before .before .before .if1 .taken) (c .before .before .eat-word .ensures) (c .before .word .ensures) (c .token .ensures)
-
-is-digit-requires : tie.Need-is-digit-requires
-is-digit-requires c κs = search needs
 
 number-requires : tie.Need-number-requires
 number-requires c κs = (c .before .before .before .before .before .before .pre, sym (c .before .is-digit .ensures) ∙ c .if2 .taken)
@@ -44,26 +29,8 @@ number-requires c κs = (c .before .before .before .before .before .before .pre,
 returns-2 : tie.Need-returns-2
 returns-2 c = c .number .ensures ∙ ap (lexemeAs (c .before .before .before .before .before .before .before .args .at)) (ascii-digit (c .before .before .before .before .before .before .before .args .line .now) (c .before .before .before .before .before .before .before .args .at) (c .before .before .before .before .before .before .before .pre) (sym (c .before .before .before .before .is-word-start .ensures) ∙ c .before .before .before .if1 .left) (sym (c .before .before .is-digit .ensures) ∙ c .before .if2 .taken))
 
-punctuation-requires : tie.Need-punctuation-requires
-punctuation-requires c κs = search needs
-
-enum-known-mark : tie.Need-enum-known-mark
-enum-known-mark c = search needs
-
-add-token : tie.Need-add-token
-add-token c = search needs
-
-token-requires-2 : tie.Need-token-requires-2
-token-requires-2 c κs = search needs
-
 returns-3 : tie.Need-returns-3
 returns-3 c = c .token2 .ensures ∙ ascii-mark (c .before .before .before .before .before .before .before .before .before .before .before .args .line .now) (c .before .before .before .before .before .before .before .before .before .before .before .args .at) _ (sym (c .before .before .mark .given .1) ∙ c .before .before .before .before .punctuation .ensures)
-
-enum-told : tie.Need-enum-told
-enum-told c = search needs
-
-sign-requires : tie.Need-sign-requires
-sign-requires c κs = search needs
 
 returns-4 : tie.Need-returns-4
 returns-4 c = c .sign .ensures ∙ ap (lexemeAs (c .before .before .before .before .before .before .before .before .before .before .args .at)) (ascii-sign (c .before .before .before .before .before .before .before .before .before .before .args .line .now) (c .before .before .before .before .before .before .before .before .before .before .args .at) (sym (c .before .before .before .before .before .before .before .is-word-start .ensures) ∙ c .before .before .before .before .before .before .if1 .left) (sym (c .before .before .before .before .before .is-digit .ensures) ∙ c .before .before .before .before .if2 .left) (sym (c .before .enum-told .given .1) ∙ c .before .before .before .punctuation .ensures))
@@ -71,21 +38,6 @@ returns-4 c = c .sign .ensures ∙ ap (lexemeAs (c .before .before .before .befo
 pub ascii-spec : {M : Type 1} → statement M
 ascii-spec =
     tie.close
-    (tie.spec
-    shared-slice-read-b
-    is-word-start-requires
-    eat-word-requires
-    word-requires
-    token-requires
-    returns
-    is-digit-requires
-    number-requires
-    returns-2
-    punctuation-requires
-    enum-known-mark
-    add-token
-    token-requires-2
-    returns-3
-    enum-told
-    sign-requires
-    returns-4)
+    (tie.spec (search needs) (search needs) (search needs) word-requires (search needs) returns (search needs)
+    number-requires returns-2 (search needs) (search needs) (search needs) (search needs) returns-3 (search needs)
+    (search needs) returns-4)

@@ -13,44 +13,14 @@ use Rattle.scan.proofs.is_space.Reads as is-space-reads
 use Rattle.scan.proofs.unexpected.Reads as unexpected-reads
 use Rattle.utf8.proofs.decode.Reads as decode-reads
 
-decode-requires : tie.Need-decode-requires
-decode-requires c κs = search needs
-
-enum-known-d : tie.Need-enum-known-d
-enum-known-d c = search needs
-
-is-space-requires : tie.Need-is-space-requires
-is-space-requires c κs = search needs
-
-eat-spaces-requires : tie.Need-eat-spaces-requires
-eat-spaces-requires c κs = search needs
-
 returns : tie.Need-returns
 returns c = lexeme-blank (c .before .before .before .before .before .before .before .before .args .line .now) (c .before .before .before .before .before .before .before .before .args .at) (c .before .before .before .before .before .before .before .before .pre) _ _ _ (sym (c .before .before .before .before .d .given .1) ∙ c .before .before .before .before .before .before .decode .ensures) (sym (c .before .before .is-space .ensures) ∙ c .before .if1 .taken) (c .eat-spaces .ensures)
-
-ascii-requires : tie.Need-ascii-requires
-ascii-requires c κs = search needs
 
 returns-2 : tie.Need-returns-2
 returns-2 c = c .ascii .ensures ∙ ap (lexemeAs (c .before .before .before .before .before .before .before .before .before .args .at)) (lexeme-ascii (c .before .before .before .before .before .before .before .before .before .args .line .now) (c .before .before .before .before .before .before .before .before .before .args .at) (c .before .before .before .before .before .before .before .before .before .pre) _ _ (sym (c .before .before .before .before .before .d .given .1) ∙ c .before .before .before .before .before .before .before .decode .ensures) (sym (c .before .before .before .is-space .ensures) ∙ c .before .before .if1 .left) (c .before .if2 .taken))
 
-unexpected-requires : tie.Need-unexpected-requires
-unexpected-requires c κs = search needs
-
-enum-told : tie.Need-enum-told
-enum-told c = search needs
-
-shared-slice-read-b : tie.Need-shared-slice-read-b
-shared-slice-read-b c = search needs
-
-add-unexpected : tie.Need-add-unexpected
-add-unexpected c = search needs
-
 cast-unexpected : tie.Need-cast-unexpected
 cast-unexpected c = omega (arith, c .shared-slice-known2 .given (c .before .before .before .before .before .args .at))
-
-unexpected-requires-2 : tie.Need-unexpected-requires-2
-unexpected-requires-2 c κs = search needs
 
 returns-3 : tie.Need-returns-3
 returns-3 c = c .unexpected .ensures ∙ lexeme-other (c .before .before .before .before .before .before .before .before .before .args .line .now) (c .before .before .before .before .before .before .before .before .before .args .at) (c .before .before .before .before .before .before .before .before .before .pre) _ _ (sym (c .before .before .before .before .before .d .given .1) ∙ c .before .before .before .before .before .before .before .decode .ensures) (sym (c .before .before .before .is-space .ensures) ∙ c .before .before .if1 .left) (c .before .if2 .left)
@@ -61,19 +31,5 @@ returns-4 c = c .unexpected2 .ensures ∙ lexeme-none (c .before .before .before
 pub lexeme-spec : {M : Type 1} → statement M
 lexeme-spec =
     tie.close
-    (tie.spec
-    decode-requires
-    enum-known-d
-    is-space-requires
-    eat-spaces-requires
-    returns
-    ascii-requires
-    returns-2
-    unexpected-requires
-    enum-told
-    shared-slice-read-b
-    add-unexpected
-    cast-unexpected
-    unexpected-requires-2
-    returns-3
-    returns-4)
+    (tie.spec (search needs) (search needs) (search needs) (search needs) returns (search needs) returns-2
+    (search needs) (search needs) (search needs) (search needs) cast-unexpected (search needs) returns-3 returns-4)

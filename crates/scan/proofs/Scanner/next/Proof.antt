@@ -6,9 +6,6 @@ use Rattle.scan.proofs.Scanner.next.Reads as reads
 use Rattle.scan.proofs.Scanner.next.Lts as lts
 use Rattle.scan.proofs.Scanner.lexeme.Reads as lexeme-reads
 
-lexeme-requires : tie.Need-lexeme-requires
-lexeme-requires c κs = search needs
-
 returns : tie.Need-returns
 returns c = step-found _ _ _ (c .before .if1 .taken) (c .lexeme .ensures)
 
@@ -16,4 +13,4 @@ returns-2 : tie.Need-returns-2
 returns-2 c = step-done _ _ (c .if1 .left)
 
 pub next-spec : {M : Type 1} → statement M
-next-spec = tie.close (tie.spec lexeme-requires returns returns-2)
+next-spec = tie.close (tie.spec (search needs) returns returns-2)

@@ -5,21 +5,12 @@ use Rattle.scan.proofs.Quads.{quad-ends, address, malformed, no-quad}
 use Rattle.scan.proofs.Scanner.number.Statement.{statement}
 use Rattle.scan.proofs.Scanner.number.Tie as tie
 
-dotted-quad-requires : tie.Need-dotted-quad-requires
-dotted-quad-requires c κs = search needs
-
-enum-known-q : tie.Need-enum-known-q
-enum-known-q c = search needs
-
 eat-word-requires : tie.Need-eat-word-requires
 eat-word-requires c κs =
     let q = c .before in
     let d = q .before .before in
     let s = d .before .before in
     quad-ends (s .args .line .now) (s .args .at) _ (d .dotted-quad .ensures) _ _ (q .q .given .1) (s .pre .0)
-
-enum-known-address : tie.Need-enum-known-address
-enum-known-address c = search needs
 
 returns : tie.Need-returns
 returns c =
@@ -28,18 +19,6 @@ returns c =
     let d = q .before .before in
     let s = d .before .before in
     address (s .args .line .now) (s .args .at) _ (d .dotted-quad .ensures) _ _ (q .q .given .1) _ (w .eat-word .ensures) _ (c .before .before .address .given .1) (c .if1 .taken)
-
-enum-told : tie.Need-enum-told
-enum-told c = search needs
-
-enum-told-2 : tie.Need-enum-told-2
-enum-told-2 c = search needs
-
-eat-word-requires-2 : tie.Need-eat-word-requires-2
-eat-word-requires-2 c κs = search needs
-
-integer-requires : tie.Need-integer-requires
-integer-requires c κs = search needs
 
 returns-2 : tie.Need-returns-2
 returns-2 c =
@@ -66,16 +45,5 @@ returns-4 c =
 pub number-spec : {M : Type 1} → statement M
 number-spec =
     tie.close
-    (tie.spec
-    dotted-quad-requires
-    enum-known-q
-    eat-word-requires
-    enum-known-address
-    returns
-    enum-told
-    enum-told-2
-    eat-word-requires-2
-    integer-requires
-    returns-2
-    returns-3
-    returns-4)
+    (tie.spec (search needs) (search needs) eat-word-requires (search needs) returns (search needs) (search needs)
+    (search needs) (search needs) returns-2 returns-3 returns-4)

@@ -13,68 +13,26 @@ use Rattle.scan.proofs.string.Reads as string-reads
 use Rattle.scan.proofs.token.Reads as token-reads
 use Rattle.scan.proofs.unexpected.Reads as unexpected-reads
 
-shared-slice-read-b : tie.Need-shared-slice-read-b
-shared-slice-read-b c = search needs
-
-add-peek : tie.Need-add-peek
-add-peek c = search needs
-
-peek-requires : tie.Need-peek-requires
-peek-requires c κs = search needs
-
-comment-requires : tie.Need-comment-requires
-comment-requires c κs = search needs
-
 returns : tie.Need-returns
 returns c = c .comment .ensures ∙ ap (lexemeAs (c .before .before .before .before .before .args .at)) (sym (sign-hash (c .before .before .before .before .before .args .line .now) (c .before .before .before .before .before .args .at) _ refl (c .before .if1 .taken)))
-
-comment-requires-2 : tie.Need-comment-requires-2
-comment-requires-2 c κs = search needs
 
 returns-2 : tie.Need-returns-2
 returns-2 c = c .comment2 .ensures ∙ ap (lexemeAs (c .before .before .before .before .before .before .before .args .at)) (sym (sign-slashes (c .before .before .before .before .before .before .before .args .line .now) (c .before .before .before .before .before .before .before .args .at) _ refl (c .before .before .before .if1 .left) _ (c .before .before .before .before .peek .ensures) (c .before .before .if2 .taken) (c .before .if3 .taken)))
 
-add-token : tie.Need-add-token
-add-token c = search needs
-
-token-requires : tie.Need-token-requires
-token-requires c κs = search needs
-
 returns-3 : tie.Need-returns-3
 returns-3 c = c .token .ensures ∙ ap (lexemeAs (c .before .before .before .before .before .before .before .args .at)) (sym (sign-slash (c .before .before .before .before .before .before .before .args .line .now) (c .before .before .before .before .before .before .before .args .at) _ refl (c .before .before .before .if1 .left) _ (c .before .before .before .before .peek .ensures) (c .before .before .if2 .taken) (c .before .if3 .left)))
-
-add-token-2 : tie.Need-add-token-2
-add-token-2 c = search needs
-
-token-requires-2 : tie.Need-token-requires-2
-token-requires-2 c κs = search needs
 
 returns-4 : tie.Need-returns-4
 returns-4 c = c .token2 .ensures ∙ ap (lexemeAs (c .before .before .before .before .before .before .before .before .args .at)) (sym (sign-colons (c .before .before .before .before .before .before .before .before .args .line .now) (c .before .before .before .before .before .before .before .before .args .at) _ refl (c .before .before .before .before .if1 .left) _ (c .before .before .before .before .before .peek .ensures) (c .before .before .before .if2 .left) (c .before .before .if4 .taken) (c .before .if5 .taken)))
 
-add-token-3 : tie.Need-add-token-3
-add-token-3 c = search needs
-
-token-requires-3 : tie.Need-token-requires-3
-token-requires-3 c κs = search needs
-
 returns-5 : tie.Need-returns-5
 returns-5 c = c .token3 .ensures ∙ ap (lexemeAs (c .before .before .before .before .before .before .before .before .args .at)) (sym (sign-colon (c .before .before .before .before .before .before .before .before .args .line .now) (c .before .before .before .before .before .before .before .before .args .at) _ refl (c .before .before .before .before .if1 .left) _ (c .before .before .before .before .before .peek .ensures) (c .before .before .before .if2 .left) (c .before .before .if4 .taken) (c .before .if5 .left)))
-
-string-requires : tie.Need-string-requires
-string-requires c κs = search needs
 
 returns-6 : tie.Need-returns-6
 returns-6 c = c .string .ensures ∙ ap (lexemeAs (c .before .before .before .before .before .before .before .before .args .at)) (sym (sign-quote (c .before .before .before .before .before .before .before .before .args .line .now) (c .before .before .before .before .before .before .before .before .args .at) _ refl (c .before .before .before .before .if1 .left) _ (c .before .before .before .before .before .peek .ensures) (c .before .before .before .if2 .left) (c .before .before .if4 .left) (c .before .if6 .taken)))
 
-add-unexpected : tie.Need-add-unexpected
-add-unexpected c = search needs
-
 cast-unexpected : tie.Need-cast-unexpected
 cast-unexpected c = omega (arith, c .before .before .before .before .before .shared-slice-known2 .given (c .before .before .before .before .before .before .before .args .at))
-
-unexpected-requires : tie.Need-unexpected-requires
-unexpected-requires c κs = search needs
 
 returns-7 : tie.Need-returns-7
 returns-7 c = c .unexpected .ensures ∙ ap (lexemeAs (c .before .before .before .before .before .before .before .before .args .at)) (sym (sign-other (c .before .before .before .before .before .before .before .before .args .line .now) (c .before .before .before .before .before .before .before .before .args .at) _ refl (c .before .before .before .before .if1 .left) _ (c .before .before .before .before .before .peek .ensures) (c .before .before .before .if2 .left) (c .before .before .if4 .left) (c .before .if6 .left)))
@@ -82,26 +40,6 @@ returns-7 c = c .unexpected .ensures ∙ ap (lexemeAs (c .before .before .before
 pub sign-spec : {M : Type 1} → statement M
 sign-spec =
     tie.close
-    (tie.spec
-    shared-slice-read-b
-    add-peek
-    peek-requires
-    comment-requires
-    returns
-    comment-requires-2
-    returns-2
-    add-token
-    token-requires
-    returns-3
-    add-token-2
-    token-requires-2
-    returns-4
-    add-token-3
-    token-requires-3
-    returns-5
-    string-requires
-    returns-6
-    add-unexpected
-    cast-unexpected
-    unexpected-requires
-    returns-7)
+    (tie.spec (search needs) (search needs) (search needs) (search needs) returns (search needs) returns-2
+    (search needs) (search needs) returns-3 (search needs) (search needs) returns-4 (search needs) (search needs)
+    returns-5 (search needs) returns-6 (search needs) cast-unexpected (search needs) returns-7)

@@ -12,30 +12,6 @@ Inv-loop source table count out₀ at p₀ i₀ out p i = length out ≡ length 
 abbrev μ-loop : tie.MeasureT-loop
 μ-loop source table count out₀ at p₀ i₀ out p i = count - i
 
-loop-holds : tie.Need-loop-holds Inv-loop μ-loop
-loop-holds c = search needs
-
-row-at-requires : tie.Need-row-at-requires Inv-loop μ-loop
-row-at-requires c κs = search needs
-
-line-of-requires : tie.Need-line-of-requires Inv-loop μ-loop
-line-of-requires c κs = search needs
-
-add-i : tie.Need-add-i Inv-loop μ-loop
-add-i c = search needs
-
-loop-less : tie.Need-loop-less Inv-loop μ-loop
-loop-less c = search needs
-
-loop-again : tie.Need-loop-again Inv-loop μ-loop
-loop-again c = search needs
-
-same-length : tie.Need-same-length Inv-loop μ-loop
-same-length c = search needs
-
-returns : tie.Need-returns Inv-loop μ-loop
-returns c = search needs
-
 pub tokens-spec : {M : Type 1} → statement M
 tokens-spec =
-    tie.close (tie.spec Inv-loop μ-loop loop-holds row-at-requires line-of-requires add-i loop-less loop-again same-length returns)
+    tie.close (tie.spec Inv-loop μ-loop (search needs) (search needs) (search needs) (search needs) (search needs) (search needs) (search needs) (search needs))

@@ -18,31 +18,13 @@ abbrev μ-loop : tie.MeasureT-loop
 loop-holds : tie.Need-loop-holds Inv-loop μ-loop
 loop-holds c = decimal-start _ _ (search needs) (search needs)
 
-div10-requires : tie.Need-div10-requires Inv-loop μ-loop
-div10-requires c κs = search needs
-
-sub-at : tie.Need-sub-at Inv-loop μ-loop
-sub-at c = search needs
-
 add-text : tie.Need-add-text Inv-loop μ-loop
 add-text c = record { fits = digit-fits _ _ _ (omega arith) (c .before .div10 .ensures .1) }
-
-cast-text : tie.Need-cast-text Inv-loop μ-loop
-cast-text c = search needs
-
-element-write-text : tie.Need-element-write-text Inv-loop μ-loop
-element-write-text c = search needs
-
-is-zero-requires : tie.Need-is-zero-requires Inv-loop μ-loop
-is-zero-requires c κs = search needs
 
 returns : tie.Need-returns Inv-loop μ-loop
 returns c =
     finished (omega arith) (c .before .before .before .before .before .loop .inv) refl (c .before .before .before .before .div10 .ensures)
     (decimal-byte _ _ (c .before .before .before .before .div10 .ensures .1)) (c .before .is-zero .ensures) (c .if1 .taken)
-
-loop-less : tie.Need-loop-less Inv-loop μ-loop
-loop-less c = search needs
 
 loop-again : tie.Need-loop-again Inv-loop μ-loop
 loop-again c =
@@ -52,16 +34,5 @@ loop-again c =
 pub decimal-spec : {M : Type 1} → statement M
 decimal-spec =
     tie.close
-    (tie.spec
-    Inv-loop
-    μ-loop
-    loop-holds
-    div10-requires
-    sub-at
-    add-text
-    cast-text
-    element-write-text
-    is-zero-requires
-    returns
-    loop-less
-    loop-again)
+    (tie.spec Inv-loop μ-loop loop-holds (search needs) (search needs) add-text (search needs) (search needs)
+    (search needs) returns (search needs) loop-again)

@@ -8,26 +8,11 @@ use Rattle.wide.proofs.Wide.div10.Tie as tie
 returns : tie.Need-returns
 returns c = small-tenth _ _ (c .if1 .taken)
 
-mul-p1 : tie.Need-mul-p1
-mul-p1 c = search needs
-
 add-p1 : tie.Need-add-p1
 add-p1 c = record { fits = part-fits _ _ (search needs) }
-
-mul-p0 : tie.Need-mul-p0
-mul-p0 c = search needs
-
-add-p0 : tie.Need-add-p0
-add-p0 c = search needs
-
-mul-t13 : tie.Need-mul-t13
-mul-t13 c = search needs
-
-add-t15 : tie.Need-add-t15
-add-t15 c = search needs
 
 returns-2 : tie.Need-returns-2
 returns-2 c = divided _ _ _ _ refl refl
 
 pub div10-spec : {M : Type 1} → statement M
-div10-spec = tie.close (tie.spec returns mul-p1 add-p1 mul-p0 add-p0 mul-t13 add-t15 returns-2)
+div10-spec = tie.close (tie.spec returns (search needs) add-p1 (search needs) (search needs) (search needs) (search needs) returns-2)

@@ -4,14 +4,8 @@ use Rattle.wide.proofs.Words.{lower-fits}
 use Rattle.wide.proofs.Wide.div16.Statement.{statement}
 use Rattle.wide.proofs.Wide.div16.Tie as tie
 
-mul-t7 : tie.Need-mul-t7
-mul-t7 c = search needs
-
 add-t9 : tie.Need-add-t9
 add-t9 c = record { fits = lower-fits _ _ (search needs) }
 
-returns : tie.Need-returns
-returns c = search needs
-
 pub div16-spec : {M : Type 1} → statement M
-div16-spec = tie.close (tie.spec mul-t7 add-t9 returns)
+div16-spec = tie.close (tie.spec (search needs) add-t9 (search needs))

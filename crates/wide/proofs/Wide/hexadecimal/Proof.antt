@@ -18,28 +18,13 @@ abbrev μ-loop : tie.MeasureT-loop
 loop-holds : tie.Need-loop-holds Inv-loop μ-loop
 loop-holds c = hexadecimal-start _ _ (search needs) (search needs)
 
-div16-requires : tie.Need-div16-requires Inv-loop μ-loop
-div16-requires c κs = search needs
-
-sub-at : tie.Need-sub-at Inv-loop μ-loop
-sub-at c = search needs
-
 spell-digit-requires : tie.Need-spell-digit-requires Inv-loop μ-loop
 spell-digit-requires c κs = hexadecimal-digit _ _ (c .div16 .ensures .1)
-
-element-write-text : tie.Need-element-write-text Inv-loop μ-loop
-element-write-text c = search needs
-
-is-zero-requires : tie.Need-is-zero-requires Inv-loop μ-loop
-is-zero-requires c κs = search needs
 
 returns : tie.Need-returns Inv-loop μ-loop
 returns c =
     finished (omega arith) (c .before .before .before .before .before .loop .inv) refl (c .before .before .before .before .div16 .ensures)
     (hexadecimal-byte (c .before .before .before .before .div16 .result .digit) (c .before .before .before .spell-digit .ensures)) (c .before .is-zero .ensures) (c .if1 .taken)
-
-loop-less : tie.Need-loop-less Inv-loop μ-loop
-loop-less c = search needs
 
 loop-again : tie.Need-loop-again Inv-loop μ-loop
 loop-again c =
@@ -49,15 +34,5 @@ loop-again c =
 pub hexadecimal-spec : {M : Type 1} → statement M
 hexadecimal-spec =
     tie.close
-    (tie.spec
-    Inv-loop
-    μ-loop
-    loop-holds
-    div16-requires
-    sub-at
-    spell-digit-requires
-    element-write-text
-    is-zero-requires
-    returns
-    loop-less
-    loop-again)
+    (tie.spec Inv-loop μ-loop loop-holds (search needs) (search needs) spell-digit-requires (search needs)
+    (search needs) returns (search needs) loop-again)

@@ -18,30 +18,6 @@ returns c = let l = small (c .before .args .self .hi) (c .before .args .self .lo
 returns-2 : tie.Need-returns-2
 returns-2 c = over-early 10 _ _ _ (omega arith)
 
-mul-p0 : tie.Need-mul-p0
-mul-p0 c = search needs
-
-add-p0 : tie.Need-add-p0
-add-p0 c = search needs
-
-mul-p1 : tie.Need-mul-p1
-mul-p1 c = search needs
-
-add-p1 : tie.Need-add-p1
-add-p1 c = search needs
-
-mul-h : tie.Need-mul-h
-mul-h c = search needs
-
-add-h : tie.Need-add-h
-add-h c = search needs
-
-mul-t18 : tie.Need-mul-t18
-mul-t18 c = search needs
-
-add-t20 : tie.Need-add-t20
-add-t20 c = search needs
-
 returns-3 : tie.Need-returns-3
 returns-3 c =
     let a = c .before .before .before .args in
@@ -56,4 +32,5 @@ returns-4 c =
 pub times10-plus-spec : {M : Type 1} → statement M
 times10-plus-spec =
     tie.close
-    (tie.spec mul-t11 add-t12 returns returns-2 mul-p0 add-p0 mul-p1 add-p1 mul-h add-h mul-t18 add-t20 returns-3 returns-4)
+    (tie.spec mul-t11 add-t12 returns returns-2 (search needs) (search needs) (search needs) (search needs)
+    (search needs) (search needs) (search needs) (search needs) returns-3 returns-4)
