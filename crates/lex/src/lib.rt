@@ -214,7 +214,15 @@ impl Lexer {
         ensures { λ r. ⌜ Finishes self (now (table .entry)) size r (now (table .exit)) ⌝ }
     {
         let lexer = self.flush(table);
-        let row = [TokKind::EOF, lexer.lno + 1, 1, size as u64, size as u64, 0, 0];
+        let row = [
+            TokKind::EOF,
+            lexer.lno + 1,
+            1,
+            size as u64,
+            size as u64,
+            0,
+            0,
+        ];
         table::put_row(table, lexer.count, &row);
         Lexer {
             lno: lexer.lno,

@@ -128,13 +128,7 @@ fn push(
     requires { ⌜ count ≤ 4294967296 ⌝ }
     ensures { λ _. ⌜ Pushes (now (nodes .entry)) (now (nodes .exit)) count (node kind tok first second third) ⌝ }
 {
-    let row: [u64; NodeRow::WORDS] = [
-        kind,
-        tok as u64,
-        first as u64,
-        second as u64,
-        third as u64,
-    ];
+    let row: [u64; NodeRow::WORDS] = [kind, tok as u64, first as u64, second as u64, third as u64];
     table::put_row(nodes, count, &row);
 }
 

@@ -3,8 +3,8 @@
 use crate::leaf;
 use crate::node;
 use crate::node::Node;
-use rows::NodeKind;
 use printing::output;
+use rows::NodeKind;
 
 // The tree of a row, a blank before each expression and argument.
 fn show(

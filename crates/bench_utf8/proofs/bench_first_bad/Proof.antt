@@ -12,4 +12,4 @@ returns-2 c = none-bad _ (sym (c .enum-told .given .1) ∙ c .before .before .fi
 
 pub bench-first-bad-spec : {M : Type 1} → statement M
 bench-first-bad-spec =
-    tie.close (tie.spec (search needs) (search needs) (search needs) returns returns-2)
+    tie.close (tie.spec (λ c. search needs) (λ c. search needs) (λ c. search needs) returns returns-2)

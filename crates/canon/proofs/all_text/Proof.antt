@@ -41,6 +41,6 @@ returns-2 c = finished _ _ _ (c .before .before .before .before .before .pre) _ 
 pub all-text-spec : {M : Type 1} → statement M
 all-text-spec =
     tie.close
-    (tie.spec Inv-loop μ-loop loop-holds same-length returns (search needs) (search needs) token-text-requires
-    (search needs) shared-slice-read-separator (search needs) shared-slice-read-separator-2 (search needs)
-    (search needs) (search needs) loop-again same-length-2 returns-2)
+    (tie.spec Inv-loop μ-loop loop-holds same-length returns (λ c. search needs) (λ c. search needs) token-text-requires
+    (λ c. search needs) shared-slice-read-separator (λ c. search needs) shared-slice-read-separator-2
+    (λ c. search needs) (λ c. search needs) (λ c. search needs) loop-again same-length-2 returns-2)

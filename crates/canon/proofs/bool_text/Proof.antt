@@ -13,5 +13,5 @@ returns-2 c = (bytes-are _ (rw (ne-eqb _ _ (c .before .before .before .before .b
 pub bool-text-spec : {M : Type 1} → statement M
 bool-text-spec =
     tie.close
-    (tie.spec (search needs) (search needs) (search needs) returns (search needs) (search needs) (search needs)
-    returns-2)
+    (tie.spec (λ c. search needs) (λ c. search needs) (λ c. search needs) returns (λ c. search needs)
+    (λ c. search needs) (λ c. search needs) returns-2)

@@ -23,6 +23,6 @@ returns-4 c = accepted _ _ _ _ _ (c .before .before .before .before .before .bef
 pub canonicalise-spec : {M : Type 1} → statement M
 canonicalise-spec =
     tie.close
-    (tie.spec (search needs) (search needs) (search needs) (search needs) (search needs) returns all-text-requires
-    (search needs) (search needs) (search needs) returns-2 (search needs) (search needs) (search needs) returns-3
-    (search needs) (search needs) returns-4)
+    (tie.spec (λ c. search needs) (λ c. search needs) (λ c. search needs) (λ c. search needs) (λ c. search needs)
+    returns all-text-requires (λ c. search needs) (λ c. search needs) (λ c. search needs) returns-2 (λ c. search needs)
+    (λ c. search needs) (λ c. search needs) returns-3 (λ c. search needs) (λ c. search needs) returns-4)

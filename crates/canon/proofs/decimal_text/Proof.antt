@@ -16,4 +16,4 @@ returns c = (bytes-are _ ((decimal-buffer _ _ (search needs) (search needs) _ _ 
 
 pub decimal-text-spec : {M : Type 1} → statement M
 decimal-text-spec =
-    tie.close (tie.spec (search needs) slice-aggregate-copy copy-requires (search needs) returns)
+    tie.close (tie.spec (λ c. search needs) slice-aggregate-copy copy-requires (λ c. search needs) returns)

@@ -28,6 +28,7 @@ returns-5 c = (bytes-are _ (only-mark _ (c .before .before .before .before .befo
 pub fixed-text-spec : {M : Type 1} → statement M
 fixed-text-spec =
     tie.close
-    (tie.spec (search needs) (search needs) (search needs) (search needs) (search needs) (search needs) (search needs)
-    (search needs) (search needs) (search needs) returns (search needs) returns-2 (search needs) returns-3
-    (search needs) returns-4 (search needs) returns-5)
+    (tie.spec (λ c. search needs) (λ c. search needs) (λ c. search needs) (λ c. search needs) (λ c. search needs)
+    (λ c. search needs) (λ c. search needs) (λ c. search needs) (λ c. search needs) (λ c. search needs) returns
+    (λ c. search needs) returns-2 (λ c. search needs) returns-3 (λ c. search needs) returns-4 (λ c. search needs)
+    returns-5)

@@ -17,4 +17,5 @@ returns c = (c .before .before .before .before .before .before .before .before .
 pub hex-text-spec : {M : Type 1} → statement M
 hex-text-spec =
     tie.close
-    (tie.spec (search needs) (search needs) (search needs) slice-aggregate-copy copy-requires (search needs) returns)
+    (tie.spec (λ c. search needs) (λ c. search needs) (λ c. search needs) slice-aggregate-copy copy-requires
+    (λ c. search needs) returns)

@@ -39,5 +39,6 @@ loop-again-2 c = passed _ _ _ _ _ _ (c .before .before .before .before .before .
 pub literals-spec : {M : Type 1} → statement M
 literals-spec =
     tie.close
-    (tie.spec Inv-loop μ-loop (search needs) loop-holds (search needs) (search needs) (search needs) same-length returns
-    (search needs) (search needs) literal-text-requires loop-less loop-again loop-less-2 loop-again-2)
+    (tie.spec Inv-loop μ-loop (λ c. search needs) loop-holds (λ c. search needs) (λ c. search needs) (λ c. search needs)
+    same-length returns (λ c. search needs) (λ c. search needs) literal-text-requires loop-less loop-again loop-less-2
+    loop-again-2)

@@ -8,4 +8,4 @@ returns : tie.Need-returns
 returns c = (bytes-are _ (lower _) (c .before .before .decimal-text .ensures .0), c .before .before .decimal-text .ensures .1)
 
 pub octet-text-spec : {M : Type 1} → statement M
-octet-text-spec = tie.close (tie.spec (search needs) (search needs) returns)
+octet-text-spec = tie.close (tie.spec (λ c. search needs) (λ c. search needs) returns)

@@ -7,4 +7,4 @@ returns : tie.Need-returns
 returns c = (one _ _ _ _ (c .before .before .put-byte .ensures), search needs)
 
 pub put-spec : {M : Type 1} → statement M
-put-spec = tie.close (tie.spec (search needs) (search needs) (search needs) returns)
+put-spec = tie.close (tie.spec (λ c. search needs) (λ c. search needs) (λ c. search needs) returns)

@@ -9,5 +9,5 @@ returns c = (((c .before .before .before .before .before .before .before .before
 pub quad-text-spec : {M : Type 1} → statement M
 quad-text-spec =
     tie.close
-    (tie.spec (search needs) (search needs) (search needs) (search needs) (search needs) (search needs) (search needs)
-    (search needs) returns)
+    (tie.spec (λ c. search needs) (λ c. search needs) (λ c. search needs) (λ c. search needs) (λ c. search needs)
+    (λ c. search needs) (λ c. search needs) (λ c. search needs) returns)

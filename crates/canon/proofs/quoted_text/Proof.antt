@@ -8,4 +8,4 @@ returns c = (quotes (c .before .before .before .before .before .before .before .
 
 pub quoted-text-spec : {M : Type 1} → statement M
 quoted-text-spec =
-    tie.close (tie.spec (search needs) (search needs) (search needs) (search needs) returns)
+    tie.close (tie.spec (λ c. search needs) (λ c. search needs) (λ c. search needs) (λ c. search needs) returns)

@@ -16,4 +16,5 @@ returns-3 c = (bytes-are _ (a-space _ _ (c .before .before .before .before .befo
 pub separator-spec : {M : Type 1} → statement M
 separator-spec =
     tie.close
-    (tie.spec (search needs) (search needs) returns returns-2 (search needs) (search needs) returns-3)
+    (tie.spec (λ c. search needs) (λ c. search needs) returns returns-2 (λ c. search needs) (λ c. search needs)
+    returns-3)

@@ -9,4 +9,5 @@ returns c = (c .refused .ensures ∙ rw (c .before .new .ensures), (c .before .b
 pub too-long-spec : {M : Type 1} → statement M
 too-long-spec =
     tie.close
-    (tie.spec (search needs) (search needs) (search needs) (search needs) (search needs) (search needs) returns)
+    (tie.spec (λ c. search needs) (λ c. search needs) (λ c. search needs) (λ c. search needs) (λ c. search needs)
+    (λ c. search needs) returns)

@@ -16,4 +16,4 @@ returns c s l = at-place s _ _ (c .before .token-at .ensures s l) (c .new .ensur
 
 pub at-token-spec : {M : Type 1} → statement M
 at-token-spec =
-    tie.close (tie.spec (search needs) slice-aggregate-token-at token-at-requires (search needs) returns)
+    tie.close (tie.spec (λ c. search needs) slice-aggregate-token-at token-at-requires (λ c. search needs) returns)

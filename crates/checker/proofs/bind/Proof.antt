@@ -26,6 +26,6 @@ returns-3 c = binds-none (c .before .before .before .before .before .before .bef
 pub bind-spec : {M : Type 1} → statement M
 bind-spec =
     tie.close
-    (tie.spec (search needs) (search needs) (search needs) (search needs) (search needs) (search needs)
-    named-one-requires-2 (search needs) (search needs) (search needs) (search needs) returns (search needs)
-    (search needs) returns-2 (search needs) returns-3)
+    (tie.spec (λ c. search needs) (λ c. search needs) (λ c. search needs) (λ c. search needs) (λ c. search needs)
+    (λ c. search needs) named-one-requires-2 (λ c. search needs) (λ c. search needs) (λ c. search needs)
+    (λ c. search needs) returns (λ c. search needs) (λ c. search needs) returns-2 (λ c. search needs) returns-3)

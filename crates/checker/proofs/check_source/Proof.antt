@@ -39,5 +39,6 @@ returns-2 c =
 pub check-source-spec : {M : Type 1} → statement M
 check-source-spec =
     tie.close
-    (tie.spec (search needs) (search needs) (search needs) (search needs) (search needs) (search needs) (search needs)
-    (search needs) returns check-tree-requires (search needs) (search needs) same-length-7 same-length-8 returns-2)
+    (tie.spec (λ c. search needs) (λ c. search needs) (λ c. search needs) (λ c. search needs) (λ c. search needs)
+    (λ c. search needs) (λ c. search needs) (λ c. search needs) returns check-tree-requires (λ c. search needs)
+    (λ c. search needs) same-length-7 same-length-8 returns-2)

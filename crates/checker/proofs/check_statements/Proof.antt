@@ -58,6 +58,6 @@ pub check-statements-spec : {M : Type 1} → statement M
 check-statements-spec =
     tie.close
     (tie.spec mul-token-words mul-node-words slice-reshare-prefix-run slice-aggregate-run slice-reshare-prefix-run-2
-    slice-aggregate-run-2 run-requires (search needs) (search needs) (search needs) at-token-requires (search needs)
-    (search needs) (search needs) (search needs) (search needs) returns (search needs) (search needs) (search needs)
-    (search needs) returns-2)
+    slice-aggregate-run-2 run-requires (λ c. search needs) (λ c. search needs) (λ c. search needs) at-token-requires
+    (λ c. search needs) (λ c. search needs) (λ c. search needs) (λ c. search needs) (λ c. search needs) returns
+    (λ c. search needs) (λ c. search needs) (λ c. search needs) (λ c. search needs) returns-2)

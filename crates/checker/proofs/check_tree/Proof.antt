@@ -39,6 +39,7 @@ returns-2 c =
 pub check-tree-spec : {M : Type 1} → statement M
 check-tree-spec =
     tie.close
-    (tie.spec mul-node-words slice-reshare-prefix-first-call slice-aggregate-first-call (search needs) (search needs)
-    at-token-requires (search needs) (search needs) (search needs) (search needs) (search needs) (search needs)
-    (search needs) returns (search needs) (search needs) (search needs) (search needs) returns-2)
+    (tie.spec mul-node-words slice-reshare-prefix-first-call slice-aggregate-first-call (λ c. search needs)
+    (λ c. search needs) at-token-requires (λ c. search needs) (λ c. search needs) (λ c. search needs)
+    (λ c. search needs) (λ c. search needs) (λ c. search needs) (λ c. search needs) returns (λ c. search needs)
+    (λ c. search needs) (λ c. search needs) (λ c. search needs) returns-2)

@@ -6,4 +6,4 @@ returns : tie.Need-returns
 returns c = rw (c .new .ensures)
 
 pub done-spec : {M : Type 1} → statement M
-done-spec = tie.close (tie.spec (search needs) returns)
+done-spec = tie.close (tie.spec (λ c. search needs) returns)

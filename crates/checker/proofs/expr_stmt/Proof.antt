@@ -41,5 +41,6 @@ returns-3 c = λ n k e kn rep. expr-none (c .before .before .before .before .bef
 pub expr-stmt-spec : {M : Type 1} → statement M
 expr-stmt-spec =
     tie.close
-    (tie.spec word-requires judge-requires (search needs) word-requires-2 tell-requires (search needs) error-requires
-    (search needs) (search needs) (search needs) returns (search needs) returns-2 (search needs) returns-3)
+    (tie.spec word-requires judge-requires (λ c. search needs) word-requires-2 tell-requires (λ c. search needs)
+    error-requires (λ c. search needs) (λ c. search needs) (λ c. search needs) returns (λ c. search needs) returns-2
+    (λ c. search needs) returns-3)

@@ -34,5 +34,5 @@ returns c = all-read (c .before .loop .inv) (c .loop-test .left)
 pub first-call-spec : {M : Type 1} → statement M
 first-call-spec =
     tie.close
-    (tie.spec Inv-loop μ-loop loop-holds (search needs) word-requires word-requires-2 (search needs) (search needs)
-    loop-again (search needs) loop-again-2 returns)
+    (tie.spec Inv-loop μ-loop loop-holds (λ c. search needs) word-requires word-requires-2 (λ c. search needs)
+    (λ c. search needs) loop-again (λ c. search needs) loop-again-2 returns)

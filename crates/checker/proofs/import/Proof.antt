@@ -67,6 +67,7 @@ returns-4 c =
 pub import-spec : {M : Type 1} → statement M
 import-spec =
     tie.close
-    (tie.spec token-at-requires (search needs) (search needs) (search needs) warn-requires (search needs) (search needs)
-    returns (search needs) returns-2 (search needs) (search needs) (search needs) (search needs) (search needs)
-    (search needs) error-requires (search needs) (search needs) returns-3 (search needs) returns-4)
+    (tie.spec token-at-requires (λ c. search needs) (λ c. search needs) (λ c. search needs) warn-requires
+    (λ c. search needs) (λ c. search needs) returns (λ c. search needs) returns-2 (λ c. search needs)
+    (λ c. search needs) (λ c. search needs) (λ c. search needs) (λ c. search needs) (λ c. search needs) error-requires
+    (λ c. search needs) (λ c. search needs) returns-3 (λ c. search needs) returns-4)

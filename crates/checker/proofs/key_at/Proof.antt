@@ -12,4 +12,4 @@ returns : tie.Need-returns
 returns c = λ t e. c .key-of .ensures ∙ ap keyOf (c .before .name-at .ensures t e)
 
 pub key-at-spec : {M : Type 1} → statement M
-key-at-spec = tie.close (tie.spec (search needs) (search needs) returns)
+key-at-spec = tie.close (tie.spec (λ c. search needs) (λ c. search needs) returns)

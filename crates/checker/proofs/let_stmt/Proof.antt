@@ -77,7 +77,7 @@ returns-3 c =
 pub let-stmt-spec : {M : Type 1} → statement M
 let-stmt-spec =
     tie.close
-    (tie.spec (search needs) token-at-requires (search needs) (search needs) (search needs) (search needs)
-    (search needs) token-at-requires-2 (search needs) error-requires (search needs) (search needs) returns
-    (search needs) returns-2 (search needs) judge-requires (search needs) (search needs) bind-requires (search needs)
-    (search needs) returns-3)
+    (tie.spec (λ c. search needs) token-at-requires (λ c. search needs) (λ c. search needs) (λ c. search needs)
+    (λ c. search needs) (λ c. search needs) token-at-requires-2 (λ c. search needs) error-requires (λ c. search needs)
+    (λ c. search needs) returns (λ c. search needs) returns-2 (λ c. search needs) judge-requires (λ c. search needs)
+    (λ c. search needs) bind-requires (λ c. search needs) (λ c. search needs) returns-3)

@@ -19,4 +19,4 @@ returns : tie.Need-returns
 returns c = λ t e. c .lookup .ensures .0 ∙ ap (λ (w : List ℕ). orZero (lookup 0 w)) (c .before .name-at .ensures t e)
 
 pub module-at-spec : {M : Type 1} → statement M
-module-at-spec = tie.close (tie.spec (search needs) (search needs) lookup-requires returns)
+module-at-spec = tie.close (tie.spec (λ c. search needs) (λ c. search needs) lookup-requires returns)

@@ -27,5 +27,5 @@ returns-6 c = record { is = λ u e. narrow-large (c .before .before .before .if1
 pub narrow-spec : {M : Type 1} → statement M
 narrow-spec =
     tie.close
-    (tie.spec returns (search needs) (search needs) (search needs) (search needs) (search needs) (search needs)
-    returns-2 returns-3 returns-4 returns-5 returns-6)
+    (tie.spec returns (λ c. search needs) (λ c. search needs) (λ c. search needs) (λ c. search needs)
+    (λ c. search needs) (λ c. search needs) returns-2 returns-3 returns-4 returns-5 returns-6)

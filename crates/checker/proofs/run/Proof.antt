@@ -48,6 +48,6 @@ returns-2 c = finished (c .before .loop .inv) (c .loop-test .left)
 pub run-spec : {M : Type 1} → statement M
 run-spec =
     tie.close
-    (tie.spec Inv-loop μ-loop (search needs) (search needs) (search needs) loop-holds (search needs) (search needs)
-    stmt-requires (search needs) (search needs) same-length same-length-2 returns add-i loop-less loop-again
-    same-length-3 same-length-4 returns-2)
+    (tie.spec Inv-loop μ-loop (λ c. search needs) (λ c. search needs) (λ c. search needs) loop-holds (λ c. search needs)
+    (λ c. search needs) stmt-requires (λ c. search needs) (λ c. search needs) same-length same-length-2 returns add-i
+    loop-less loop-again same-length-3 same-length-4 returns-2)

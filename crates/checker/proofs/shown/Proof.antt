@@ -19,4 +19,4 @@ returns-4 : tie.Need-returns-4
 returns-4 c = record { is = λ u e. shown-other u e (c .match .rest .0 .0 .1) (c .match .rest .0 .1) (c .match .rest .1) }
 
 pub shown-spec : {M : Type 1} → statement M
-shown-spec = tie.close (tie.spec (search needs) returns returns-2 returns-3 returns-4)
+shown-spec = tie.close (tie.spec (λ c. search needs) returns returns-2 returns-3 returns-4)

@@ -13,4 +13,4 @@ returns-3 : tie.Need-returns-3
 returns-3 c = sooner-only (c .enum-told .given .1)
 
 pub sooner-spec : {M : Type 1} → statement M
-sooner-spec = tie.close (tie.spec (search needs) returns (search needs) returns-2 returns-3)
+sooner-spec = tie.close (tie.spec (λ c. search needs) returns (λ c. search needs) returns-2 returns-3)

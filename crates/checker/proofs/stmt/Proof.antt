@@ -66,6 +66,6 @@ returns-4 c =
 pub stmt-spec : {M : Type 1} → statement M
 stmt-spec =
     tie.close
-    (tie.spec (search needs) (search needs) import-requires let-stmt-requires expr-stmt-requires (search needs)
-    (search needs) returns (search needs) (search needs) (search needs) returns-2 (search needs) (search needs)
-    (search needs) (search needs) returns-3 returns-4)
+    (tie.spec (λ c. search needs) (λ c. search needs) import-requires let-stmt-requires expr-stmt-requires
+    (λ c. search needs) (λ c. search needs) returns (λ c. search needs) (λ c. search needs) (λ c. search needs)
+    returns-2 (λ c. search needs) (λ c. search needs) (λ c. search needs) (λ c. search needs) returns-3 returns-4)

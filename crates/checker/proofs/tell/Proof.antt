@@ -34,5 +34,6 @@ returns-2 c = λ s o. tells-large s (c .before .before .before .before .before .
 pub tell-spec : {M : Type 1} → statement M
 tell-spec =
     tie.close
-    (tie.spec (search needs) (search needs) (search needs) (search needs) (search needs) warn-requires held-one-requires
-    (search needs) (search needs) error-requires (search needs) (search needs) returns (search needs) returns-2)
+    (tie.spec (λ c. search needs) (λ c. search needs) (λ c. search needs) (λ c. search needs) (λ c. search needs)
+    warn-requires held-one-requires (λ c. search needs) (λ c. search needs) error-requires (λ c. search needs)
+    (λ c. search needs) returns (λ c. search needs) returns-2)

@@ -14,5 +14,5 @@ returns-3 c = word-at _ _ _ (c .before .before .if1 .left) (c .before .if2 .left
 pub entry-word-spec : {M : Type 1} → statement M
 entry-word-spec =
     tie.close
-    (tie.spec (search needs) returns-2 (search needs) (search needs) (search needs) (search needs) (search needs)
-    returns-3)
+    (tie.spec (λ c. search needs) returns-2 (λ c. search needs) (λ c. search needs) (λ c. search needs)
+    (λ c. search needs) (λ c. search needs) returns-3)

@@ -13,4 +13,4 @@ returns-2 : tie.Need-returns-2
 returns-2 c = rw (c .before .if1 .left) (c .part2 .ensures)
 
 pub name-text-spec : {M : Type 1} → statement M
-name-text-spec = tie.close (tie.spec (search needs) returns (search needs) returns-2)
+name-text-spec = tie.close (tie.spec (λ c. search needs) returns (λ c. search needs) returns-2)

@@ -18,5 +18,5 @@ returns-3 c = part-rest _ _ _ (le-of-lt (c .before .if3 .taken))
 pub part-spec : {M : Type 1} → statement M
 part-spec =
     tie.close
-    (tie.spec (search needs) returns (search needs) returns-2 (search needs) (search needs) (search needs) returns-3
-    (search needs) (search needs) (search needs))
+    (tie.spec (λ c. search needs) returns (λ c. search needs) returns-2 (λ c. search needs) (λ c. search needs)
+    (λ c. search needs) returns-3 (λ c. search needs) (λ c. search needs) (λ c. search needs))

@@ -34,5 +34,5 @@ returns-3 c = all _ _ _ (c .before .loop .inv .1) (c .loop-test .left) ∙ c .be
 pub same-spec : {M : Type 1} → statement M
 same-spec =
     tie.close
-    (tie.spec Inv-loop μ-loop returns loop-holds (search needs) (search needs) returns-2 (search needs) (search needs)
-    loop-again returns-3)
+    (tie.spec Inv-loop μ-loop returns loop-holds (λ c. search needs) (λ c. search needs) returns-2 (λ c. search needs)
+    (λ c. search needs) loop-again returns-3)

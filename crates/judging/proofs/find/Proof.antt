@@ -42,5 +42,5 @@ returns-2 c = search-end _ _ _ _ _ (c .before .loop .inv .0) (c .loop-test .left
 pub find-spec : {M : Type 1} → statement M
 find-spec =
     tie.close
-    (tie.spec Inv-loop μ-loop (search needs) loop-holds (search needs) returns (search needs) (search needs) loop-again
-    returns-2)
+    (tie.spec Inv-loop μ-loop (λ c. search needs) loop-holds (λ c. search needs) returns (λ c. search needs)
+    (λ c. search needs) loop-again returns-2)

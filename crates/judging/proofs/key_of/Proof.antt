@@ -34,5 +34,5 @@ returns c = key-end _ _ _ (c .loop-test .left) ∙ c .before .loop .inv .1
 pub key-of-spec : {M : Type 1} → statement M
 key-of-spec =
     tie.close
-    (tie.spec Inv-loop μ-loop loop-holds (search needs) (search needs) cast-key add-key (search needs) (search needs)
-    loop-again returns)
+    (tie.spec Inv-loop μ-loop loop-holds (λ c. search needs) (λ c. search needs) cast-key add-key (λ c. search needs)
+    (λ c. search needs) loop-again returns)

@@ -21,4 +21,4 @@ returns-2 c = λ s t e. item-value s (contents (tokens s)) t _ _ _ (entryAt (c .
 pub last-item-spec : {M : Type 1} → statement M
 last-item-spec =
     tie.close
-    (tie.spec (search needs) (search needs) returns (search needs) (search needs) returns-2)
+    (tie.spec (λ c. search needs) (λ c. search needs) returns (λ c. search needs) (λ c. search needs) returns-2)

@@ -43,5 +43,5 @@ returns-4 c = λ n k e kn rep l. leaf-path (c .before .before .before .before .b
 pub leaf-spec : {M : Type 1} → statement M
 leaf-spec =
     tie.close
-    (tie.spec (search needs) (search needs) literal-requires sock4-requires token-at-requires local-requires
-    (search needs) path-requires returns returns-2 returns-3 returns-4)
+    (tie.spec (λ c. search needs) (λ c. search needs) literal-requires sock4-requires token-at-requires local-requires
+    (λ c. search needs) path-requires returns returns-2 returns-3 returns-4)

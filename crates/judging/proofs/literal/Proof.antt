@@ -20,4 +20,4 @@ returns-4 : tie.Need-returns-4
 returns-4 c = λ s o. literal-other (c .before .before .before .args .t) s (c .before .token-at .ensures s o) (c .match .rest .0 .0 .1) (c .match .rest .0 .1) (c .match .rest .1)
 
 pub literal-spec : {M : Type 1} → statement M
-literal-spec = tie.close (tie.spec (search needs) returns returns-2 returns-3 returns-4)
+literal-spec = tie.close (tie.spec (λ c. search needs) returns returns-2 returns-3 returns-4)

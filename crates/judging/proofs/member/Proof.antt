@@ -20,4 +20,5 @@ returns-3 c = λ s o. members-none s (c .before .before .before .before .args .t
 pub member-spec : {M : Type 1} → statement M
 member-spec =
     tie.close
-    (tie.spec (search needs) (search needs) (search needs) (search needs) (search needs) returns returns-2 returns-3)
+    (tie.spec (λ c. search needs) (λ c. search needs) (λ c. search needs) (λ c. search needs) (λ c. search needs)
+    returns returns-2 returns-3)

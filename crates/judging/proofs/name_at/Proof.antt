@@ -13,4 +13,4 @@ returns-2 : tie.Need-returns-2
 returns-2 c = λ t e. not-named _ t e (c .before .if1 .left) (c .part2 .ensures)
 
 pub name-at-spec : {M : Type 1} → statement M
-name-at-spec = tie.close (tie.spec (search needs) returns (search needs) returns-2)
+name-at-spec = tie.close (tie.spec (λ c. search needs) returns (λ c. search needs) returns-2)

@@ -27,5 +27,6 @@ returns-3 c = λ s o. narrows-same s (c .before .before .before .before .before 
 pub narrow-to-spec : {M : Type 1} → statement M
 narrow-to-spec =
     tie.close
-    (tie.spec (search needs) (search needs) returns (search needs) (search needs) (search needs) (search needs)
-    (search needs) (search needs) (search needs) returns-2 returns-3)
+    (tie.spec (λ c. search needs) (λ c. search needs) returns (λ c. search needs) (λ c. search needs)
+    (λ c. search needs) (λ c. search needs) (λ c. search needs) (λ c. search needs) (λ c. search needs) returns-2
+    returns-3)

@@ -13,4 +13,4 @@ returns : tie.Need-returns
 returns c = λ s o. record { is = λ u d ty e p q. ap Err (c .typed .ensures .is u e ∙ operand-is s _ (c .before .token-at .ensures s o) u d ty p q) }
 
 pub operand-spec : {M : Type 1} → statement M
-operand-spec = tie.close (tie.spec (search needs) (search needs) returns)
+operand-spec = tie.close (tie.spec (λ c. search needs) (λ c. search needs) returns)

@@ -29,5 +29,5 @@ returns-3 c = record { is = ap Err (c .named .ensures ∙ not-imported _ _ (c .b
 pub path-spec : {M : Type 1} → statement M
 path-spec =
     tie.close
-    (tie.spec token-at-requires (search needs) (search needs) (search needs) (search needs) (search needs) returns
-    (search needs) returns-2 (search needs) returns-3)
+    (tie.spec token-at-requires (λ c. search needs) (λ c. search needs) (λ c. search needs) (λ c. search needs)
+    (λ c. search needs) returns (λ c. search needs) returns-2 (λ c. search needs) returns-3)

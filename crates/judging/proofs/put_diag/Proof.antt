@@ -19,5 +19,5 @@ returns-2 c = sym (put-full (c .before .before .before .args .diags .now) (c .be
 pub put-diag-spec : {M : Type 1} → statement M
 put-diag-spec =
     tie.close
-    (tie.spec (search needs) (search needs) (search needs) (search needs) (search needs) (search needs) (search needs)
-    (search needs) returns returns-2)
+    (tie.spec (λ c. search needs) (λ c. search needs) (λ c. search needs) (λ c. search needs) (λ c. search needs)
+    (λ c. search needs) (λ c. search needs) (λ c. search needs) returns returns-2)

@@ -14,4 +14,4 @@ returns-2 c = λ s o. token-past o _ (c .token-row2 .ensures) (c .before .if1 .l
 
 pub token-at-spec : {M : Type 1} → statement M
 token-at-spec =
-    tie.close (tie.spec (search needs) returns (search needs) (search needs) returns-2)
+    tie.close (tie.spec (λ c. search needs) returns (λ c. search needs) (λ c. search needs) returns-2)

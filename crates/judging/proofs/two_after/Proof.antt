@@ -14,4 +14,4 @@ returns-2 c = λ s o. token-after o _ (c .token-at2 .ensures s o) (c .before .if
 
 pub two-after-spec : {M : Type 1} → statement M
 two-after-spec =
-    tie.close (tie.spec (search needs) (search needs) returns (search needs) returns-2)
+    tie.close (tie.spec (λ c. search needs) (λ c. search needs) returns (λ c. search needs) returns-2)

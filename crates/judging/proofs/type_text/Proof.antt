@@ -17,4 +17,4 @@ returns-2 c = record { is = λ u e. shown-text u e (c .before .before .before .b
 
 pub type-text-spec : {M : Type 1} → statement M
 type-text-spec =
-    tie.close (tie.spec returns (search needs) (search needs) (search needs) returns-2)
+    tie.close (tie.spec returns (λ c. search needs) (λ c. search needs) (λ c. search needs) returns-2)

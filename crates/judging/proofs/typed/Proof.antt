@@ -11,4 +11,4 @@ returns : tie.Need-returns
 returns c = record { is = λ u e. typed-is (c .before .before .args .tok) u (c .before .type-text .ensures .is u e) (c .type-kind .ensures .is u e) }
 
 pub typed-spec : {M : Type 1} → statement M
-typed-spec = tie.close (tie.spec (search needs) (search needs) returns)
+typed-spec = tie.close (tie.spec (λ c. search needs) (λ c. search needs) returns)

@@ -14,4 +14,4 @@ returns c = λ s t e. ap Err (c .named .ensures ∙ unknown-item s t e (c .befor
 
 pub unknown-item-spec : {M : Type 1} → statement M
 unknown-item-spec =
-    tie.close (tie.spec (search needs) (search needs) (search needs) returns)
+    tie.close (tie.spec (λ c. search needs) (λ c. search needs) (λ c. search needs) returns)

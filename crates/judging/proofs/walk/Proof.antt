@@ -68,6 +68,6 @@ returns-4 c = ap (judgedAs _) (walk-ended _ _ _ _ (c .loop-test .left) ∙ c .be
 pub walk-spec : {M : Type 1} → statement M
 walk-spec =
     tie.close
-    (tie.spec Inv-loop μ-loop (search needs) loop-holds two-after-requires (search needs) lookup-requires
-    unknown-item-requires returns (search needs) last-item-requires returns-2 (search needs) returns-3 add-at
-    (search needs) loop-less loop-again returns-4)
+    (tie.spec Inv-loop μ-loop (λ c. search needs) loop-holds two-after-requires (λ c. search needs) lookup-requires
+    unknown-item-requires returns (λ c. search needs) last-item-requires returns-2 (λ c. search needs) returns-3 add-at
+    (λ c. search needs) loop-less loop-again returns-4)

@@ -36,5 +36,5 @@ returns-2 c = finished _ _ _ _ _ (c .before .loop .inv) (c .loop-test .left)
 pub feed-lines-spec : {M : Type 1} → statement M
 feed-lines-spec =
     tie.close
-    (tie.spec Inv-loop μ-loop (search needs) loop-holds (search needs) line-requires (search needs) (search needs)
-    (search needs) returns add-at loop-less loop-again (search needs) returns-2)
+    (tie.spec Inv-loop μ-loop (λ c. search needs) loop-holds (λ c. search needs) line-requires (λ c. search needs)
+    (λ c. search needs) (λ c. search needs) returns add-at loop-less loop-again (λ c. search needs) returns-2)

@@ -46,7 +46,8 @@ returns-5 c = accepted _ _ _ (fits _ _ (c .before .before .before .before .befor
 pub lex-source-spec : {M : Type 1} → statement M
 lex-source-spec =
     tie.close
-    (tie.spec (search needs) (search needs) (search needs) same-length returns (search needs) (search needs)
-    spot-of-requires (search needs) (search needs) same-length-2 returns-2 (search needs) (search needs) (search needs)
-    (search needs) (search needs) (search needs) finish-requires (search needs) (search needs) (search needs)
-    same-length-3 returns-3 (search needs) same-length-4 returns-4 same-length-5 returns-5)
+    (tie.spec (λ c. search needs) (λ c. search needs) (λ c. search needs) same-length returns (λ c. search needs)
+    (λ c. search needs) spot-of-requires (λ c. search needs) (λ c. search needs) same-length-2 returns-2
+    (λ c. search needs) (λ c. search needs) (λ c. search needs) (λ c. search needs) (λ c. search needs)
+    (λ c. search needs) finish-requires (λ c. search needs) (λ c. search needs) (λ c. search needs) same-length-3
+    returns-3 (λ c. search needs) same-length-4 returns-4 same-length-5 returns-5)

@@ -10,4 +10,4 @@ returns : tie.Need-returns
 returns c = rw (c .before .kind .ensures, c .character .ensures)
 
 pub lexical-spec : {M : Type 1} → statement M
-lexical-spec = tie.close (tie.spec (search needs) (search needs) (search needs) returns)
+lexical-spec = tie.close (tie.spec (λ c. search needs) (λ c. search needs) (λ c. search needs) returns)

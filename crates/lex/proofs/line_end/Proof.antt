@@ -8,4 +8,4 @@ unfolding runEnd
 returns c = c .eat-comment .ensures
 
 pub line-end-spec : {M : Type 1} → statement M
-line-end-spec = tie.close (tie.spec (search needs) returns)
+line-end-spec = tie.close (tie.spec (λ c. search needs) returns)

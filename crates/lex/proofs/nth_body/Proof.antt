@@ -36,5 +36,6 @@ loop-again-2 c = passed _ _ _ _ (c .before .before .before .before .before .loop
 pub nth-body-spec : {M : Type 1} → statement M
 nth-body-spec =
     tie.close
-    (tie.spec Inv-loop μ-loop (search needs) loop-holds (search needs) (search needs) (search needs) (search needs)
-    returns (search needs) (search needs) returns-2 (search needs) loop-less loop-again loop-less-2 loop-again-2)
+    (tie.spec Inv-loop μ-loop (λ c. search needs) loop-holds (λ c. search needs) (λ c. search needs) (λ c. search needs)
+    (λ c. search needs) returns (λ c. search needs) (λ c. search needs) returns-2 (λ c. search needs) loop-less
+    loop-again loop-less-2 loop-again-2)

@@ -24,5 +24,5 @@ returns c = arrived _ _ _ _ _ (c .before .loop .inv) (c .loop-test .left)
 pub spot-of-spec : {M : Type 1} → statement M
 spot-of-spec =
     tie.close
-    (tie.spec Inv-loop μ-loop loop-holds (search needs) (search needs) (search needs) (search needs) (search needs)
-    loop-again returns)
+    (tie.spec Inv-loop μ-loop loop-holds (λ c. search needs) (λ c. search needs) (λ c. search needs) (λ c. search needs)
+    (λ c. search needs) loop-again returns)

@@ -15,4 +15,4 @@ returns-2 c = no-part _ _ _ _ (⊎-elim (λ w. omega arith) (λ w. omega arith) 
 pub string-body-spec : {M : Type 1} → statement M
 string-body-spec =
     tie.close
-    (tie.spec (search needs) (search needs) (search needs) returns (search needs) returns-2)
+    (tie.spec (λ c. search needs) (λ c. search needs) (λ c. search needs) returns (λ c. search needs) returns-2)

@@ -19,4 +19,5 @@ returns-3 c = (head-bare _ _ (named-no _ _ (unseen (c .before .kind-at .ensures)
 pub arg-head-spec : {M : Type 1} → statement M
 arg-head-spec =
     tie.close
-    (tie.spec (search needs) (search needs) (search needs) (search needs) returns returns-2 returns-3)
+    (tie.spec (λ c. search needs) (λ c. search needs) (λ c. search needs) (λ c. search needs) returns returns-2
+    returns-3)

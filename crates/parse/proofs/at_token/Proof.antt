@@ -13,4 +13,4 @@ returns-2 c = c .at-row2 .ensures ∙ far _ _ _ _ _ (c .before .if1 .left)
 pub at-token-spec : {M : Type 1} → statement M
 at-token-spec =
     tie.close
-    (tie.spec (search needs) returns (search needs) (search needs) returns-2)
+    (tie.spec (λ c. search needs) returns (λ c. search needs) (λ c. search needs) returns-2)

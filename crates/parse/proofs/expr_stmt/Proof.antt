@@ -33,5 +33,5 @@ returns-2 c =
 pub expr-stmt-spec : {M : Type 1} → statement M
 expr-stmt-spec =
     tie.close
-    (tie.spec (search needs) (search needs) sub-end-stmt end-stmt-requires (search needs) (search needs) returns
-    (search needs) returns-2)
+    (tie.spec (λ c. search needs) (λ c. search needs) sub-end-stmt end-stmt-requires (λ c. search needs)
+    (λ c. search needs) returns (λ c. search needs) returns-2)

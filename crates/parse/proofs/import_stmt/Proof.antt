@@ -25,5 +25,5 @@ returns-2 c = (
 pub import-stmt-spec : {M : Type 1} → statement M
 import-stmt-spec =
     tie.close
-    (tie.spec (search needs) (search needs) (search needs) (search needs) returns (search needs) (search needs)
-    end-stmt-requires (search needs) returns-2)
+    (tie.spec (λ c. search needs) (λ c. search needs) (λ c. search needs) (λ c. search needs) returns
+    (λ c. search needs) (λ c. search needs) end-stmt-requires (λ c. search needs) returns-2)

@@ -46,6 +46,7 @@ returns-4 c =
 pub let-stmt-spec : {M : Type 1} → statement M
 let-stmt-spec =
     tie.close
-    (tie.spec (search needs) (search needs) (search needs) (search needs) returns (search needs) (search needs)
-    (search needs) (search needs) returns-2 (search needs) expr-requires (search needs) (search needs) sub-end-stmt
-    end-stmt-requires (search needs) (search needs) returns-3 (search needs) returns-4)
+    (tie.spec (λ c. search needs) (λ c. search needs) (λ c. search needs) (λ c. search needs) returns
+    (λ c. search needs) (λ c. search needs) (λ c. search needs) (λ c. search needs) returns-2 (λ c. search needs)
+    expr-requires (λ c. search needs) (λ c. search needs) sub-end-stmt end-stmt-requires (λ c. search needs)
+    (λ c. search needs) returns-3 (λ c. search needs) returns-4)

@@ -16,5 +16,5 @@ returns-2 c = as-before (c .before .before .before .before .before .before .befo
 pub parse-source-spec : {M : Type 1} → statement M
 parse-source-spec =
     tie.close
-    (tie.spec (search needs) (search needs) (search needs) (search needs) (search needs) returns parse-tokens-requires
-    (search needs) (search needs) returns-2)
+    (tie.spec (λ c. search needs) (λ c. search needs) (λ c. search needs) (λ c. search needs) (λ c. search needs)
+    returns parse-tokens-requires (λ c. search needs) (λ c. search needs) returns-2)

@@ -25,6 +25,7 @@ returns-3 c = λ s l h. accepted l (c .before .before .before .before .before .b
 pub parse-tokens-spec : {M : Type 1} → statement M
 parse-tokens-spec =
     tie.close
-    (tie.spec (search needs) (search needs) slice-aggregate-program program-requires (search needs) (search needs)
-    (search needs) (search needs) (search needs) (search needs) (search needs) (search needs) returns (search needs)
-    (search needs) (search needs) returns-2 (search needs) (search needs) returns-3)
+    (tie.spec (λ c. search needs) (λ c. search needs) slice-aggregate-program program-requires (λ c. search needs)
+    (λ c. search needs) (λ c. search needs) (λ c. search needs) (λ c. search needs) (λ c. search needs)
+    (λ c. search needs) (λ c. search needs) returns (λ c. search needs) (λ c. search needs) (λ c. search needs)
+    returns-2 (λ c. search needs) (λ c. search needs) returns-3)

@@ -18,4 +18,4 @@ returns-4 c = port-huge _ _ _ (c .before .before .before .before .before .port-t
 pub port-spec : {M : Type 1} → statement M
 port-spec =
     tie.close
-    (tie.spec (search needs) (search needs) (search needs) returns returns-2 returns-3 returns-4)
+    (tie.spec (λ c. search needs) (λ c. search needs) (λ c. search needs) returns returns-2 returns-3 returns-4)

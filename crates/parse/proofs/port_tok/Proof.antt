@@ -19,5 +19,5 @@ returns-2 c = port-dec _ _ _ (seen (c .before .before .before .kind-at .ensures)
 pub port-tok-spec : {M : Type 1} → statement M
 port-tok-spec =
     tie.close
-    (tie.spec (search needs) returns (search needs) (search needs) (search needs) shared-slice-read-t4 (search needs)
-    (search needs) shared-slice-read-t12 returns-2)
+    (tie.spec (λ c. search needs) returns (λ c. search needs) (λ c. search needs) (λ c. search needs)
+    shared-slice-read-t4 (λ c. search needs) (λ c. search needs) shared-slice-read-t12 returns-2)

@@ -73,5 +73,5 @@ returns-2 c =
 pub program-spec : {M : Type 1} → statement M
 program-spec =
     tie.close
-    (tie.spec Inv-loop μ-loop loop-holds (search needs) (search needs) (search needs) loop-less loop-again
-    (search needs) same-length returns same-length-2 returns-2)
+    (tie.spec Inv-loop μ-loop loop-holds (λ c. search needs) (λ c. search needs) (λ c. search needs) loop-less
+    loop-again (λ c. search needs) same-length returns same-length-2 returns-2)

@@ -7,4 +7,4 @@ returns : tie.Need-returns
 returns c = stored _ _ _ _ _ _ _ _ (c .before .before .put-row .ensures)
 
 pub push-spec : {M : Type 1} → statement M
-push-spec = tie.close (tie.spec (search needs) (search needs) (search needs) returns)
+push-spec = tie.close (tie.spec (λ c. search needs) (λ c. search needs) (λ c. search needs) returns)

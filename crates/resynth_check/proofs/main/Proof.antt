@@ -14,4 +14,4 @@ slice-aggregate-run-2 c = sym (length-replicate {A = ℕ} 65536 0)
 
 pub main-spec : {M : Type 1} → statement M
 main-spec =
-    tie.close (tie.spec slice-aggregate-run slice-aggregate-run-2 (search needs) (search needs))
+    tie.close (tie.spec slice-aggregate-run slice-aggregate-run-2 (λ c. search needs) (λ c. search needs))

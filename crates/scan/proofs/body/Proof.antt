@@ -14,5 +14,5 @@ returns-2 c = no-body _ _ _ (⊎-elim (λ w. omega arith) (⊎-elim (λ w. omega
 pub body-spec : {M : Type 1} → statement M
 body-spec =
     tie.close
-    (tie.spec (search needs) (search needs) (search needs) (search needs) (search needs) (search needs) returns
-    (search needs) returns-2)
+    (tie.spec (λ c. search needs) (λ c. search needs) (λ c. search needs) (λ c. search needs) (λ c. search needs)
+    (λ c. search needs) returns (λ c. search needs) returns-2)

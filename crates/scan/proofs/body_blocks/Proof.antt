@@ -31,5 +31,5 @@ returns-2 c = let r = c .before .loop .inv in (r .in-line, r .same)
 pub body-blocks-spec : {M : Type 1} → statement M
 body-blocks-spec =
     tie.close
-    (tie.spec Inv-loop μ-loop loop-holds (search needs) (search needs) returns (search needs) (search needs) loop-again
-    returns-2)
+    (tie.spec Inv-loop μ-loop loop-holds (λ c. search needs) (λ c. search needs) returns (λ c. search needs)
+    (λ c. search needs) loop-again returns-2)

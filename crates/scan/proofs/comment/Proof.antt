@@ -10,4 +10,4 @@ returns : tie.Need-returns
 returns c = comment-is (c .before .before .args .line .now) (c .before .before .args .at) _ (c .eat-comment .ensures)
 
 pub comment-spec : {M : Type 1} → statement M
-comment-spec = tie.close (tie.spec (search needs) (search needs) returns)
+comment-spec = tie.close (tie.spec (λ c. search needs) (λ c. search needs) returns)

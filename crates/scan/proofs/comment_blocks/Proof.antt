@@ -29,5 +29,5 @@ returns-2 c = let r = c .before .loop .inv in (r .in-line, r .same)
 pub comment-blocks-spec : {M : Type 1} → statement M
 comment-blocks-spec =
     tie.close
-    (tie.spec Inv-loop μ-loop loop-holds (search needs) (search needs) (search needs) (search needs) returns
-    (search needs) (search needs) loop-again returns-2)
+    (tie.spec Inv-loop μ-loop loop-holds (λ c. search needs) (λ c. search needs) (λ c. search needs) (λ c. search needs)
+    returns (λ c. search needs) (λ c. search needs) loop-again returns-2)

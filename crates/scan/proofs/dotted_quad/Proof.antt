@@ -76,4 +76,4 @@ pub dotted-quad-spec : {M : Type 1} → statement M
 dotted-quad-spec =
     tie.close
     (tie.spec Inv-loop μ-loop loop-holds eat-digits-requires returns quad-part-requires join-requires returns-2
-    (search needs) returns-3 quad-part-requires-2 join-requires-2 add-i sub-dots loop-less loop-again)
+    (λ c. search needs) returns-3 quad-part-requires-2 join-requires-2 add-i sub-dots loop-less loop-again)

@@ -29,5 +29,5 @@ returns-2 c = run-end notNewline (c .before .loop .inv) (c .loop-test .left)
 pub eat-comment-spec : {M : Type 1} → statement M
 eat-comment-spec =
     tie.close
-    (tie.spec Inv-loop μ-loop (search needs) loop-holds (search needs) returns (search needs) (search needs) loop-again
-    returns-2)
+    (tie.spec Inv-loop μ-loop (λ c. search needs) loop-holds (λ c. search needs) returns (λ c. search needs)
+    (λ c. search needs) loop-again returns-2)

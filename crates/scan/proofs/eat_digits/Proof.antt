@@ -29,5 +29,5 @@ returns-2 c = run-end isDigit (c .before .loop .inv) (c .loop-test .left)
 pub eat-digits-spec : {M : Type 1} → statement M
 eat-digits-spec =
     tie.close
-    (tie.spec Inv-loop μ-loop loop-holds (search needs) (search needs) returns (search needs) (search needs) loop-again
-    returns-2)
+    (tie.spec Inv-loop μ-loop loop-holds (λ c. search needs) (λ c. search needs) returns (λ c. search needs)
+    (λ c. search needs) loop-again returns-2)

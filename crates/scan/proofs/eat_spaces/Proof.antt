@@ -52,5 +52,6 @@ returns-3 c = blank-end (c .before .loop .inv) (c .loop-test .left)
 pub eat-spaces-spec : {M : Type 1} → statement M
 eat-spaces-spec =
     tie.close
-    (tie.spec Inv-loop μ-loop loop-holds (search needs) (search needs) (search needs) loop-again (search needs)
-    (search needs) (search needs) returns loop-less-2 loop-again-2 (search needs) returns-2 returns-3)
+    (tie.spec Inv-loop μ-loop loop-holds (λ c. search needs) (λ c. search needs) (λ c. search needs) loop-again
+    (λ c. search needs) (λ c. search needs) (λ c. search needs) returns loop-less-2 loop-again-2 (λ c. search needs)
+    returns-2 returns-3)

@@ -40,5 +40,5 @@ loop-again c = (search needs, more-is _ _ _ _ _ (c .before .before .before .befo
 pub fill-spec : {M : Type 1} → statement M
 fill-spec =
     tie.close
-    (tie.spec Inv-loop μ-loop (search needs) loop-holds (search needs) (search needs) (search needs) (search needs)
-    returns (search needs) (search needs) put-row-requires add-count loop-less loop-again)
+    (tie.spec Inv-loop μ-loop (λ c. search needs) loop-holds (λ c. search needs) (λ c. search needs) (λ c. search needs)
+    (λ c. search needs) returns (λ c. search needs) (λ c. search needs) put-row-requires add-count loop-less loop-again)

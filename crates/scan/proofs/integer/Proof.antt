@@ -59,5 +59,6 @@ returns-5 c =
 pub integer-spec : {M : Type 1} → statement M
 integer-spec =
     tie.close
-    (tie.spec (search needs) (search needs) read-digits-requires (search needs) (search needs) returns returns-2
-    (search needs) returns-3 read-digits-requires-2 (search needs) (search needs) returns-4 returns-5)
+    (tie.spec (λ c. search needs) (λ c. search needs) read-digits-requires (λ c. search needs) (λ c. search needs)
+    returns returns-2 (λ c. search needs) returns-3 read-digits-requires-2 (λ c. search needs) (λ c. search needs)
+    returns-4 returns-5)

@@ -33,5 +33,5 @@ returns-3 c = key-end _ _ _ _ (c .before .before .before .pre) (c .before .loop 
 pub is-key-spec : {M : Type 1} → statement M
 is-key-spec =
     tie.close
-    (tie.spec Inv-loop μ-loop (search needs) returns loop-holds (search needs) (search needs) (search needs) returns-2
-    (search needs) (search needs) loop-again returns-3)
+    (tie.spec Inv-loop μ-loop (λ c. search needs) returns loop-holds (λ c. search needs) (λ c. search needs)
+    (λ c. search needs) returns-2 (λ c. search needs) (λ c. search needs) loop-again returns-3)

@@ -8,4 +8,4 @@ unfolding isWord
 returns c = rw (c .before .is-word-start .ensures, c .is-digit .ensures)
 
 pub is-word-spec : {M : Type 1} → statement M
-is-word-spec = tie.close (tie.spec (search needs) (search needs) returns)
+is-word-spec = tie.close (tie.spec (λ c. search needs) (λ c. search needs) returns)

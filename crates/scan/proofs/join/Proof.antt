@@ -17,5 +17,5 @@ returns c = rw (c .before .before .before .before .address .given .1, c .before 
 pub join-spec : {M : Type 1} → statement M
 join-spec =
     tie.close
-    (tie.spec (search needs) (search needs) mul-t7 add-t8 (search needs) (search needs) returns (search needs)
-    (search needs))
+    (tie.spec (λ c. search needs) (λ c. search needs) mul-t7 add-t8 (λ c. search needs) (λ c. search needs) returns
+    (λ c. search needs) (λ c. search needs))

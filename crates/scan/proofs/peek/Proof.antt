@@ -8,4 +8,4 @@ returns-2 : tie.Need-returns-2
 returns-2 c = sym (List·getD-eq-default (c .before .args .line .now) 0 (c .if1 .left))
 
 pub peek-spec : {M : Type 1} → statement M
-peek-spec = tie.close (tie.spec (search needs) (search needs) returns-2)
+peek-spec = tie.close (tie.spec (λ c. search needs) (λ c. search needs) returns-2)

@@ -18,4 +18,4 @@ returns-2 c =
 
 pub push-digit-spec : {M : Type 1} → statement M
 push-digit-spec =
-    tie.close (tie.spec (search needs) returns times16-plus-requires returns-2)
+    tie.close (tie.spec (λ c. search needs) returns times16-plus-requires returns-2)

@@ -57,5 +57,5 @@ returns-5 c =
 pub quad-part-spec : {M : Type 1} → statement M
 quad-part-spec =
     tie.close
-    (tie.spec (search needs) returns starts-zero-requires returns-2 read-digits-requires (search needs) (search needs)
-    returns-3 cast-t12 returns-4 returns-5)
+    (tie.spec (λ c. search needs) returns starts-zero-requires returns-2 read-digits-requires (λ c. search needs)
+    (λ c. search needs) returns-3 cast-t12 returns-4 returns-5)

@@ -37,5 +37,6 @@ returns-3 c = finished (c .before .loop .inv) (c .loop-test .left)
 pub read-digits-spec : {M : Type 1} → statement M
 read-digits-spec =
     tie.close
-    (tie.spec Inv-loop μ-loop (search needs) loop-holds (search needs) (search needs) returns (search needs)
-    (search needs) (search needs) returns-2 (search needs) (search needs) loop-again returns-3)
+    (tie.spec Inv-loop μ-loop (λ c. search needs) loop-holds (λ c. search needs) (λ c. search needs) returns
+    (λ c. search needs) (λ c. search needs) (λ c. search needs) returns-2 (λ c. search needs) (λ c. search needs)
+    loop-again returns-3)

@@ -6,4 +6,4 @@ returns : tie.Need-returns
 returns c = rw (c .before .class-of .ensures, c .kind-of .ensures, c .before .before .value-of .ensures)
 
 pub row-of-spec : {M : Type 1} → statement M
-row-of-spec = tie.close (tie.spec (search needs) (search needs) (search needs) returns)
+row-of-spec = tie.close (tie.spec (λ c. search needs) (λ c. search needs) (λ c. search needs) returns)

@@ -48,6 +48,6 @@ returns-4 c = accepted _ _ _ (fits _ _ (c .before .before .before .before .befor
 pub scan-line-spec : {M : Type 1} → statement M
 scan-line-spec =
     tie.close
-    (tie.spec (search needs) (search needs) same-length returns (search needs) (search needs) add-new (search needs)
-    same-length-2 returns-2 (search needs) fill-requires (search needs) (search needs) same-length-3 returns-3
-    (search needs) same-length-4 returns-4)
+    (tie.spec (λ c. search needs) (λ c. search needs) same-length returns (λ c. search needs) (λ c. search needs)
+    add-new (λ c. search needs) same-length-2 returns-2 (λ c. search needs) fill-requires (λ c. search needs)
+    (λ c. search needs) same-length-3 returns-3 (λ c. search needs) same-length-4 returns-4)

@@ -17,4 +17,5 @@ returns-2 c =
 
 pub starts-zero-spec : {M : Type 1} → statement M
 starts-zero-spec =
-    tie.close (tie.spec (search needs) returns (search needs) (search needs) (search needs) returns-2)
+    tie.close
+    (tie.spec (λ c. search needs) returns (λ c. search needs) (λ c. search needs) (λ c. search needs) returns-2)

@@ -22,4 +22,4 @@ returns-2 c = string-open (c .before .before .before .before .args .line .now) (
 
 pub string-spec : {M : Type 1} → statement M
 string-spec =
-    tie.close (tie.spec (search needs) (search needs) (search needs) add-t7 returns returns-2)
+    tie.close (tie.spec (λ c. search needs) (λ c. search needs) (λ c. search needs) add-t7 returns returns-2)

@@ -37,5 +37,6 @@ returns-2 c = sym (put-full _ _ _ _ refl (c .if1 .left))
 pub put-row-spec : {M : Type 1} → statement M
 put-row-spec =
     tie.close
-    (tie.spec Inv-loop μ-loop mul-start add-if1 (search needs) (search needs) (search needs) (search needs)
-    (search needs) (search needs) (search needs) (search needs) loop-again (search needs) returns returns-2)
+    (tie.spec Inv-loop μ-loop mul-start add-if1 (λ c. search needs) (λ c. search needs) (λ c. search needs)
+    (λ c. search needs) (λ c. search needs) (λ c. search needs) (λ c. search needs) (λ c. search needs) loop-again
+    (λ c. search needs) returns returns-2)

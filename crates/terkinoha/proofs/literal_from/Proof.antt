@@ -30,5 +30,5 @@ loop-again c = passed _ _ _ (c .before .before .before .before .before .loop .in
 pub literal-from-spec : {M : Type 1} → statement M
 literal-from-spec =
     tie.close
-    (tie.spec Inv-loop μ-loop loop-holds (search needs) (search needs) (search needs) returns (search needs) returns-2
-    loop-less loop-again)
+    (tie.spec Inv-loop μ-loop loop-holds (λ c. search needs) (λ c. search needs) (λ c. search needs) returns
+    (λ c. search needs) returns-2 loop-less loop-again)

@@ -31,4 +31,5 @@ returns-2 c = this-one (c .before .loop .inv) (omega arith)
 pub terkinoha-body-at-spec : {M : Type 1} → statement M
 terkinoha-body-at-spec =
     tie.close
-    (tie.spec Inv-loop μ-loop (search needs) loop-holds returns (search needs) sub-left loop-less loop-again returns-2)
+    (tie.spec Inv-loop μ-loop (λ c. search needs) loop-holds returns (λ c. search needs) sub-left loop-less loop-again
+    returns-2)

@@ -8,4 +8,4 @@ returns c = canonises (c .before .before .before .before .before .canonicalise .
 
 pub terkinoha-canonicalise-words-spec : {M : Type 1} → statement M
 terkinoha-canonicalise-words-spec =
-    tie.close (tie.spec (search needs) (search needs) (search needs) (search needs) returns)
+    tie.close (tie.spec (λ c. search needs) (λ c. search needs) (λ c. search needs) (λ c. search needs) returns)

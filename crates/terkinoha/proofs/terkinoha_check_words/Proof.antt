@@ -8,4 +8,6 @@ returns c = checks (c .before .before .before .before .before .before .before .b
 
 pub terkinoha-check-words-spec : {M : Type 1} → statement M
 terkinoha-check-words-spec =
-    tie.close (tie.spec (search needs) (search needs) (search needs) (search needs) (search needs) (search needs) returns)
+    tie.close
+    (tie.spec (λ c. search needs) (λ c. search needs) (λ c. search needs) (λ c. search needs) (λ c. search needs)
+    (λ c. search needs) returns)

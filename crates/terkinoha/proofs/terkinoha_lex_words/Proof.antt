@@ -8,4 +8,4 @@ returns c = lexes (c .before .before .before .lex-source .ensures) (c .as-c .ens
 
 pub terkinoha-lex-words-spec : {M : Type 1} → statement M
 terkinoha-lex-words-spec =
-    tie.close (tie.spec (search needs) (search needs) (search needs) returns)
+    tie.close (tie.spec (λ c. search needs) (λ c. search needs) (λ c. search needs) returns)

@@ -27,5 +27,5 @@ returns-3 c = c .no-body2 .ensures ∙ nowhere _ _ _ (c .before .before .before 
 pub terkinoha-next-body-spec : {M : Type 1} → statement M
 terkinoha-next-body-spec =
     tie.close
-    (tie.spec (search needs) returns slice-aggregate-literal-from (search needs) (search needs) add-t14 sub-t16
-    (search needs) (search needs) returns-2 returns-3)
+    (tie.spec (λ c. search needs) returns slice-aggregate-literal-from (λ c. search needs) (λ c. search needs) add-t14
+    sub-t16 (λ c. search needs) (λ c. search needs) returns-2 returns-3)

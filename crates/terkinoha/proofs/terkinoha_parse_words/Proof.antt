@@ -8,4 +8,4 @@ returns c = parses (c .before .before .before .before .before .parse-source .ens
 
 pub terkinoha-parse-words-spec : {M : Type 1} → statement M
 terkinoha-parse-words-spec =
-    tie.close (tie.spec (search needs) (search needs) (search needs) (search needs) returns)
+    tie.close (tie.spec (λ c. search needs) (λ c. search needs) (λ c. search needs) (λ c. search needs) returns)

@@ -8,4 +8,4 @@ returns c = scans (c .before .before .before .scan-line .ensures) (c .as-c .ensu
 
 pub terkinoha-scan-words-spec : {M : Type 1} → statement M
 terkinoha-scan-words-spec =
-    tie.close (tie.spec (search needs) (search needs) (search needs) returns)
+    tie.close (tie.spec (λ c. search needs) (λ c. search needs) (λ c. search needs) returns)

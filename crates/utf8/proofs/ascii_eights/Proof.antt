@@ -24,5 +24,5 @@ loop-again c = pass-block 8 (c .before .before .before .loop .inv) (omega arith)
 pub ascii-eights-spec : {M : Type 1} → statement M
 ascii-eights-spec =
     tie.close
-    (tie.spec Inv-loop μ-loop loop-holds (search needs) (search needs) (search needs) (search needs) (search needs)
-    loop-again (search needs))
+    (tie.spec Inv-loop μ-loop loop-holds (λ c. search needs) (λ c. search needs) (λ c. search needs) (λ c. search needs)
+    (λ c. search needs) loop-again (λ c. search needs))

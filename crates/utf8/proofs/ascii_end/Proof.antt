@@ -30,5 +30,5 @@ returns-2 c = c .before .loop .inv
 pub ascii-end-spec : {M : Type 1} → statement M
 ascii-end-spec =
     tie.close
-    (tie.spec Inv-loop μ-loop (search needs) ascii-eights-requires loop-holds (search needs) returns (search needs)
-    (search needs) loop-again returns-2)
+    (tie.spec Inv-loop μ-loop (λ c. search needs) ascii-eights-requires loop-holds (λ c. search needs) returns
+    (λ c. search needs) (λ c. search needs) loop-again returns-2)

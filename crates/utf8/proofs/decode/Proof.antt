@@ -11,4 +11,7 @@ returns-2 : tie.Need-returns-2
 returns-2 c = ascii-place _ _ (c .before .before .before .if1 .left) _ (c .wide .ensures) (c .before .if2 .taken)
 
 pub decode-spec : {M : Type 1} → statement M
-decode-spec = tie.close (tie.spec returns (search needs) (search needs) (search needs) returns-2 (search needs) (search needs))
+decode-spec =
+    tie.close
+    (tie.spec returns (λ c. search needs) (λ c. search needs) (λ c. search needs) returns-2 (λ c. search needs)
+    (λ c. search needs))

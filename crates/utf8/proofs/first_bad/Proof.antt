@@ -62,6 +62,6 @@ returns-2 c = bad-end _ _ (c .loop-test .left) ∙ ap badOf (c .before .loop .in
 pub first-bad-spec : {M : Type 1} → statement M
 first-bad-spec =
     tie.close
-    (tie.spec Inv-loop μ-loop (search needs) loop-holds (search needs) (search needs) (search needs) loop-less
-    loop-again (search needs) (search needs) loop-less-2 loop-again-2 (search needs) (search needs) loop-less-3
-    loop-again-3 (search needs) returns returns-2)
+    (tie.spec Inv-loop μ-loop (λ c. search needs) loop-holds (λ c. search needs) (λ c. search needs) (λ c. search needs)
+    loop-less loop-again (λ c. search needs) (λ c. search needs) loop-less-2 loop-again-2 (λ c. search needs)
+    (λ c. search needs) loop-less-3 loop-again-3 (λ c. search needs) returns returns-2)

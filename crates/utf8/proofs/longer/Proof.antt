@@ -26,4 +26,5 @@ returns-2 c =
 pub longer-spec : {M : Type 1} → statement M
 longer-spec =
     tie.close
-    (tie.spec (search needs) (search needs) (search needs) read-tails-requires (search needs) returns returns-2)
+    (tie.spec (λ c. search needs) (λ c. search needs) (λ c. search needs) read-tails-requires (λ c. search needs)
+    returns returns-2)

@@ -57,5 +57,6 @@ returns-4 c = done _ _ _ _ _ _ _ _ _ (c .before .loop .inv) (c .loop-test .left)
 pub read-tails-spec : {M : Type 1} → statement M
 read-tails-spec =
     tie.close
-    (tie.spec Inv-loop μ-loop (search needs) loop-holds returns (search needs) returns-2 returns-3 mul-bits sub-wide
-    (search needs) add-bits (search needs) (search needs) (search needs) loop-again returns-4)
+    (tie.spec Inv-loop μ-loop (λ c. search needs) loop-holds returns (λ c. search needs) returns-2 returns-3 mul-bits
+    sub-wide (λ c. search needs) add-bits (λ c. search needs) (λ c. search needs) (λ c. search needs) loop-again
+    returns-4)

@@ -14,4 +14,4 @@ returns-2 c = two-passed _ _ (omega arith)
 pub two-octets-spec : {M : Type 1} → statement M
 two-octets-spec =
     tie.close
-    (tie.spec (search needs) returns (search needs) (search needs) (search needs) returns-2)
+    (tie.spec (λ c. search needs) returns (λ c. search needs) (λ c. search needs) (λ c. search needs) returns-2)

@@ -31,5 +31,6 @@ loop-again c =
 pub show-characters-spec : {M : Type 1} → statement M
 show-characters-spec =
     tie.close
-    (tie.spec Inv-loop μ-loop (search needs) (search needs) (search needs) (search needs) (search needs) (search needs)
-    loop-less loop-again (search needs) (search needs) (search needs))
+    (tie.spec Inv-loop μ-loop (λ c. search needs) (λ c. search needs) (λ c. search needs) (λ c. search needs)
+    (λ c. search needs) (λ c. search needs) loop-less loop-again (λ c. search needs) (λ c. search needs)
+    (λ c. search needs))

@@ -19,5 +19,6 @@ loop-again c = ⊎-elim (λ w. omega arith) (λ w. omega arith) (c .if1 .came)
 pub show-lines-spec : {M : Type 1} → statement M
 show-lines-spec =
     tie.close
-    (tie.spec Inv-loop μ-loop (search needs) (search needs) (search needs) (search needs) (search needs) (search needs)
-    (search needs) (search needs) (search needs) loop-again (search needs))
+    (tie.spec Inv-loop μ-loop (λ c. search needs) (λ c. search needs) (λ c. search needs) (λ c. search needs)
+    (λ c. search needs) (λ c. search needs) (λ c. search needs) (λ c. search needs) (λ c. search needs) loop-again
+    (λ c. search needs))

@@ -23,5 +23,5 @@ returns c =
 pub verdict-spec : {M : Type 1} → statement M
 verdict-spec =
     tie.close
-    (tie.spec (search needs) slice-aggregate-first-bad (search needs) (search needs) add-result (search needs) returns
-    (search needs))
+    (tie.spec (λ c. search needs) slice-aggregate-first-bad (λ c. search needs) (λ c. search needs) add-result
+    (λ c. search needs) returns (λ c. search needs))

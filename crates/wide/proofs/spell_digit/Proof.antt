@@ -12,4 +12,5 @@ returns-2 c = from-ten (c .before .args .d) (search needs) (search needs)
 
 pub spell-digit-spec : {M : Type 1} → statement M
 spell-digit-spec =
-    tie.close (tie.spec (search needs) (search needs) returns (search needs) (search needs) returns-2)
+    tie.close
+    (tie.spec (λ c. search needs) (λ c. search needs) returns (λ c. search needs) (λ c. search needs) returns-2)

@@ -65,6 +65,7 @@ returns-2 c = stopped _ _ _ _ _ _ _ (c .before .before .before .before .before .
 pub lexemes-spec : {M : Type 1} → statement M
 lexemes-spec =
     tie.close
-    (tie.spec Inv-loop μ-loop (search needs) loop-holds (search needs) (search needs) (search needs) same-length returns
-    (search needs) loop-less loop-again (search needs) string-requires loop-less-2 loop-again-2 (search needs)
-    token-requires loop-less-3 loop-again-3 (search needs) lexical-requires same-length-2 returns-2)
+    (tie.spec Inv-loop μ-loop (λ c. search needs) loop-holds (λ c. search needs) (λ c. search needs) (λ c. search needs)
+    same-length returns (λ c. search needs) loop-less loop-again (λ c. search needs) string-requires loop-less-2
+    loop-again-2 (λ c. search needs) token-requires loop-less-3 loop-again-3 (λ c. search needs) lexical-requires
+    same-length-2 returns-2)

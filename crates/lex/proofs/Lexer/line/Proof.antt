@@ -15,4 +15,5 @@ returns c = numbered _ _ _ (c .before .before .before .before .before .before .b
 pub line-spec : {M : Type 1} → statement M
 line-spec =
     tie.close
-    (tie.spec (search needs) (search needs) (search needs) (search needs) lexemes-requires (search needs) returns)
+    (tie.spec (λ c. search needs) (λ c. search needs) (λ c. search needs) (λ c. search needs) lexemes-requires
+    (λ c. search needs) returns)

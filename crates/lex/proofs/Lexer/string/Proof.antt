@@ -12,4 +12,6 @@ returns-2 : tie.Need-returns-2
 returns-2 c = string-more _ _ _ _ (c .before .if1 .left)
 
 pub string-spec : {M : Type 1} → statement M
-string-spec = tie.close (tie.spec (search needs) (search needs) (search needs) returns (search needs) returns-2)
+string-spec =
+    tie.close
+    (tie.spec (λ c. search needs) (λ c. search needs) (λ c. search needs) returns (λ c. search needs) returns-2)

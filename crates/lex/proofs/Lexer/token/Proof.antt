@@ -23,5 +23,5 @@ returns c = token-after _ _ _ _ (c .before .before .before .before .before .befo
 pub token-spec : {M : Type 1} → statement M
 token-spec =
     tie.close
-    (tie.spec (search needs) (search needs) (search needs) (search needs) (search needs) (search needs) (search needs)
-    put-row-requires add-t15-2 (search needs) (search needs) returns)
+    (tie.spec (λ c. search needs) (λ c. search needs) (λ c. search needs) (λ c. search needs) (λ c. search needs)
+    (λ c. search needs) (λ c. search needs) put-row-requires add-t15-2 (λ c. search needs) (λ c. search needs) returns)

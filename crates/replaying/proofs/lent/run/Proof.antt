@@ -67,8 +67,8 @@ returns c = tt
 pub run-spec : {M : Type 1} → statement M
 run-spec =
     tie.close
-    (tie.spec (search needs) (search needs) (search needs) (search needs) (search needs) (search needs) (search needs)
-    (search needs) (search needs) (search needs) slice-aggregate-answers sub-answers part-tokens-start part-tokens-end
-    sub-answers-2 part-nodes-start part-nodes-end sub-answers-3 part-diags-start part-diags-end sub-answers-4
-    part-stmts-start part-stmts-end sub-answers-5 part-text-start part-text-end answers-requires same-length
-    same-length-2 returns)
+    (tie.spec (λ c. search needs) (λ c. search needs) (λ c. search needs) (λ c. search needs) (λ c. search needs)
+    (λ c. search needs) (λ c. search needs) (λ c. search needs) (λ c. search needs) (λ c. search needs)
+    slice-aggregate-answers sub-answers part-tokens-start part-tokens-end sub-answers-2 part-nodes-start part-nodes-end
+    sub-answers-3 part-diags-start part-diags-end sub-answers-4 part-stmts-start part-stmts-end sub-answers-5
+    part-text-start part-text-end answers-requires same-length same-length-2 returns)

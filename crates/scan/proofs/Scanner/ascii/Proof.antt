@@ -38,6 +38,6 @@ returns-4 c = c .sign .ensures ∙ ap (lexemeAs (c .before .before .before .befo
 pub ascii-spec : {M : Type 1} → statement M
 ascii-spec =
     tie.close
-    (tie.spec (search needs) (search needs) (search needs) word-requires (search needs) returns (search needs)
-    number-requires returns-2 (search needs) (search needs) (search needs) (search needs) returns-3 (search needs)
-    (search needs) returns-4)
+    (tie.spec (λ c. search needs) (λ c. search needs) (λ c. search needs) word-requires (λ c. search needs) returns
+    (λ c. search needs) number-requires returns-2 (λ c. search needs) (λ c. search needs) (λ c. search needs)
+    (λ c. search needs) returns-3 (λ c. search needs) (λ c. search needs) returns-4)

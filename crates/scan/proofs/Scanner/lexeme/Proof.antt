@@ -31,5 +31,6 @@ returns-4 c = c .unexpected2 .ensures ∙ lexeme-none (c .before .before .before
 pub lexeme-spec : {M : Type 1} → statement M
 lexeme-spec =
     tie.close
-    (tie.spec (search needs) (search needs) (search needs) (search needs) returns (search needs) returns-2
-    (search needs) (search needs) (search needs) (search needs) cast-unexpected (search needs) returns-3 returns-4)
+    (tie.spec (λ c. search needs) (λ c. search needs) (λ c. search needs) (λ c. search needs) returns
+    (λ c. search needs) returns-2 (λ c. search needs) (λ c. search needs) (λ c. search needs) (λ c. search needs)
+    cast-unexpected (λ c. search needs) returns-3 returns-4)

@@ -13,4 +13,4 @@ returns-2 : tie.Need-returns-2
 returns-2 c = step-done _ _ (c .if1 .left)
 
 pub next-spec : {M : Type 1} → statement M
-next-spec = tie.close (tie.spec (search needs) returns returns-2)
+next-spec = tie.close (tie.spec (λ c. search needs) returns returns-2)

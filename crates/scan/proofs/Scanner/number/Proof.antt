@@ -45,5 +45,5 @@ returns-4 c =
 pub number-spec : {M : Type 1} → statement M
 number-spec =
     tie.close
-    (tie.spec (search needs) (search needs) eat-word-requires (search needs) returns (search needs) (search needs)
-    (search needs) (search needs) returns-2 returns-3 returns-4)
+    (tie.spec (λ c. search needs) (λ c. search needs) eat-word-requires (λ c. search needs) returns (λ c. search needs)
+    (λ c. search needs) (λ c. search needs) (λ c. search needs) returns-2 returns-3 returns-4)

@@ -40,6 +40,7 @@ returns-7 c = c .unexpected .ensures ∙ ap (lexemeAs (c .before .before .before
 pub sign-spec : {M : Type 1} → statement M
 sign-spec =
     tie.close
-    (tie.spec (search needs) (search needs) (search needs) (search needs) returns (search needs) returns-2
-    (search needs) (search needs) returns-3 (search needs) (search needs) returns-4 (search needs) (search needs)
-    returns-5 (search needs) returns-6 (search needs) cast-unexpected (search needs) returns-7)
+    (tie.spec (λ c. search needs) (λ c. search needs) (λ c. search needs) (λ c. search needs) returns
+    (λ c. search needs) returns-2 (λ c. search needs) (λ c. search needs) returns-3 (λ c. search needs)
+    (λ c. search needs) returns-4 (λ c. search needs) (λ c. search needs) returns-5 (λ c. search needs) returns-6
+    (λ c. search needs) cast-unexpected (λ c. search needs) returns-7)

@@ -17,5 +17,5 @@ returns-5 c = other-token (c .before .args .self) (c .match .keys5)
 pub value-spec : {M : Type 1} → statement M
 value-spec =
     tie.close
-    (tie.spec (search needs) (search needs) (search needs) (search needs) (search needs) (search needs) returns
-    returns-2 (search needs) (search needs) returns-5)
+    (tie.spec (λ c. search needs) (λ c. search needs) (λ c. search needs) (λ c. search needs) (λ c. search needs)
+    (λ c. search needs) returns returns-2 (λ c. search needs) (λ c. search needs) returns-5)

@@ -34,5 +34,5 @@ loop-again c =
 pub decimal-spec : {M : Type 1} → statement M
 decimal-spec =
     tie.close
-    (tie.spec Inv-loop μ-loop loop-holds (search needs) (search needs) add-text (search needs) (search needs)
-    (search needs) returns (search needs) loop-again)
+    (tie.spec Inv-loop μ-loop loop-holds (λ c. search needs) (λ c. search needs) add-text (λ c. search needs)
+    (λ c. search needs) (λ c. search needs) returns (λ c. search needs) loop-again)

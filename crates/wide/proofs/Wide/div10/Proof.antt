@@ -15,4 +15,7 @@ returns-2 : tie.Need-returns-2
 returns-2 c = divided _ _ _ _ refl refl
 
 pub div10-spec : {M : Type 1} → statement M
-div10-spec = tie.close (tie.spec returns (search needs) add-p1 (search needs) (search needs) (search needs) (search needs) returns-2)
+div10-spec =
+    tie.close
+    (tie.spec returns (λ c. search needs) add-p1 (λ c. search needs) (λ c. search needs) (λ c. search needs)
+    (λ c. search needs) returns-2)

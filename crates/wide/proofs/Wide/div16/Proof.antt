@@ -8,4 +8,4 @@ add-t9 : tie.Need-add-t9
 add-t9 c = record { fits = lower-fits _ _ (search needs) }
 
 pub div16-spec : {M : Type 1} → statement M
-div16-spec = tie.close (tie.spec (search needs) add-t9 (search needs))
+div16-spec = tie.close (tie.spec (λ c. search needs) add-t9 (λ c. search needs))

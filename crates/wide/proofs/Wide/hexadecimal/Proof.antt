@@ -34,5 +34,5 @@ loop-again c =
 pub hexadecimal-spec : {M : Type 1} → statement M
 hexadecimal-spec =
     tie.close
-    (tie.spec Inv-loop μ-loop loop-holds (search needs) (search needs) spell-digit-requires (search needs)
-    (search needs) returns (search needs) loop-again)
+    (tie.spec Inv-loop μ-loop loop-holds (λ c. search needs) (λ c. search needs) spell-digit-requires
+    (λ c. search needs) (λ c. search needs) returns (λ c. search needs) loop-again)

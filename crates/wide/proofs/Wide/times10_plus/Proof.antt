@@ -32,5 +32,6 @@ returns-4 c =
 pub times10-plus-spec : {M : Type 1} → statement M
 times10-plus-spec =
     tie.close
-    (tie.spec mul-t11 add-t12 returns returns-2 (search needs) (search needs) (search needs) (search needs)
-    (search needs) (search needs) (search needs) (search needs) returns-3 returns-4)
+    (tie.spec mul-t11 add-t12 returns returns-2 (λ c. search needs) (λ c. search needs) (λ c. search needs)
+    (λ c. search needs) (λ c. search needs) (λ c. search needs) (λ c. search needs) (λ c. search needs) returns-3
+    returns-4)

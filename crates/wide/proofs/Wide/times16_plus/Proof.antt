@@ -12,4 +12,6 @@ returns-2 : tie.Need-returns-2
 returns-2 c = fits-case _ _ _ (omega arith) (omega arith) (omega arith)
 
 pub times16-plus-spec : {M : Type 1} → statement M
-times16-plus-spec = tie.close (tie.spec returns (search needs) (search needs) (search needs) (search needs) returns-2)
+times16-plus-spec =
+    tie.close
+    (tie.spec returns (λ c. search needs) (λ c. search needs) (λ c. search needs) (λ c. search needs) returns-2)
