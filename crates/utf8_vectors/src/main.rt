@@ -4,8 +4,9 @@
 // A line of input ends with a newline. It has a byte as two hex digits, and one blank between two bytes. What stands
 // after the first place with no digits is a note.
 //
-// The notes of `stdin` say where a sequence comes from. The tables are those of chapter 3 of the Unicode Standard; a row
-// of Table 3-7 is tried at both ends of each range, and one past them.
+// The notes of `stdin` say where a sequence comes from. Those of CPython are of its Lib/test/test_unicode.py, and end with
+// what is expected there. The tables are those of chapter 3 of the Unicode Standard; a row of Table 3-7 is tried at both ends
+// of each range, and one past them.
 //
 // `stdout` is what Rust's `std::str::from_utf8` says of the same input: oracle/utf8/main.rs made it.
 use libc::STDOUT_FILENO;
