@@ -2,7 +2,7 @@
  *
  * Terkinoha takes the raw bytes of a script and scans, lexes, parses, checks or canonicalises them.
  * What it finds goes into tables that the host lends. C99 or later, or C++, on x86-64 Linux. Link with
- * libterkinoha.a; it needs no other library.
+ * libterkinoha.a; it needs nothing but memcpy, memmove and memset.
  *
  *     terkinoha_token tokens[100];
  *     terkinoha_lexed lexed = terkinoha_lex(script, script_size, tokens, 100);
@@ -22,9 +22,9 @@
  *     before it left.
  *   Every sequence of bytes gets an answer. No call aborts, allocates, prints, calls back or fails
  *   to return. Nothing is kept between calls: the same bytes and sizes give the same answer,
- *   whatever was called before, and calls may run on any threads at the same time. A call needs
- *   less than 32 KiB of stack, terkinoha_check less than 128 KiB. What calls promise is proved of
- *   their code; the README says how.
+ *   whatever was called before, and calls may run on any threads at the same time. What calls
+ *   answer and leave is proved of their code; the README says how. Measured: a call needs less than
+ *   32 KiB of stack, terkinoha_check less than 128 KiB.
  *
  * What a host owes
  *
@@ -60,7 +60,7 @@ extern "C" {
 
 #define TERKINOHA_MOST_BYTES 65536 /* of a source, and of canonical text */
 #define TERKINOHA_MOST_LISTS 32    /* argument lists open at once */
-#define TERKINOHA_MOST_STEPS 64    /* steps (`.`, `(`, `/`) in one expression, without its lists' */
+#define TERKINOHA_MOST_STEPS 64    /* steps (`.`, `(`, `/`) in one expression, those in its lists not counted */
 #define TERKINOHA_MOST_NAMES 512   /* names that are bound by `let` */
 #define TERKINOHA_MOST_IMPORTS 64  /* names that are imported */
 
@@ -384,7 +384,7 @@ typedef struct terkinoha_statement {
 #define TERKINOHA_DIAGNOSTIC_WORDS 11
 #define TERKINOHA_STATEMENT_WORDS 7
 
-/* Where structs were not words with nothing between them, this would not compile. */
+/* A struct is just its words: a compiler that puts anything between them is refused here. */
 #define TERKINOHA_ASSERT_WORDS(type, words) \
     typedef char terkinoha_assert_##type[sizeof(type) == (words) * sizeof(uint64_t) ? 1 : -1]
 TERKINOHA_ASSERT_WORDS(terkinoha_lexeme, TERKINOHA_LEXEME_WORDS);
@@ -400,7 +400,7 @@ TERKINOHA_ASSERT_WORDS(terkinoha_canonised, 7);
 TERKINOHA_ASSERT_WORDS(terkinoha_checked, 10);
 TERKINOHA_ASSERT_WORDS(size_t, 1);
 
-/* A compiler that can says where an answer is thrown away. */
+/* A compiler that knows of it warns where an answer is thrown away. */
 #if defined(__GNUC__)
 #define TERKINOHA_MUST_USE __attribute__((warn_unused_result))
 #else
@@ -409,25 +409,25 @@ TERKINOHA_ASSERT_WORDS(size_t, 1);
 
 /* ---- the calls, as the archive has them ------------------------------------------------------ */
 
-/* Here tables are counted in 64-bit words: the room is the number of whole rows, and words left
- * over are zero too. C hosts will rather use the calls below these, which count rows; other
- * languages bind these.
+/* Here tables are 64-bit words, and are counted in words: the room is the number of whole rows, and
+ * words left over are zero too. C hosts will rather use the calls below these, which count rows;
+ * other languages bind these.
  */
 TERKINOHA_MUST_USE terkinoha_scanned terkinoha_scan_words(const void *line, size_t line_size,
-                                                          terkinoha_lexeme *lexemes, size_t lexemes_words);
+                                                          uint64_t *lexemes, size_t lexemes_words);
 TERKINOHA_MUST_USE terkinoha_lexed terkinoha_lex_words(const void *source, size_t source_size,
-                                                       terkinoha_token *tokens, size_t tokens_words);
+                                                       uint64_t *tokens, size_t tokens_words);
 TERKINOHA_MUST_USE terkinoha_parsed terkinoha_parse_words(const void *source, size_t source_size,
-                                                          terkinoha_token *tokens, size_t tokens_words,
-                                                          terkinoha_node *nodes, size_t nodes_words);
+                                                          uint64_t *tokens, size_t tokens_words,
+                                                          uint64_t *nodes, size_t nodes_words);
 TERKINOHA_MUST_USE terkinoha_canonised terkinoha_canonicalise_words(const void *source, size_t source_size,
-                                                                    terkinoha_token *tokens, size_t tokens_words,
+                                                                    uint64_t *tokens, size_t tokens_words,
                                                                     char *text, size_t text_size);
 TERKINOHA_MUST_USE terkinoha_checked terkinoha_check_words(const void *source, size_t source_size,
-                                                           terkinoha_token *tokens, size_t tokens_words,
-                                                           terkinoha_node *nodes, size_t nodes_words,
-                                                           terkinoha_diagnostic *diagnostics, size_t diagnostics_words,
-                                                           terkinoha_statement *statements, size_t statements_words);
+                                                           uint64_t *tokens, size_t tokens_words,
+                                                           uint64_t *nodes, size_t nodes_words,
+                                                           uint64_t *diagnostics, size_t diagnostics_words,
+                                                           uint64_t *statements, size_t statements_words);
 
 /* ---- the calls, by rows ---------------------------------------------------------------------- */
 
@@ -437,14 +437,14 @@ TERKINOHA_MUST_USE terkinoha_checked terkinoha_check_words(const void *source, s
 TERKINOHA_MUST_USE static inline terkinoha_scanned
 terkinoha_scan(const void *line, size_t line_size, terkinoha_lexeme *lexemes, size_t lexeme_room)
 {
-    return terkinoha_scan_words(line, line_size, lexemes, lexeme_room * TERKINOHA_LEXEME_WORDS);
+    return terkinoha_scan_words(line, line_size, (uint64_t *)lexemes, lexeme_room * TERKINOHA_LEXEME_WORDS);
 }
 
 /* Lexes a source into tokens. It is cut into lines at each byte 10. */
 TERKINOHA_MUST_USE static inline terkinoha_lexed
 terkinoha_lex(const void *source, size_t source_size, terkinoha_token *tokens, size_t token_room)
 {
-    return terkinoha_lex_words(source, source_size, tokens, token_room * TERKINOHA_TOKEN_WORDS);
+    return terkinoha_lex_words(source, source_size, (uint64_t *)tokens, token_room * TERKINOHA_TOKEN_WORDS);
 }
 
 /* Parses a source into tokens and nodes. */
@@ -452,8 +452,8 @@ TERKINOHA_MUST_USE static inline terkinoha_parsed
 terkinoha_parse(const void *source, size_t source_size, terkinoha_token *tokens, size_t token_room,
                 terkinoha_node *nodes, size_t node_room)
 {
-    return terkinoha_parse_words(source, source_size, tokens, token_room * TERKINOHA_TOKEN_WORDS,
-                                 nodes, node_room * TERKINOHA_NODE_WORDS);
+    return terkinoha_parse_words(source, source_size, (uint64_t *)tokens, token_room * TERKINOHA_TOKEN_WORDS,
+                                 (uint64_t *)nodes, node_room * TERKINOHA_NODE_WORDS);
 }
 
 /* Lexes a source into tokens and writes their canonical text: byte 10 after each `;`, one space
@@ -465,7 +465,7 @@ TERKINOHA_MUST_USE static inline terkinoha_canonised
 terkinoha_canonicalise(const void *source, size_t source_size, terkinoha_token *tokens, size_t token_room,
                        char *text, size_t text_room)
 {
-    return terkinoha_canonicalise_words(source, source_size, tokens, token_room * TERKINOHA_TOKEN_WORDS,
+    return terkinoha_canonicalise_words(source, source_size, (uint64_t *)tokens, token_room * TERKINOHA_TOKEN_WORDS,
                                         text, text_room);
 }
 
@@ -478,9 +478,9 @@ terkinoha_check(const void *source, size_t source_size, terkinoha_token *tokens,
                 terkinoha_node *nodes, size_t node_room, terkinoha_diagnostic *diagnostics,
                 size_t diagnostic_room, terkinoha_statement *statements, size_t statement_room)
 {
-    return terkinoha_check_words(source, source_size, tokens, token_room * TERKINOHA_TOKEN_WORDS,
-                                 nodes, node_room * TERKINOHA_NODE_WORDS, diagnostics,
-                                 diagnostic_room * TERKINOHA_DIAGNOSTIC_WORDS, statements,
+    return terkinoha_check_words(source, source_size, (uint64_t *)tokens, token_room * TERKINOHA_TOKEN_WORDS,
+                                 (uint64_t *)nodes, node_room * TERKINOHA_NODE_WORDS, (uint64_t *)diagnostics,
+                                 diagnostic_room * TERKINOHA_DIAGNOSTIC_WORDS, (uint64_t *)statements,
                                  statement_room * TERKINOHA_STATEMENT_WORDS);
 }
 

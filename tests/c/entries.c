@@ -50,10 +50,8 @@ static size_t words(struct area area)
 static struct outcome check_words(struct lent lent)
 {
     const struct area *to = lent.filled;
-    terkinoha_token *tokens = (terkinoha_token *)area_lend(to[ROWS]);
-    terkinoha_node *nodes = (terkinoha_node *)area_lend(to[SECOND]);
-    terkinoha_diagnostic *found = (terkinoha_diagnostic *)area_lend(to[FINDINGS]);
-    terkinoha_statement *statements = (terkinoha_statement *)area_lend(to[STATEMENTS]);
+    uint64_t *tokens = (uint64_t *)area_lend(to[ROWS]), *nodes = (uint64_t *)area_lend(to[SECOND]);
+    uint64_t *found = (uint64_t *)area_lend(to[FINDINGS]), *statements = (uint64_t *)area_lend(to[STATEMENTS]);
     terkinoha_checked a = terkinoha_check_words(area_lend(lent.source), lent.source.size, tokens, words(to[ROWS]),
                                                 nodes, words(to[SECOND]), found, words(to[FINDINGS]), statements,
                                                 words(to[STATEMENTS]));
@@ -65,25 +63,24 @@ static struct outcome call(int entry, struct lent lent)
 {
     const void *source = area_lend(lent.source);
     size_t size = lent.source.size, row_words = words(lent.filled[ROWS]);
-    terkinoha_token *tokens = (terkinoha_token *)area_lend(lent.filled[ROWS]);
+    uint64_t *rows = (uint64_t *)area_lend(lent.filled[ROWS]);
     if (entry == SCAN) {
-        terkinoha_lexeme *lexemes = (terkinoha_lexeme *)area_lend(lent.filled[ROWS]);
-        terkinoha_scanned a = terkinoha_scan_words(source, size, lexemes, row_words);
+        terkinoha_scanned a = terkinoha_scan_words(source, size, rows, row_words);
         return outcome_of(a.verdict, a.lexemes, 0);
     }
     if (entry == LEX) {
-        terkinoha_lexed a = terkinoha_lex_words(source, size, tokens, row_words);
+        terkinoha_lexed a = terkinoha_lex_words(source, size, rows, row_words);
         return outcome_of(a.verdict, a.tokens, 0);
     }
     if (entry == PARSE) {
-        terkinoha_node *nodes = (terkinoha_node *)area_lend(lent.filled[SECOND]);
-        terkinoha_parsed a = terkinoha_parse_words(source, size, tokens, row_words, nodes, words(lent.filled[SECOND]));
+        uint64_t *nodes = (uint64_t *)area_lend(lent.filled[SECOND]);
+        terkinoha_parsed a = terkinoha_parse_words(source, size, rows, row_words, nodes, words(lent.filled[SECOND]));
         return outcome_of(a.verdict, a.tokens, a.nodes);
     }
     if (entry == CANONICALISE) {
         char *text = (char *)area_lend(lent.filled[SECOND]);
         size_t room = lent.filled[SECOND].size;
-        terkinoha_canonised a = terkinoha_canonicalise_words(source, size, tokens, row_words, text, room);
+        terkinoha_canonised a = terkinoha_canonicalise_words(source, size, rows, row_words, text, room);
         return outcome_of(a.verdict, a.tokens, a.bytes);
     }
     return check_words(lent);

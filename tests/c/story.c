@@ -133,7 +133,7 @@ static void try_story(void)
     CHECK(tokens[3].kind == 0 && tokens[17].kind == 0);
 }
 
-/* The same with what checking finds: the customer's own words were "nothing found". */
+/* The same with what checking finds: a call that fails must never read as "nothing found". */
 static void try_findings_story(void)
 {
     static struct left left;
@@ -207,6 +207,8 @@ static void try_threads(const char *one, const char *other)
 
 /* ---- on a stack of its own ---- */
 
+static terkinoha_lexeme lexemes[4096];
+static char text[65536];
 static terkinoha_token tokens[4096];
 static terkinoha_node nodes[4096];
 static terkinoha_diagnostic found[4096];
@@ -217,6 +219,38 @@ static void *parse_all(void *given)
     const char *source = (const char *)given;
     terkinoha_parsed parsed = terkinoha_parse(source, strlen(source), tokens, 4096, nodes, 4096);
     return parsed.verdict.number == TERKINOHA_DONE ? NULL : given;
+}
+
+static void *scan_all(void *given)
+{
+    const char *source = (const char *)given;
+    terkinoha_scanned scanned = terkinoha_scan(source, strlen(source), lexemes, 4096);
+    return scanned.verdict.number == TERKINOHA_DONE ? NULL : given;
+}
+
+static void *lex_all(void *given)
+{
+    const char *source = (const char *)given;
+    terkinoha_lexed lexed = terkinoha_lex(source, strlen(source), tokens, 4096);
+    return lexed.verdict.number == TERKINOHA_DONE ? NULL : given;
+}
+
+static void *canonicalise_all(void *given)
+{
+    const char *source = (const char *)given;
+    terkinoha_canonised canonised =
+        terkinoha_canonicalise(source, strlen(source), tokens, 4096, text, sizeof text);
+    return canonised.verdict.number == TERKINOHA_DONE ? NULL : given;
+}
+
+/* The source is one string token. */
+static void *bodies_all(void *given)
+{
+    const char *source = (const char *)given;
+    size_t size = strlen(source);
+    terkinoha_body first = terkinoha_next_body(source, size, 0, size);
+    terkinoha_body last = terkinoha_body_at(source, size, 0, size, 99);
+    return first.found && last.found ? NULL : given;
 }
 
 static void *check_all(void *given)
@@ -260,6 +294,23 @@ static void try_stack_of_lists(void)
     CHECK(stack_of(parse_all, source) < 32 * 1024);
 }
 
+/* What a line, tokens and their text can have: numbers of every kind, comments, strings in many literals. */
+static void try_stack_of_tokens(void)
+{
+    static char source[4096];
+    static char bodies[512];
+    for (int i = 0; i < 100; i++)
+        strcat(bodies, "\"b\" ");
+    for (int i = 0; i < 16; i++)
+        strcat(source, "let a = 0x7fffffffffffffffffffffffffffffff/1.2.3.4:65535; # c\n");
+    strcat(source, bodies);
+    strcat(source, "170141183460469231731687303715884105727 255.255.255.255 true import ::");
+    CHECK(stack_of(scan_all, source) < 32 * 1024);
+    CHECK(stack_of(lex_all, source) < 32 * 1024);
+    CHECK(stack_of(canonicalise_all, source) < 32 * 1024);
+    CHECK(stack_of(bodies_all, bodies) < 32 * 1024);
+}
+
 /* As many names as may be bound and imported, and as many steps as an expression may have, each inside the next. */
 static void try_stack_of_steps(void)
 {
@@ -288,6 +339,7 @@ int main(int argc, char **argv)
     try_threads(script, "f(,);");
     try_threads(nothing, "let b = g(0x1F, c: \"z\").m;");
     try_threads(findings, "let a = 1.2.3.4;\na/80;\n");
+    try_stack_of_tokens();
     try_stack_of_lists();
     try_stack_of_steps();
     printf("story: each answer is that of a first call, alone and beside another thread\n");
