@@ -1,4 +1,5 @@
--- What a reader must believe: document 01 and RFC 3629 as definitions, a file for each of their sections.
+-- What a reader must believe: RFC 3629 and document 01's sections "Lexemes", "Sentences", "Judgements", "Canonical text" and "Numbers
+-- handed back", as definitions.
 pub mod Choice
 pub mod Utf8
 pub mod Integers
@@ -7,17 +8,18 @@ pub mod Tokens
 pub mod Canonical
 pub mod Tables
 pub mod Sentences
+pub mod Values
+pub mod Judgements
+pub mod Findings
+pub mod Numbers
+-- What is proved of them: claims, and the words that these are said with. Nobody need believe more than what a claim says.
 pub mod Grammar
 pub mod Bounds
 pub mod Follows
 pub mod Counted
 pub mod Rows
-pub mod Values
-pub mod Judgements
-pub mod Findings
-pub mod Numbers
-pub mod Determined
-pub mod Checks
 pub mod Names
+pub mod Checks
+pub mod Determined
 pub mod Exactly
 pub mod Samples
