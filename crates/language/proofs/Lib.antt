@@ -46,6 +46,7 @@ pub mod NodeCalls
 pub mod RowClaims
 pub mod ParseClaims
 pub mod SentenceRefusals
+pub mod PortKinds
 pub mod BoundsPlaces
 pub mod BoundsFreer
 pub mod Bounds

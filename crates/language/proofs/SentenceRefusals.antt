@@ -14,7 +14,6 @@ use Rattle.language.specs.Tokens.{Content, eof, plain, name}
 use Rattle.language.specs.Tables.{contentKind}
 use Rattle.language.specs.Sentences.{Expr, sock4, member, call, slash′, Args, none-given, Stmt, import′, let′, expr′, Port, port, tooLarge, notPort, portOf, Out, ok, no, andThen, unexpected, outOfRange, tooDeep, mostSteps, mostLists, is, isName, isLiteral, namesFrom, address, named′, primary, links, chainOf, slashes, exprOf, argOf, argsOf, listAt, exprAt, ended, importAt, letAt, stmtAt, stmtsFrom, program}
 use Rattle.language.specs.Grammar.{isPort, isStep, StopsAtStep}
-use Rattle.language.specs.Follows.{TooLargePort}
 use Rattle.language.specs.Exactly.{Reason, unexpectedToken, intOutOfRange, oneTooMany, StopsFor}
 
 -- the three steps
@@ -28,9 +27,9 @@ module _ (ts : List Content) (at : ℕ) where
   pub at-slash : is ts at (plain slash) ≡ true → isStep ts at ≡ true
   at-slash h = rw (h, or-true (is ts at (plain lParen))) (or-true (is ts at (plain dot)))
 
--- a refusal stands at e or before and has a reason: 7 stands at a step, and 5's second kind at a port that is too large
+-- a refusal stands at e or before and has a reason: 7 stands at a step
 abbrev pub Refusal : List Content → ℕ → ℕ → ℕ → ℕ → Type 0
-Refusal ts e n k t = (t ≤ e) × Reason n k × (n ≡ 7 → isStep ts t ≡ true) × (k ≡ 2 → portOf (getD ts t eof) ≡ tooLarge)
+Refusal ts e n k t = (t ≤ e) × Reason n k × (n ≡ 7 → isStep ts t ≡ true)
 
 -- e is the index of an `Eof`
 module _ (ts : List Content) (e : ℕ) (end : getD ts e eof ≡ eof) where
@@ -46,10 +45,10 @@ module _ (ts : List Content) (e : ℕ) (end : getD ts e eof ≡ eof) where
   good l h = record { outcome = (l, h) }
 
   five : {A : Type 0} {m at : ℕ} → at ≤ e → Sound {A = A} m (unexpected at)
-  five l = record { outcome = (l, unexpectedToken, λ q. absurd (omega arith), λ q. absurd (omega arith)) }
+  five l = record { outcome = (l, unexpectedToken, λ q. absurd (omega arith)) }
 
   seven : {A : Type 0} {m at : ℕ} → at ≤ e → isStep ts at ≡ true → Sound {A = A} m (tooDeep at)
-  seven l p = record { outcome = (l, oneTooMany, λ _. p, λ q. absurd (omega arith)) }
+  seven l p = record { outcome = (l, oneTooMany, λ _. p) }
 
   either : {A : Type 0} {m : ℕ} (b : Bool) {o q : Out A} → (b ≡ true → Sound m o) → (b ≡ false → Sound m q) → Sound m (if′ b o q)
   either true h l = h refl
@@ -95,7 +94,7 @@ module _ (ts : List Content) (e : ℕ) (end : getD ts e eof ≡ eof) where
       by : at + 2 ≤ e → (p : Port) → portOf (getD ts (at + 2) eof) ≡ p
           → Sound {A = Expr} s (elim p [ port ↦ ok (sock4 at) (at + 3) s | tooLarge ↦ outOfRange (at + 2) | notPort ↦ unexpected (at + 2) ])
       by j port p = let i = passed (λ x. isPort (portOf x)) refl j (ap isPort p) in good (omega arith) (omega arith)
-      by j tooLarge p = record { outcome = (j, intOutOfRange, λ q. absurd (omega arith), λ _. p) }
+      by j tooLarge p = record { outcome = (j, intOutOfRange, λ q. absurd (omega arith)) }
       by j notPort p = five j
 
   named-sound : (at s : ℕ) → at < e → Sound s (named′ ts at s)
@@ -237,9 +236,6 @@ stops-for ts n k at h = refused ts h .1
 
 pub stops-at-step : StopsAtStep
 stops-at-step ts k at h = refused ts h .2 refl
-
-pub too-large-port : TooLargePort
-too-large-port ts t h = refused ts h .3 refl
 
 -- so a refusal has the number 5 or 7
 pub refused-number : (ts : List Content) (n k at : ℕ) → program ts ≡ no n k at → (n ≡ 5) ⊎ (n ≡ 7)
