@@ -99,16 +99,6 @@ pub enum Narrowed {
 
 // ---- counts
 
-fn failed(counts: Counts) -> Counts
-    requires { ⌜ counts .errors < 9223372036854775808 ⌝ }
-    ensures { λ r. ⌜ r ≡ plusError counts ⌝ }
-{
-    Counts {
-        errors: counts.errors + 1,
-        ..counts
-    }
-}
-
 fn named_one(counts: Counts) -> Counts
     requires { ⌜ counts .used < 512 ⌝ }
     ensures { λ r. ⌜ r ≡ plusName counts ⌝ }
@@ -221,7 +211,10 @@ fn error(diags: &mut [u64], f: Fault, counts: Counts) -> Counts
     ensures { λ r. ⌜ (r ≡ plusError counts) × (now (diags .exit) ≡ putRow (now (diags .entry)) (counts .errors + counts .warnings) (faultRow f)) ⌝ }
 {
     judging::put_diag(diags, counts.errors + counts.warnings, f);
-    failed(counts)
+    Counts {
+        errors: counts.errors + 1,
+        ..counts
+    }
 }
 
 fn warn(diags: &mut [u64], f: Fault, counts: Counts) -> Counts
@@ -531,13 +524,7 @@ fn stmt(
 }
 
 // All statements, one row after the other. Ports `run`.
-pub fn run(
-    source: &[u8],
-    toks: &[u64],
-    nodes: &[u64],
-    diags: &mut [u64],
-    stmts: &mut [u64],
-) -> Turn
+pub fn run(source: &[u8], toks: &[u64], nodes: &[u64], diags: &mut [u64], stmts: &mut [u64]) -> Turn
     requires { ⌜ Lexed (now source) (now toks) ⌝ }
     requires { ⌜ RowFits (now nodes) 0 noCounts ⌝ }
     ensures { λ r. ⌜ ((ss : List Stmt) → StmtsAt (now (nodes .entry)) 0 ss
