@@ -26,12 +26,12 @@ use Rattle.judging.specs.declared.Counts.{Counts}
 use Rattle.judging.specs.Judging.{tokenAs, Lexed}
 use Rattle.parse.specs.declared.ParseAnswer.{ParseAnswer}
 use Rattle.parse.specs.Entry.{ParseSource}
-use Rattle.checker.specs.declared.Turn.{Turn}
-use Rattle.checker.specs.declared.Turn.the-variants.{Went, Full}
+use Rattle.statements.specs.declared.Turn.{Turn}
+use Rattle.statements.specs.declared.Turn.the-variants.{Went, Full}
 use Rattle.checker.specs.declared.Call.{Call}
 use Rattle.checker.specs.declared.Call.the-variants.{At, Nowhere}
 use Rattle.checker.specs.declared.CheckAnswer.{CheckAnswer}
-use Rattle.checker.specs.Checking.{StmtsAt, noCounts, Grows, ComesTo, Comes}
+use Rattle.statements.specs.Checking.{StmtsAt, noCounts, Grows, ComesTo, Comes}
 use Rattle.checker.specs.Entry.{refusal, callAs, Parses, GivesUp, CheckSource}
 use Rattle.checker.proofs.Tables.{all-findings, all-held}
 use Rattle.checker.proofs.Calls.{some-call, none-called}

@@ -1,12 +1,5 @@
 -- The laws that the proofs of the functions cite.
-pub mod Statements
 pub mod Trees
-pub mod Stores
-pub mod Imports
-pub mod Lets
-pub mod LetStmts
-pub mod StmtRows
-pub mod Runs
 pub mod Calls
 pub mod Tables
 pub mod Parsed

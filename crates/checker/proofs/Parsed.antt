@@ -24,7 +24,7 @@ use Rattle.language.proofs.SentenceRefusals.{refused-number}
 use Rattle.language.proofs.TokensAt.{row-width, some-token}
 use Rattle.language.proofs.NodeClaims.{all-long, row-long}
 use Rattle.judging.specs.Judging.{Lexed}
-use Rattle.checker.specs.Checking.{StmtsAt, RowFits, noCounts}
+use Rattle.statements.specs.Checking.{StmtsAt, RowFits, noCounts}
 use Rattle.checker.specs.Entry.{Parses}
 use Rattle.checker.proofs.Trees.{all-stmts}
 

@@ -10,7 +10,7 @@ use Rattle.table.proofs.Laws.{length-flat, flat-word}
 use Rattle.language.specs.Sentences.{Expr, literal, sock4, local, path, member, call, slash′, Args, none-given, given, named, Stmt, import′, let′, expr′, firstOf, Node, node, nameNodes, exprSize, argsSize, lastOf, exprNodes, argNodes, nodesFrom, nodes, nodeRow}
 use Rattle.language.proofs.NodeClaims.{names-long, expr-long, args-long, some-node, row-long}
 use Rattle.judging.specs.Judging.{word, RepAt, is-literal, is-sock4, is-local, is-path, is-member, is-slash, is-call}
-use Rattle.checker.specs.Checking.{StmtsAt, at-end, no-stmt, an-import, a-let, an-expr}
+use Rattle.statements.specs.Checking.{StmtsAt, at-end, no-stmt, an-import, a-let, an-expr}
 
 -- past the end
 abbrev pub nowhere : Node

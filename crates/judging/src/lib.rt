@@ -586,11 +586,8 @@ pub fn warned(counts: Counts) -> Counts
     ensures { λ r. ⌜ r ≡ plusWarnings counts 1 ⌝ }
 {
     Counts {
-        used: counts.used,
-        imported: counts.imported,
-        errors: counts.errors,
         warnings: counts.warnings + 1,
-        statements: counts.statements,
+        ..counts
     }
 }
 

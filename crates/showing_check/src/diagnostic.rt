@@ -2,11 +2,11 @@
 ghost use Prim.Native.Nat.{_+_, _≤_};
 ghost use lib.ListN.{length};
 use crate::types;
-use checker::Checker;
 use constants::Ty;
 use judging::Fault;
 use judging::Text;
 use printing::output;
+use statements::Checker;
 use wide::Wide;
 
 // A row of the table of diagnostics.

@@ -3,11 +3,11 @@
 ghost use Prim.Native.Nat.{_+_, _≤_};
 ghost use lib.ListN.{length};
 use crate::types;
-use checker::Checker;
 use constants::Ty;
 use judging::Text;
 use printing::output;
 use printing::token;
+use statements::Checker;
 
 // A row of the table of statements.
 pub struct Statement {

@@ -8,7 +8,7 @@ use lib.ListN.{length, length-append}
 use Rattle.language.specs.Tokens.{Content}
 use Rattle.language.specs.Sentences.{Stmt, stmtNodes, nodesFrom, nodes, stmtSize}
 use Rattle.language.specs.Judgements.{Diag, Held, Known, known, Turn, goes, full, Outcome, judged, refused, stmt, onward, run, judgeAll}
-use Rattle.checker.proofs.Runs.{few-findings}
+use Rattle.statements.proofs.Runs.{few-findings}
 use Rattle.language.proofs.NodeClaims.{stmt-long, some-stmt-node}
 
 -- as many findings as a and as many statements as b, at the most

@@ -1,0 +1,8 @@
+-- The laws that the proofs of the functions cite.
+pub mod Statements
+pub mod Stores
+pub mod Imports
+pub mod Lets
+pub mod LetStmts
+pub mod StmtRows
+pub mod Runs
