@@ -62,7 +62,6 @@ value-wide n = omega arith
 
 -- ---- a step
 
-
 -- v and i of the loop: the digits before i give v
 pub record Reading (base : ℕ) (s : List ℕ) (at e : ℕ) (v : Wide) (i : ℕ) : Type 0 where
   pub inside : i ≤ e

@@ -106,10 +106,16 @@ module _ (b : ℕ) where
   unfolding notNewline
   no-newline e = rw (ne-eqb b 10 e)
 
-  pub body-test : {t : Bool} → eqb b 34 || eqb b 10 ≡ t → isBody b ≡ not t
+  body-test : {t : Bool} → eqb b 34 || eqb b 10 ≡ t → isBody b ≡ not t
   unfolding isBody
   body-test e = go (eqb b 34) (eqb b 10) ∙ ap not e
     where
       go : (p q : Bool) → not p && not q ≡ not (p || q)
       go true q = refl
       go false q = refl
+
+  pub body-stop : eqb b 34 || eqb b 10 ≡ true → isBody b ≡ false
+  body-stop e = body-test e
+
+  pub body-more : eqb b 34 || eqb b 10 ≡ false → isBody b ≡ true
+  body-more e = body-test e

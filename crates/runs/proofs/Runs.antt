@@ -33,6 +33,10 @@ module _ {f : List ℕ → ℕ → ℕ} {s : List ℕ} where
   pub begin : {at : ℕ} → at ≤ length s → Reached f s at at
   begin h = record { in-line = h; same = refl }
 
+  -- from what a call says of its result
+  pub reached : {at i : ℕ} → (i ≤ length s) × (f s i ≡ f s at) → Reached f s at i
+  reached h = record { in-line = h .0; same = h .1 }
+
   pub onward : {at i next : ℕ} → Reached f s at i → next ≤ length s → f s next ≡ f s i → Reached f s at next
   onward r h e = record { in-line = h; same = e ∙ r .same }
 

@@ -1,7 +1,6 @@
 use Prim.Native.Nat.{_-_}
-use lib.ListN.{length}
-use native.Mathlib.Omega.{arith}
 use borrow.Author.Needs.{needs}
+use lib.ListN.{length}
 use Rattle.language.specs.Lexemes.{notNewline}
 use Rattle.runs.specs.Runs.{runEnd}
 use Rattle.runs.proofs.Runs.{Reached, begin, run-two}
@@ -14,20 +13,9 @@ Inv-loop line at i₀ i = Reached (runEnd notNewline) line at i
 abbrev μ-loop : tie.MeasureT-loop
 μ-loop line at i₀ i = length line - i
 
-loop-holds : tie.Need-loop-holds Inv-loop μ-loop
-loop-holds c = begin (c .before .pre)
-
-returns : tie.Need-returns Inv-loop μ-loop
-returns c = let r = c .before .before .before .before .loop .inv in (r .in-line, r .same)
-
-loop-again : tie.Need-loop-again Inv-loop μ-loop
-loop-again c = run-two notNewline (c .before .before .before .before .loop .inv) (omega arith) (c .before .before .comment8 .ensures) (c .before .comment82 .ensures) (c .if1 .left)
-
-returns-2 : tie.Need-returns-2 Inv-loop μ-loop
-returns-2 c = let r = c .before .loop .inv in (r .in-line, r .same)
-
 pub comment-blocks-spec : {M : Type 1} → statement M
 comment-blocks-spec =
     tie.close
-    (tie.spec Inv-loop μ-loop loop-holds (λ c. search needs) (λ c. search needs) (λ c. search needs) (λ c. search needs)
-    returns (λ c. search needs) (λ c. search needs) loop-again returns-2)
+    (tie.spec Inv-loop μ-loop (λ c. search (needs, begin)) (λ c. search needs) (λ c. search needs) (λ c. search needs) (λ c. search needs)
+    (λ c. search needs) (λ c. search needs) (λ c. search needs)
+    (λ c. search (needs, run-two)) (λ c. search needs))
