@@ -10,13 +10,13 @@ use lib.ListN.{length, drop, length-take}
 use Rattle.language.specs.Lexemes.{Kind, scanFrom, lexeme}
 use Rattle.language.specs.Tokens.{unquoted, between, bodyOf, bodiesOf, bodiesIn}
 use Rattle.language.specs.Canonical.{quoted, spellBodies}
-use Rattle.scan.specs.declared.Lexeme.{Lexeme}
-use Rattle.scan.specs.declared.LexemeKind.the-variants as kind-is
+use Rattle.lexemes.specs.declared.Lexeme.{Lexeme}
+use Rattle.lexemes.specs.declared.LexemeKind.the-variants as kind-is
 use Rattle.scan.specs.declared.Scanner.{Scanner}
 use Rattle.scan.specs.declared.Step.the-variants.{Found, Done}
 use Rattle.scan.specs.Scanning as scanning
 use Rattle.scan.specs.Scanning.{stepAt}
-use Rattle.scan.proofs.LexemeKind as kind
+use Rattle.lexemes.proofs.LexemeKind as kind
 use Rattle.lex.proofs.Feeding.{turn, at-end}
 use Rattle.lex.proofs.Bodies.{part-size, unquoted-is, is-literal, no-literal}
 use Rattle.canon.specs.Writing.{Writes, literalsText, literalText}

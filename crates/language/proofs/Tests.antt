@@ -6,6 +6,7 @@ use mathlib.Core.List.{List, [], _∷_}
 use mathlib.Core.Logic.{_⊎_, inl, inr}
 use native.Mathlib.Omega.{arith}
 use native.Mathlib.Decide.{decLe}
+use types.Run.{OneOf}
 use borrow.Author.Tests.{eqb-true, leb-true, le-leb, lt-leb}
 use lib.Dec.{leb, eqb}
 use Rattle.language.specs.Choice.{if′, within}
@@ -24,6 +25,17 @@ both false b e = absurd (false≢true e)
 pub either : (a b : Bool) → a || b ≡ true → (a ≡ true) ⊎ (b ≡ true)
 either true b e = inl refl
 either false b e = inr e
+
+-- what holds of every key of an arm holds of one of them
+abbrev pub all : (ℕ → Bool) → List ℕ → Bool
+all f [] = true
+all f (k ∷ ks) = f k && all f ks
+
+pub of-each : (f : ℕ → Bool) (ks : List ℕ) (x : ℕ) → all f ks ≡ true → OneOf ks x → f x ≡ true
+of-each f [] x a h = absurd h
+of-each f (k ∷ []) x a h = rw h (both (f k) true a .0)
+of-each f (k ∷ j ∷ ks) x a (inl e) = rw e (both (f k) (all f (j ∷ ks)) a .0)
+of-each f (k ∷ j ∷ ks) x a (inr h) = of-each f (j ∷ ks) x (both (f k) (all f (j ∷ ks)) a .1) h
 
 -- lists that pass the test are equal
 pub same-equal : (v w : List ℕ) → same v w ≡ true → v ≡ w

@@ -14,13 +14,14 @@ use lib.Seq.{drop-cons, take-take, length-take-le}
 use Rattle.language.specs.Lexemes.{Kind, trivia, str, tok, error, scanFrom, lexeme}
 use Rattle.language.specs.Tokens.{unquoted, between, bodyOf, bodiesOf, bodiesIn}
 use Rattle.language.proofs.Tests.{never}
-use Rattle.scan.specs.declared.Lexeme.{Lexeme}
-use Rattle.scan.specs.declared.LexemeKind.the-variants as kind-is
+use Rattle.lexemes.specs.declared.Lexeme.{Lexeme}
+use Rattle.lexemes.specs.declared.LexemeKind.the-variants as kind-is
 use Rattle.scan.specs.declared.Scanner.{Scanner}
 use Rattle.scan.specs.declared.Step.the-variants.{Found, Done}
 use Rattle.scan.specs.Scanning as scanning
-use Rattle.scan.specs.Scanning.{kindAs, stepAt}
-use Rattle.scan.proofs.LexemeKind as kind
+use Rattle.lexemes.specs.Kinds.{kindAs}
+use Rattle.scan.specs.Scanning.{stepAt}
+use Rattle.lexemes.proofs.LexemeKind as kind
 use Rattle.scan.proofs.Parts.{some-body, no-body}
 use Rattle.lex.specs.Lexing.{nth, bodyAt}
 use Rattle.lex.proofs.Feeding.{turn, at-end}

@@ -15,16 +15,17 @@ use Rattle.language.specs.Numbers as numbers
 use Rattle.language.proofs.Tests.{never}
 use Rattle.language.proofs.LexemeSizes.{size-fits}
 use Rattle.language.proofs.LexemeSpans.{scan-unfolds}
-use Rattle.scan.specs.declared.LexErrorKind.{LexErrorKind}
-use Rattle.scan.specs.declared.LexemeKind.{LexemeKind}
-use Rattle.scan.specs.declared.LexemeKind.the-variants as kind-is
-use Rattle.scan.specs.declared.Lexeme.{Lexeme}
+use Rattle.lexemes.specs.declared.LexErrorKind.{LexErrorKind}
+use Rattle.lexemes.specs.declared.LexemeKind.{LexemeKind}
+use Rattle.lexemes.specs.declared.LexemeKind.the-variants as kind-is
+use Rattle.lexemes.specs.declared.Lexeme.{Lexeme}
 use Rattle.scan.specs.declared.Scanner.{Scanner}
 use Rattle.scan.specs.declared.Step.the-variants.{Found, Done}
 use Rattle.scan.specs.declared.Verdict.{Verdict}
-use Rattle.scan.specs.Scanning.{errorAs, kindAs, lexemeAs, found, stepAt, errorNumber, errorChar, verdictAs}
-use Rattle.scan.proofs.Starts.{here}
-use Rattle.scan.proofs.Filling.{same-error}
+use Rattle.lexemes.specs.Kinds.{errorAs, kindAs, lexemeAs, errorNumber, errorChar}
+use Rattle.scan.specs.Scanning.{found, stepAt, verdictAs}
+use Rattle.runs.proofs.Places.{here}
+use Rattle.lexemes.proofs.Rows.{same-error}
 use Rattle.lex.specs.declared.Lexer.{Lexer}
 use Rattle.lex.specs.declared.Fed.{Fed}
 use Rattle.lex.specs.declared.Fed.the-variants.{Goes, Stops}

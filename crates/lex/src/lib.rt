@@ -5,15 +5,15 @@ ghost use Prim.Native.Nat.{_+_, _≤_};
 ghost use lib.ListN.{length};
 ghost use Rattle.language.specs.Tokens.{placeOf, between, bodiesIn};
 ghost use Rattle.lex.specs.Entry.{LexSource};
-ghost use Rattle.scan.specs.Scanning.{errorNumber, errorChar};
+ghost use Rattle.lexemes.specs.Kinds.{errorNumber, errorChar};
 ghost use Rattle.lex.specs.Lexing.{Strings, Flushes, Tokens, Few, lineItems, Feeds, Finishes, lineEnd, FeedsAll, spotAs, nth, bodyAt};
+use lexemes::LexErrorKind;
+use lexemes::LexemeKind;
+use lexemes::Tok;
 use rows::TokKind;
 use rows::TokenRow;
-use scan::LexErrorKind;
-use scan::LexemeKind;
 use scan::Scanner;
 use scan::Step;
-use scan::Tok;
 use scan::Verdict;
 use utf8::Bad;
 
@@ -251,7 +251,7 @@ fn line_end(source: &[u8], at: usize) -> usize
     requires { ⌜ at ≤ length (now source) ⌝ }
     ensures { λ r. ⌜ r ≡ lineEnd (now (source .entry)) at ⌝ }
 {
-    scan::eat_comment(source, at)
+    runs::eat_comment(source, at)
 }
 
 // The line and the column of a byte.

@@ -2,9 +2,9 @@
 ghost use Prim.Native.Nat.{_+_, _≤_};
 ghost use lib.ListN.{length};
 use crate::output;
+use lexemes::LexErrorKind;
 use rows::TokKind;
 use rows::TokenRow;
-use scan::LexErrorKind;
 use wide::Wide;
 
 // What is shown of a token: its kind, where it starts and ends in the source, and its value.

@@ -2,11 +2,11 @@
 // its own.
 ghost use Prim.Native.Nat.{_≤_};
 use crate::sources;
+use lexemes::Lexeme;
 use printing::header::Mode;
 use printing::input::Unread;
 use rows::NodeRow;
 use rows::TokenRow;
-use scan::Scanner;
 use showing_check::Diagnostic;
 use showing_check::Statement;
 
@@ -44,7 +44,7 @@ fn token_words(mode: Mode, rows: u64) -> usize
 {
     let n = at_most(rows, Lent::TOKENS);
     if let Mode::Scan = mode {
-        return n * Scanner::ROW_WORDS;
+        return n * Lexeme::ROW_WORDS;
     }
     n * TokenRow::WORDS
 }

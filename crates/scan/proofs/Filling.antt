@@ -9,77 +9,18 @@ use lib.ListN.{length, getD, drop, length-append, length-drop, drop-of-length-le
 use lib.Seq.{drop-drop}
 use Rattle.table.specs.Table.{padTo, tabled, putRow}
 use Rattle.table.proofs.Laws.{put-next, tabled-none}
-use Rattle.language.specs.Lexemes as language
-use Rattle.language.specs.Lexemes.{Kind, Placed, trivia, str, tok, error, placed, scanFrom, scan, lexeme}
-use Rattle.language.specs.Lexemes.{lParen, rParen, dot, doubleColon, colon, semiColon, equals, comma, slash, importKeyword, letKeyword, identifier, booleanLiteral, ipv4Literal, hexLiteral, decLiteral, unexpectedChar, unterminatedString, intOutOfRange, intLeadingZero, intInvalidSuffix, badIPv4Literal}
-use Rattle.language.specs.Tables.{lexemeRow, lexemeWidth, tokKind, tokLow, tokHigh, errorKind, classOf, kindOf, lowOf, highOf}
-use Rattle.language.specs.Tables as tables
+use Rattle.language.specs.Lexemes.{Placed, placed, scanFrom, scan, lexeme}
+use Rattle.language.specs.Tables.{lexemeRow, lexemeWidth}
 use Rattle.language.proofs.Tests.{never}
 use Rattle.language.proofs.LexemeSizes.{size-fits}
 use Rattle.language.proofs.LexemeSpans.{scan-unfolds}
-use Rattle.scan.specs.declared.Lexeme.{Lexeme}
+use Rattle.lexemes.specs.declared.Lexeme.{Lexeme}
+use Rattle.lexemes.specs.Kinds.{lexemeAs, rowOf}
+use Rattle.lexemes.proofs.Rows.{row-is, row-width}
+use Rattle.runs.proofs.Places.{here}
 use Rattle.scan.specs.declared.Scanner.{Scanner}
 use Rattle.scan.specs.declared.Step.the-variants.{Found, Done}
-use Rattle.scan.specs.Scanning.{tokAs, errorAs, kindAs, lexemeAs, tokNumber, tokValue, errorNumber, errorChar, classNumber, kindNumber, kindValue, rowOf, found, stepAt}
-use Rattle.scan.proofs.Starts.{here}
-
--- ---- a row
-
--- what the numbers of a code's kind are, all four together, so that each kind is met once
-record Same (t : language.Tok) : Type 0 where
-  number : tokNumber (tokAs t) ≡ tokKind t
-  low : tokValue (tokAs t) .lo ≡ tokLow t
-  high : tokValue (tokAs t) .hi ≡ tokHigh t
-
-same-tok : (t : language.Tok) → Same t
-same-tok lParen = record { number = refl; low = refl; high = refl }
-same-tok rParen = record { number = refl; low = refl; high = refl }
-same-tok dot = record { number = refl; low = refl; high = refl }
-same-tok doubleColon = record { number = refl; low = refl; high = refl }
-same-tok colon = record { number = refl; low = refl; high = refl }
-same-tok semiColon = record { number = refl; low = refl; high = refl }
-same-tok equals = record { number = refl; low = refl; high = refl }
-same-tok comma = record { number = refl; low = refl; high = refl }
-same-tok slash = record { number = refl; low = refl; high = refl }
-same-tok importKeyword = record { number = refl; low = refl; high = refl }
-same-tok letKeyword = record { number = refl; low = refl; high = refl }
-same-tok identifier = record { number = refl; low = refl; high = refl }
-same-tok (booleanLiteral b) = record { number = refl; low = refl; high = refl }
-same-tok (ipv4Literal n) = record { number = refl; low = refl; high = refl }
-same-tok (hexLiteral n) = record { number = refl; low = refl; high = refl }
-same-tok (decLiteral n) = record { number = refl; low = refl; high = refl }
-
-pub same-error : (e : language.LexErrorKind) → (errorNumber (errorAs e) ≡ errorKind e) × (errorChar (errorAs e) ≡ tables.errorChar e)
-same-error (unexpectedChar c) = (refl, refl)
-same-error unterminatedString = (refl, refl)
-same-error intOutOfRange = (refl, refl)
-same-error intLeadingZero = (refl, refl)
-same-error intInvalidSuffix = (refl, refl)
-same-error badIPv4Literal = (refl, refl)
-
--- the code's row is the language's
-row-is : (at : ℕ) (l : language.Lexeme) → rowOf (lexemeAs at l) ≡ lexemeRow (placed at l)
-unfolding lexemeRow
-row-is at l = go (l .kind)
-  where
-    words : ℕ → ℕ → ℕ → ℕ → List ℕ
-    words c k x y = at ∷ (at + l .size) ∷ c ∷ k ∷ x ∷ y ∷ []
-
-    go : (k : Kind) → words (classNumber (kindAs k)) (kindNumber (kindAs k)) (kindValue (kindAs k) .lo) (kindValue (kindAs k) .hi)
-        ≡ words (classOf k) (kindOf k) (lowOf k) (highOf k)
-    go trivia = refl
-    go str = refl
-    go (tok t) = let s = same-tok t in rw (s .number, s .low, s .high)
-    go (error e) = let s = same-error e in rw (s .0, s .1)
-
-row-width : (p : Placed) → length (lexemeRow p) ≡ lexemeWidth
-unfolding lexemeRow
-row-width p = refl
-
-pub row-long : (l : Lexeme) {r : List ℕ} → r ≡ rowOf l → length r ≤ 4096
-row-long l e = rw e (omega arith)
-
--- ---- the loop
+use Rattle.scan.specs.Scanning.{found, stepAt}
 
 -- `count` lexemes are done, their rows are in the table of n words, and the scanner stands at `pos`
 pub record Filling (line : List ℕ) (n : ℕ) (table : List ℕ) (count pos : ℕ) : Type 0 where

@@ -6,7 +6,8 @@ use native.Mathlib.Omega.{arith}
 use native.Mathlib.Decide.{decLe}
 use borrow.Author.Tests.{le-leb, lt-leb}
 use lib.ListN.{length}
-use Rattle.scan.specs.Scanning.{between, bodyOf}
+use Rattle.runs.specs.Runs.{between}
+use Rattle.scan.specs.Scanning.{bodyOf}
 
 module _ (s : List ℕ) (at e : ℕ) where
   pub some-body : e ≤ length s → at + 1 < e → between s (at + 1) (e - 1) ≡ bodyOf s at e

@@ -1,31 +1,32 @@
 -- What starts at a place of a line, by the tests that the scanner makes there.
 use mathlib.Core.Path.{_≡_, refl, sym, ap, _∙_}
-use mathlib.Core.Bool.{Bool, true, false, _||_, false≢true}
+use mathlib.Core.Bool.{true, false, _||_, false≢true}
 use mathlib.Core.List.{List, _∷_}
 use mathlib.Core.Option.{Option, none, some}
 use mathlib.Core.Logic.{⊎-elim}
 use Prim.Native.Nat.{ℕ, _+_, _-_, _≤_, _<_}
-use native.Mathlib.Numerals.{add-one}
 use native.Mathlib.Nat.{add-zero, add-assoc}
 use native.Mathlib.Omega.{arith}
 use borrow.Author.Tests.{eq-eqb, ne-eqb, lt-ltb, le-ltb}
-use lib.ListN.{length, getD, take, drop, length-drop}
-use lib.Seq.{drop-cons, getD-drop}
+use lib.ListN.{length, getD, take, drop}
+use lib.Seq.{getD-drop}
 use Rattle.language.specs.Choice.{if′, within}
 use Rattle.language.specs.Utf8.{Char, char, noChar, charAt}
 use Rattle.language.specs.Lexemes as language
 use Rattle.language.specs.Lexemes.{slash, doubleColon, colon, tok, error, unexpectedChar, isBlank, isDigit, isWordStart, isWord, isBody, notNewline, run, word, number, lexemeOf, comment, string, punctuation, ascii, lexeme}
 use Rattle.language.proofs.Tests.{inside, either, never}
-use Rattle.language.proofs.LexemeSizes.{run-fits}
+use Rattle.runs.proofs.Places.{here}
 use Rattle.utf8.specs.Decoding.{placed}
 use Rattle.utf8.specs.declared.Decoded.the-variants.{Read, Nothing}
-use Rattle.scan.specs.declared.Tok.{Tok}
-use Rattle.scan.specs.declared.Lexeme.{Lexeme}
-use Rattle.scan.specs.declared.LexemeKind.{LexemeKind}
-use Rattle.scan.specs.declared.LexemeKind.the-variants as kind-is
-use Rattle.scan.specs.declared.LexErrorKind.the-variants as error-is
+use Rattle.lexemes.specs.declared.Tok.{Tok}
+use Rattle.lexemes.specs.declared.Lexeme.{Lexeme}
+use Rattle.lexemes.specs.declared.LexemeKind.{LexemeKind}
+use Rattle.lexemes.specs.declared.LexemeKind.the-variants as kind-is
+use Rattle.lexemes.specs.declared.LexErrorKind.the-variants as error-is
 use Rattle.scan.specs.declared.Mark.the-variants.{Is, Not}
-use Rattle.scan.specs.Scanning.{runEnd, blankEnd, tokAs, markAs, lexemeAs, wordAt, signOf, stepAt}
+use Rattle.lexemes.specs.Kinds.{tokAs, lexemeAs}
+use Rattle.runs.specs.Runs.{runEnd, blankEnd}
+use Rattle.scan.specs.Scanning.{markAs, wordAt, signOf, stepAt}
 use Rattle.scan.specs.declared.Step.the-variants.{Found, Done}
 
 -- a lexeme of the code, from its parts
@@ -89,15 +90,6 @@ mark-none (some u) k = never (cc)
 mark-none none k = refl
 
 module _ (line : List ℕ) (at : ℕ) where
-  -- where the line has a byte here, the rest begins with it
-  pub here : at < length line → drop at line ≡ getD line at 0 ∷ drop (at + 1) line
-  here h = rw (add-one, drop-cons line at 0)
-
-  -- a run that starts here ends within the line
-  pub run-ends : (p : ℕ → Bool) → at ≤ length line → (at ≤ runEnd p line at) × (runEnd p line at ≤ length line)
-  unfolding runEnd
-  run-ends p h = (omega arith, omega (arith, run-fits p (drop at line), length-drop at line))
-
   -- ---- strings and comments
 
   pub comment-is : (e : ℕ) → e ≡ runEnd notNewline line (at + 1) → made at e kind-is.Trivia ≡ lexemeAs at (comment 1 (drop (at + 1) line))
@@ -161,7 +153,7 @@ module _ (line : List ℕ) (at : ℕ) where
   unfolding runEnd
   ascii-word e h w r =
       let n : e - at ≡ run isWord (drop at line) = omega arith in
-      rw (ascii-of-word (getD line at 0) (drop (at + 1) line) (drop at line) (here h) w, n, r)
+      rw (ascii-of-word (getD line at 0) (drop (at + 1) line) (drop at line) (here line at h) w, n, r)
 
   -- the same from what the calls say of their results
   pub worded : (e : ℕ) (t : Tok) (r : Lexeme) → at < length line → isWordStart (getD line at 0) ≡ true → e ≡ runEnd isWord line at → t ≡ wordAt line at e
@@ -170,7 +162,7 @@ module _ (line : List ℕ) (at : ℕ) where
 
   pub ascii-digit : at < length line → isWordStart (getD line at 0) ≡ false → isDigit (getD line at 0) ≡ true
       → number (drop at line) ≡ ascii (getD line at 0) (drop (at + 1) line)
-  ascii-digit h w d = rw (ascii-of-digit (getD line at 0) (drop (at + 1) line) w d, ← here h)
+  ascii-digit h w d = rw (ascii-of-digit (getD line at 0) (drop (at + 1) line) w d, ← here line at h)
 
   pub ascii-mark : (t : Tok) → Is t ≡ markAs (punctuation (getD line at 0)) → made at (at + 1) (kind-is.Tok t) ≡ lexemeAs at (ascii (getD line at 0) (drop (at + 1) line))
   ascii-mark t m = ascii-of-mark (getD line at 0) (drop (at + 1) line) at t m
@@ -188,7 +180,7 @@ module _ (line : List ℕ) (at : ℕ) where
     read c next r = go (charAt (drop at line)) refl r
       where
         go : (x : Char) → charAt (drop at line) ≡ x → Read c next ≡ placed at x → (size : ℕ) × (charAt (getD line at 0 ∷ drop (at + 1) line) ≡ char c size) × (next ≡ at + size)
-        go (char n size) e k = let z : n ≡ c = cc in let y : next ≡ at + size = cc in (size, rw (← here h, ← z) e, y)
+        go (char n size) e k = let z : n ≡ c = cc in let y : next ≡ at + size = cc in (size, rw (← here line at h, ← z) e, y)
         go noChar e k = never (cc)
 
     pub lexeme-blank : (c next e : ℕ) → Read c next ≡ placed at (charAt (drop at line)) → isBlank c ≡ true → e ≡ blankEnd line at
@@ -196,19 +188,19 @@ module _ (line : List ℕ) (at : ℕ) where
     unfolding lexeme blankEnd
     lexeme-blank c next e r k b =
         let x = read c next r in
-        rw (here h, x .1, k, ← here h, b)
+        rw (here line at h, x .1, k, ← here line at h, b)
 
     pub lexeme-ascii : (c next : ℕ) → Read c next ≡ placed at (charAt (drop at line)) → isBlank c ≡ false → c < 128
         → ascii (getD line at 0) (drop (at + 1) line) ≡ lexeme (drop at line)
     unfolding lexeme
-    lexeme-ascii c next r k l = let x = read c next r in rw (here h, x .1, k, lt-ltb _ _ l)
+    lexeme-ascii c next r k l = let x = read c next r in rw (here line at h, x .1, k, lt-ltb _ _ l)
 
     pub lexeme-other : (c next : ℕ) → Read c next ≡ placed at (charAt (drop at line)) → isBlank c ≡ false → 128 ≤ c
         → made at next (kind-is.Error (error-is.UnexpectedChar c)) ≡ lexemeAs at (lexeme (drop at line))
     unfolding lexeme
     lexeme-other c next r k l =
         let x = read c next r in
-        let z : lexeme (drop at line) ≡ lexemeOf (error (unexpectedChar c)) (x .0) = rw (here h, x .1, k, le-ltb _ _ l) in
+        let z : lexeme (drop at line) ≡ lexemeOf (error (unexpectedChar c)) (x .0) = rw (here line at h, x .1, k, le-ltb _ _ l) in
         ap (λ (e : ℕ). made at e (kind-is.Error (error-is.UnexpectedChar c))) (x .2) ∙ ap (lexemeAs at) (sym z)
 
     pub lexeme-none : Nothing ≡ placed at (charAt (drop at line))
@@ -218,7 +210,7 @@ module _ (line : List ℕ) (at : ℕ) where
       where
         go : (x : Char) → charAt (drop at line) ≡ x → Nothing ≡ placed at x → made at (at + 1) (kind-is.Error (error-is.UnexpectedChar (getD line at 0))) ≡ lexemeAs at (lexeme (drop at line))
         go (char n size) e k = never (cc)
-        go noChar e k = let z : charAt (getD line at 0 ∷ drop (at + 1) line) ≡ noChar = rw (← here h) e in rw (here h, z)
+        go noChar e k = let z : charAt (getD line at 0 ∷ drop (at + 1) line) ≡ noChar = rw (← here line at h) e in rw (here line at h, z)
 
 -- ---- the scanner
 

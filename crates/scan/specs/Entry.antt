@@ -2,7 +2,6 @@
 use mathlib.Core.Path.{_≡_}
 use mathlib.Core.List.{List}
 use Prim.Native.Nat.{ℕ, _/_}
-use lib.ListN.{length}
 use Rattle.language.specs.Tables.{lexemeWidth}
 use Rattle.language.specs.Numbers.{scanAnswer, scanTable}
 use Rattle.scan.specs.declared.Scanned.{Scanned}

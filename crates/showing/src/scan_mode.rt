@@ -1,12 +1,12 @@
 // The mode `scan`: each source is one line, and each lexeme a line of the answer.
 ghost use Prim.Native.Nat.{_+_, _≤_};
 ghost use lib.ListN.{length};
+use lexemes::Lexeme;
+use lexemes::LexemeKind;
 use printing::output;
 use printing::token;
 use printing::token::Token;
 use printing::verdict;
-use scan::LexemeKind;
-use scan::Scanner;
 use scan::Verdict;
 use wide::Wide;
 
@@ -70,12 +70,12 @@ fn lexemes(source: &[u8], table: &[u64], count: u64, out: &mut [u8], at: usize) 
     let mut left = count;
     let mut word: usize = 0;
     while 0 < left {
-        if table.len() - word < Scanner::ROW_WORDS {
+        if table.len() - word < Lexeme::ROW_WORDS {
             return p;
         }
         let row = row_at(table, word);
         p = lexeme(source, row, out, p);
-        word += Scanner::ROW_WORDS;
+        word += Lexeme::ROW_WORDS;
         left -= 1;
     }
     p

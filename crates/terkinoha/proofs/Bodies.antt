@@ -9,12 +9,13 @@ use denote.Enum.Declared.{tagOf}
 use lib.ListN.{length, take, drop, length-take}
 use lib.Seq.{drop-nil, drop-drop}
 use Rattle.language.specs.Lexemes.{Kind, trivia, str, tok, error, lexeme}
-use Rattle.scan.specs.declared.Lexeme.{Lexeme}
-use Rattle.scan.specs.declared.LexemeKind.the-variants as kind-is
+use Rattle.lexemes.specs.declared.Lexeme.{Lexeme}
+use Rattle.lexemes.specs.declared.LexemeKind.the-variants as kind-is
 use Rattle.scan.specs.declared.Scanner.{Scanner}
 use Rattle.scan.specs.declared.Step.the-variants.{Found, Done}
-use Rattle.scan.specs.Scanning.{kindAs, stepAt}
-use Rattle.scan.proofs.LexemeKind as kind
+use Rattle.lexemes.specs.Kinds.{kindAs}
+use Rattle.scan.specs.Scanning.{stepAt}
+use Rattle.lexemes.proofs.LexemeKind as kind
 use Rattle.lex.proofs.Feeding.{turn, at-end}
 use Rattle.lex.proofs.Bodies.{is-literal}
 use Rattle.terkinoha.specs.declared.Literal.{Literal}

@@ -14,7 +14,8 @@ use Rattle.language.specs.Tokens.{Token, eof, string, items, tokensFrom, tokens
 use Rattle.language.proofs.Tests.{never}
 use Rattle.language.proofs.LexemeSpans.{scan-unfolds}
 use Rattle.language.proofs.TokenClaims.{places-right, bodies-held}
-use Rattle.scan.specs.Scanning.{lexemeAs, stepAt}
+use Rattle.lexemes.specs.Kinds.{lexemeAs}
+use Rattle.scan.specs.Scanning.{stepAt}
 use Rattle.lex.proofs.Feeding.{Turn, turn}
 use Rattle.terkinoha.specs.Bodies.{Span, spanOf, spansFrom, bodySpans, first, WalkGoesOn, BodiesLie}
 

@@ -4,7 +4,7 @@ ghost use mathlib.Core.Path.{_≡_};
 ghost use lib.ListN.{length, drop};
 ghost use Rattle.terkinoha.specs.Entry.{verdictOf, ScanLine, LexSource, ParseSource, CanonSource, CheckSource};
 ghost use Rattle.terkinoha.specs.Bodies.{none, first, bodySpans, FirstOf};
-use scan::LexemeKind;
+use lexemes::LexemeKind;
 use scan::Scanner;
 use scan::Step;
 

@@ -1,4 +1,4 @@
-use Rattle.scan.specs.Scanning.{runEnd}
+use Rattle.runs.specs.Runs.{runEnd}
 use borrow.Author.Needs.{needs}
 use Rattle.lex.proofs.line_end.Statement.{statement}
 use Rattle.lex.proofs.line_end.Tie as tie

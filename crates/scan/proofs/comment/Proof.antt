@@ -2,9 +2,6 @@ use Rattle.scan.proofs.Starts.{comment-is}
 use borrow.Author.Needs.{needs}
 use Rattle.scan.proofs.comment.Statement.{statement}
 use Rattle.scan.proofs.comment.Tie as tie
-use Rattle.scan.proofs.comment.Reads as reads
-use Rattle.scan.proofs.comment.Lts as lts
-use Rattle.scan.proofs.eat_comment.Reads as eat-comment-reads
 
 returns : tie.Need-returns
 returns c = comment-is (c .before .before .args .line .now) (c .before .before .args .at) _ (c .eat-comment .ensures)

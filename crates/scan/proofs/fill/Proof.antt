@@ -1,17 +1,12 @@
 use Prim.Native.Nat.{_-_}
-use mathlib.Core.Path.{_≡_, refl, sym, ap, _∙_}
+use mathlib.Core.Path.{_≡_, refl, sym, _∙_}
 use lib.ListN.{length}
-use Rattle.scan.proofs.Filling.{Filling, start, shrinks, more-is, counted-all, rows-all, row-long}
+use Rattle.scan.proofs.Filling.{Filling, start, shrinks, more-is, counted-all, rows-all}
+use Rattle.lexemes.proofs.Rows.{row-long}
 use borrow.Author.Needs.{needs}
 use native.Mathlib.Omega.{arith}
 use Rattle.scan.proofs.fill.Statement.{statement}
 use Rattle.scan.proofs.fill.Tie as tie
-use Rattle.scan.proofs.fill.Reads as reads
-use Rattle.scan.proofs.fill.Lts as lts
-use Rattle.scan.proofs.Scanner.new.Reads as new-reads
-use Rattle.scan.proofs.Scanner.next.Reads as next-reads
-use Rattle.scan.proofs.row_of.Reads as row-of-reads
-use Rattle.table.proofs.put_row.Reads as put-row-reads
 
 abbrev Inv-loop : tie.InvT-loop
 Inv-loop line table₀ scanner₀ count₀ table scanner count = (length table ≡ length table₀) × Filling line (length table₀) table count (scanner .pos)

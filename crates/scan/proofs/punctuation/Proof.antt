@@ -1,5 +1,5 @@
 use Rattle.language.specs.Lexemes.{punctuation}
-use Rattle.scan.proofs.Bytes.{no-mark}
+use Rattle.scan.proofs.Tokens.{no-mark}
 use Rattle.scan.proofs.punctuation.Statement.{statement}
 use Rattle.scan.proofs.punctuation.Tie as tie
 

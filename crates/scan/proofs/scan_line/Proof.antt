@@ -1,4 +1,4 @@
-use mathlib.Core.Path.{_≡_, refl, sym, ap, _∙_}
+use mathlib.Core.Path.{refl, sym, _∙_}
 use mathlib.Core.List.{[]}
 use Rattle.table.proofs.Laws.{pad-own}
 use Rattle.utf8.proofs.Places.{bad-within}
@@ -8,12 +8,6 @@ use native.Mathlib.Omega.{arith}
 use borrow.Author.Needs.{needs}
 use Rattle.scan.proofs.scan_line.Statement.{statement}
 use Rattle.scan.proofs.scan_line.Tie as tie
-use Rattle.scan.proofs.scan_line.Reads as reads
-use Rattle.scan.proofs.scan_line.Lts as lts
-use Rattle.scan.proofs.Verdict.new.Reads as new-reads
-use Rattle.scan.proofs.fill.Reads as fill-reads
-use Rattle.table.proofs.clear.Reads as clear-reads
-use Rattle.utf8.proofs.first_bad.Reads as first-bad-reads
 
 same-length : tie.Need-same-length
 same-length c = search needs

@@ -1,15 +1,12 @@
-use Rattle.scan.proofs.Starts.{run-ends, string-closed, string-open}
+use Rattle.runs.proofs.Places.{run-ends}
+use Rattle.scan.proofs.Starts.{string-closed, string-open}
 use Rattle.language.specs.Lexemes.{isBody}
-use mathlib.Core.Path.{_≡_, refl, sym, ap, _∙_}
+use mathlib.Core.Path.{sym, _∙_}
 use Prim.Native.Nat.{_+_}
 use native.Mathlib.Omega.{arith}
 use borrow.Author.Needs.{needs}
 use Rattle.scan.proofs.string.Statement.{statement}
 use Rattle.scan.proofs.string.Tie as tie
-use Rattle.scan.proofs.string.Reads as reads
-use Rattle.scan.proofs.string.Lts as lts
-use Rattle.scan.proofs.eat_body.Reads as eat-body-reads
-use Rattle.scan.proofs.peek.Reads as peek-reads
 
 add-t7 : tie.Need-add-t7
 add-t7 c = let e = run-ends (c .before .before .before .before .args .line .now) ((c .before .before .before .before .args .at) + 1) isBody (omega arith) in let r = c .before .before .eat-body .ensures in omega arith

@@ -1,6 +1,6 @@
 use mathlib.Core.Path.{sym, _∙_}
 use borrow.Author.Needs.{needs}
-use Rattle.scan.proofs.Words.{word-import, word-let, word-true, word-false, word-other}
+use Rattle.scan.proofs.Tokens.{word-import, word-let, word-true, word-false, word-other}
 use Rattle.scan.proofs.word.Statement.{statement}
 use Rattle.scan.proofs.word.Tie as tie
 

@@ -7,8 +7,6 @@ use Rattle.lex.proofs.Lexer.token.Reads as reads
 use Rattle.lex.proofs.Lexer.token.Lts as lts
 use Rattle.lex.proofs.Lexer.flush.Reads as flush-reads
 use Rattle.lex.proofs.PendingStr.none.Reads as none-reads
-use Rattle.scan.proofs.Tok.kind.Reads as kind-reads
-use Rattle.scan.proofs.Tok.value.Reads as value-reads
 use Rattle.table.proofs.put_row.Reads as put-row-reads
 
 put-row-requires : tie.Need-put-row-requires

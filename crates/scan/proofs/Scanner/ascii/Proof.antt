@@ -1,21 +1,12 @@
 use mathlib.Core.Path.{sym, ap, _∙_}
-use Rattle.scan.specs.Scanning.{lexemeAs}
-use Rattle.scan.proofs.Starts.{run-ends, ascii-digit, ascii-mark, ascii-sign, worded}
+use Rattle.lexemes.specs.Kinds.{lexemeAs}
+use Rattle.runs.proofs.Places.{run-ends}
+use Rattle.scan.proofs.Starts.{ascii-digit, ascii-mark, ascii-sign, worded}
 use Rattle.language.specs.Lexemes.{isWord}
 use native.Mathlib.Omega.{arith}
 use borrow.Author.Needs.{needs}
 use Rattle.scan.proofs.Scanner.ascii.Statement.{statement}
 use Rattle.scan.proofs.Scanner.ascii.Tie as tie
-use Rattle.scan.proofs.Scanner.ascii.Reads as reads
-use Rattle.scan.proofs.Scanner.ascii.Lts as lts
-use Rattle.scan.proofs.Scanner.number.Reads as number-reads
-use Rattle.scan.proofs.Scanner.sign.Reads as sign-reads
-use Rattle.scan.proofs.eat_word.Reads as eat-word-reads
-use Rattle.scan.proofs.is_digit.Reads as is-digit-reads
-use Rattle.scan.proofs.is_word_start.Reads as is-word-start-reads
-use Rattle.scan.proofs.punctuation.Reads as punctuation-reads
-use Rattle.scan.proofs.token.Reads as token-reads
-use Rattle.scan.proofs.word.Reads as word-reads
 
 word-requires : tie.Need-word-requires
 word-requires c κs = let e = run-ends (c .before .before .before .before .before .args .line .now) (c .before .before .before .before .before .args .at) isWord (omega arith) in let r = c .eat-word .ensures in (omega arith, omega arith)

@@ -1,17 +1,10 @@
-use mathlib.Core.Path.{_≡_, refl, sym, ap, _∙_}
-use Rattle.scan.specs.Scanning.{lexemeAs}
+use mathlib.Core.Path.{sym, ap, _∙_}
+use Rattle.lexemes.specs.Kinds.{lexemeAs}
 use Rattle.scan.proofs.Starts.{lexeme-blank, lexeme-ascii, lexeme-other, lexeme-none}
 use native.Mathlib.Omega.{arith}
 use borrow.Author.Needs.{needs}
 use Rattle.scan.proofs.Scanner.lexeme.Statement.{statement}
 use Rattle.scan.proofs.Scanner.lexeme.Tie as tie
-use Rattle.scan.proofs.Scanner.lexeme.Reads as reads
-use Rattle.scan.proofs.Scanner.lexeme.Lts as lts
-use Rattle.scan.proofs.Scanner.ascii.Reads as ascii-reads
-use Rattle.scan.proofs.eat_spaces.Reads as eat-spaces-reads
-use Rattle.scan.proofs.is_space.Reads as is-space-reads
-use Rattle.scan.proofs.unexpected.Reads as unexpected-reads
-use Rattle.utf8.proofs.decode.Reads as decode-reads
 
 returns : tie.Need-returns
 returns c = lexeme-blank (c .before .before .before .before .before .before .before .before .args .line .now) (c .before .before .before .before .before .before .before .before .args .at) (c .before .before .before .before .before .before .before .before .pre) _ _ _ (sym (c .before .before .before .before .d .given .1) ∙ c .before .before .before .before .before .before .decode .ensures) (sym (c .before .before .is-space .ensures) ∙ c .before .if1 .taken) (c .eat-spaces .ensures)

@@ -2,9 +2,6 @@ use Rattle.scan.proofs.Starts.{step-found, step-done}
 use borrow.Author.Needs.{needs}
 use Rattle.scan.proofs.Scanner.next.Statement.{statement}
 use Rattle.scan.proofs.Scanner.next.Tie as tie
-use Rattle.scan.proofs.Scanner.next.Reads as reads
-use Rattle.scan.proofs.Scanner.next.Lts as lts
-use Rattle.scan.proofs.Scanner.lexeme.Reads as lexeme-reads
 
 returns : tie.Need-returns
 returns c = step-found _ _ _ (c .before .if1 .taken) (c .lexeme .ensures)

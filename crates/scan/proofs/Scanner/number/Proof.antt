@@ -1,7 +1,7 @@
 -- A quad, with or without word characters after it, or else the integer that the word is.
 use mathlib.Core.Logic.{inl, inr}
 use borrow.Author.Needs.{needs}
-use Rattle.scan.proofs.Quads.{quad-ends, address, malformed, no-quad}
+use Rattle.scan.proofs.Numbers.{quad-ends, address, malformed, no-quad}
 use Rattle.scan.proofs.Scanner.number.Statement.{statement}
 use Rattle.scan.proofs.Scanner.number.Tie as tie
 

@@ -1,17 +1,10 @@
-use mathlib.Core.Path.{_≡_, refl, sym, ap, _∙_}
-use Rattle.scan.specs.Scanning.{lexemeAs}
+use mathlib.Core.Path.{refl, sym, ap, _∙_}
+use Rattle.lexemes.specs.Kinds.{lexemeAs}
 use Rattle.scan.proofs.Starts.{sign-hash, sign-slashes, sign-slash, sign-colons, sign-colon, sign-quote, sign-other}
 use native.Mathlib.Omega.{arith}
 use borrow.Author.Needs.{needs}
 use Rattle.scan.proofs.Scanner.sign.Statement.{statement}
 use Rattle.scan.proofs.Scanner.sign.Tie as tie
-use Rattle.scan.proofs.Scanner.sign.Reads as reads
-use Rattle.scan.proofs.Scanner.sign.Lts as lts
-use Rattle.scan.proofs.comment.Reads as comment-reads
-use Rattle.scan.proofs.peek.Reads as peek-reads
-use Rattle.scan.proofs.string.Reads as string-reads
-use Rattle.scan.proofs.token.Reads as token-reads
-use Rattle.scan.proofs.unexpected.Reads as unexpected-reads
 
 returns : tie.Need-returns
 returns c = c .comment .ensures ∙ ap (lexemeAs (c .before .before .before .before .before .args .at)) (sym (sign-hash (c .before .before .before .before .before .args .line .now) (c .before .before .before .before .before .args .at) _ refl (c .before .if1 .taken)))

@@ -1,0 +1,209 @@
+// Lexemes: what the scanner finds at one place of a line, and the words of a lexeme's row. Ports lex.rs `Lexeme`, `LexemeKind`,
+// `LexErrorKind` and the tokens `Tok`; the definitions are `Lexemes` and `Tables` of the crate `language`.
+ghost use mathlib.Core.Path.{_≡_};
+ghost use Rattle.lexemes.specs.Kinds.{tokNumber, tokValue, errorNumber, errorChar, classNumber, kindNumber, kindValue, rowOf};
+use rows::TokKind;
+use wide::Wide;
+
+// A token of the resynth language. The bytes of an `Identifier` and of a `StringLiteral` are its span.
+pub enum Tok {
+    LParen,
+    RParen,
+    Dot,
+    DoubleColon,
+    Colon,
+    SemiColon,
+    Equals,
+    Comma,
+    Slash,
+    ImportKeyword,
+    LetKeyword,
+    Identifier,
+    BooleanLiteral(bool),
+    IPv4Literal(u32),
+    HexLiteral(Wide),
+    DecLiteral(Wide),
+}
+
+// What is wrong with the source.
+pub enum LexErrorKind {
+    // No token starts with this character.
+    UnexpectedChar(u32),
+    // A `"` with no closing `"` on the same line.
+    UnterminatedString,
+    // An integer literal of 2^127 or more.
+    IntOutOfRange,
+    // A decimal integer literal with a leading zero.
+    IntLeadingZero,
+    // An integer literal with an unrecognized suffix.
+    IntInvalidSuffix,
+    IPv4Literal,
+}
+
+impl Tok {
+    // The number of its kind.
+    pub fn kind(self) -> u64
+        ensures { λ r. ⌜ r ≡ tokNumber self ⌝ }
+    {
+        match self {
+            Tok::LParen => TokKind::LPAREN,
+            Tok::RParen => TokKind::RPAREN,
+            Tok::Dot => TokKind::DOT,
+            Tok::DoubleColon => TokKind::DOUBLE_COLON,
+            Tok::Colon => TokKind::COLON,
+            Tok::SemiColon => TokKind::SEMI_COLON,
+            Tok::Equals => TokKind::EQUALS,
+            Tok::Comma => TokKind::COMMA,
+            Tok::Slash => TokKind::SLASH,
+            Tok::ImportKeyword => TokKind::IMPORT_KEYWORD,
+            Tok::LetKeyword => TokKind::LET_KEYWORD,
+            Tok::Identifier => TokKind::IDENTIFIER,
+            Tok::BooleanLiteral(_) => TokKind::BOOLEAN_LITERAL,
+            Tok::IPv4Literal(_) => TokKind::IPV4_LITERAL,
+            Tok::HexLiteral(_) => TokKind::HEX_LITERAL,
+            Tok::DecLiteral(_) => TokKind::DEC_LITERAL,
+        }
+    }
+
+    // The value that a literal carries.
+    pub fn value(self) -> Wide
+        ensures { λ r. ⌜ r ≡ tokValue self ⌝ }
+    {
+        match self {
+            Tok::BooleanLiteral(b) => Wide {
+                hi: 0,
+                lo: b as u64,
+            },
+            Tok::IPv4Literal(a) => Wide {
+                hi: 0,
+                lo: a as u64,
+            },
+            Tok::HexLiteral(v) => v,
+            Tok::DecLiteral(v) => v,
+            _ => Wide { hi: 0, lo: 0 },
+        }
+    }
+}
+
+impl LexErrorKind {
+    // The numbers of the kinds, in the order of lex.rs without its `StringLiteral`.
+    pub const UNEXPECTED_CHAR: u64 = 1;
+
+    pub const UNTERMINATED_STRING: u64 = 2;
+
+    pub const INT_OUT_OF_RANGE: u64 = 3;
+
+    pub const INT_LEADING_ZERO: u64 = 4;
+
+    pub const INT_INVALID_SUFFIX: u64 = 5;
+
+    pub const IPV4_LITERAL: u64 = 6;
+
+    // The number of its kind.
+    pub fn kind(self) -> u64
+        ensures { λ r. ⌜ r ≡ errorNumber self ⌝ }
+    {
+        match self {
+            LexErrorKind::UnexpectedChar(_) => LexErrorKind::UNEXPECTED_CHAR,
+            LexErrorKind::UnterminatedString => LexErrorKind::UNTERMINATED_STRING,
+            LexErrorKind::IntOutOfRange => LexErrorKind::INT_OUT_OF_RANGE,
+            LexErrorKind::IntLeadingZero => LexErrorKind::INT_LEADING_ZERO,
+            LexErrorKind::IntInvalidSuffix => LexErrorKind::INT_INVALID_SUFFIX,
+            LexErrorKind::IPv4Literal => LexErrorKind::IPV4_LITERAL,
+        }
+    }
+
+    // The character of an `UnexpectedChar`.
+    pub fn character(self) -> u64
+        ensures { λ r. ⌜ r ≡ errorChar self ⌝ }
+    {
+        if let LexErrorKind::UnexpectedChar(c) = self {
+            return c as u64;
+        }
+        0
+    }
+}
+
+// What the scanner found at one position in a line.
+pub enum LexemeKind {
+    // White space or a comment.
+    Trivia,
+    // A string literal, its body between the quotes.
+    Str,
+    Tok(Tok),
+    Error(LexErrorKind),
+}
+
+impl LexemeKind {
+    // The numbers of the classes.
+    pub const TRIVIA: u64 = 1;
+
+    pub const STR: u64 = 2;
+
+    pub const TOK: u64 = 3;
+
+    pub const ERROR: u64 = 4;
+}
+
+pub struct Lexeme {
+    pub start: usize,
+    pub end: usize,
+    pub kind: LexemeKind,
+}
+
+impl Lexeme {
+    // How many words a row of the lexeme table has.
+    pub const ROW_WORDS: usize = 6;
+}
+
+fn class_of(kind: LexemeKind) -> u64
+    ensures { λ r. ⌜ r ≡ classNumber kind ⌝ }
+{
+    match kind {
+        LexemeKind::Trivia => LexemeKind::TRIVIA,
+        LexemeKind::Str => LexemeKind::STR,
+        LexemeKind::Tok(_) => LexemeKind::TOK,
+        LexemeKind::Error(_) => LexemeKind::ERROR,
+    }
+}
+
+fn kind_of(kind: LexemeKind) -> u64
+    ensures { λ r. ⌜ r ≡ kindNumber kind ⌝ }
+{
+    match kind {
+        LexemeKind::Trivia => 0,
+        LexemeKind::Str => 0,
+        LexemeKind::Tok(t) => t.kind(),
+        LexemeKind::Error(e) => e.kind(),
+    }
+}
+
+fn value_of(kind: LexemeKind) -> Wide
+    ensures { λ r. ⌜ r ≡ kindValue kind ⌝ }
+{
+    match kind {
+        LexemeKind::Trivia => Wide { hi: 0, lo: 0 },
+        LexemeKind::Str => Wide { hi: 0, lo: 0 },
+        LexemeKind::Tok(t) => t.value(),
+        LexemeKind::Error(e) => Wide {
+            hi: 0,
+            lo: e.character(),
+        },
+    }
+}
+
+// The words of a lexeme's row.
+pub fn row_of(l: Lexeme) -> [u64; Lexeme::ROW_WORDS]
+    ensures { λ r. ⌜ r ≡ rowOf l ⌝ }
+{
+    let kind = l.kind;
+    let value = value_of(kind);
+    [
+        l.start as u64,
+        l.end as u64,
+        class_of(kind),
+        kind_of(kind),
+        value.lo,
+        value.hi,
+    ]
+}

@@ -1,0 +1,21 @@
+use Prim.Native.Nat.{_-_}
+use borrow.Author.Needs.{needs}
+use lib.ListN.{length}
+use Rattle.language.specs.Lexemes.{notNewline}
+use Rattle.runs.specs.Runs.{runEnd}
+use Rattle.runs.proofs.Runs.{Reached, begin, run-two}
+use Rattle.runs.proofs.comment_blocks.Statement.{statement}
+use Rattle.runs.proofs.comment_blocks.Tie as tie
+
+abbrev Inv-loop : tie.InvT-loop
+Inv-loop line at i₀ i = Reached (runEnd notNewline) line at i
+
+abbrev μ-loop : tie.MeasureT-loop
+μ-loop line at i₀ i = length line - i
+
+pub comment-blocks-spec : {M : Type 1} → statement M
+comment-blocks-spec =
+    tie.close
+    (tie.spec Inv-loop μ-loop (λ c. search (needs, begin)) (λ c. search needs) (λ c. search needs) (λ c. search needs) (λ c. search needs)
+    (λ c. search needs) (λ c. search needs) (λ c. search needs)
+    (λ c. search (needs, run-two)) (λ c. search needs))

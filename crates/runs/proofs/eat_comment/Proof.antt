@@ -1,0 +1,22 @@
+use Prim.Native.Nat.{_-_}
+use borrow.Author.Needs.{needs}
+use lib.ListN.{length}
+use Rattle.language.specs.Lexemes.{notNewline}
+use Rattle.runs.specs.Runs.{runEnd}
+use Rattle.runs.proofs.Bytes.{newline, no-newline}
+use Rattle.runs.proofs.Runs.{Reached, reached, run-more, run-stop, run-end}
+use Rattle.runs.proofs.eat_comment.Statement.{statement}
+use Rattle.runs.proofs.eat_comment.Tie as tie
+
+abbrev Inv-loop : tie.InvT-loop
+Inv-loop line at i₀ i = Reached (runEnd notNewline) line at i
+
+abbrev μ-loop : tie.MeasureT-loop
+μ-loop line at i₀ i = length line - i
+
+pub eat-comment-spec : {M : Type 1} → statement M
+eat-comment-spec =
+    tie.close
+    (tie.spec Inv-loop μ-loop (λ c. search needs) (λ c. search (needs, reached)) (λ c. search needs)
+    (λ c. search (needs, run-stop, newline)) (λ c. search needs) (λ c. search needs)
+    (λ c. search (needs, run-more, no-newline)) (λ c. search (needs, run-end)))

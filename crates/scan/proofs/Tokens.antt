@@ -1,0 +1,49 @@
+-- Which token a word is, and a byte.
+use Prim.Native.Nat.{ℕ}
+use mathlib.Core.Path.{_≡_}
+use mathlib.Core.Bool.{true, false}
+use mathlib.Core.List.{List}
+use borrow.Author.Tests.{ne-eqb}
+use Rattle.language.specs.Lexemes.{same, import′, let′, true′, false′, word, punctuation}
+use Rattle.lexemes.specs.declared.Tok.the-variants as tok-is
+use Rattle.lexemes.specs.Kinds.{tokAs}
+use Rattle.scan.specs.declared.Mark.the-variants as mark-is
+use Rattle.scan.specs.Scanning.{markAs}
+
+module _ (w : List ℕ) where
+  pub word-import : same w import′ ≡ true → tok-is.ImportKeyword ≡ tokAs (word w)
+  unfolding word
+  word-import h = rw h
+
+  module _ (no-import : same w import′ ≡ false) where
+    pub word-let : same w let′ ≡ true → tok-is.LetKeyword ≡ tokAs (word w)
+    unfolding word
+    word-let h = rw (no-import, h)
+
+    module _ (no-let : same w let′ ≡ false) where
+      pub word-true : same w true′ ≡ true → tok-is.BooleanLiteral true ≡ tokAs (word w)
+      unfolding word
+      word-true h = rw (no-import, no-let, h)
+
+      module _ (no-true : same w true′ ≡ false) where
+        pub word-false : same w false′ ≡ true → tok-is.BooleanLiteral false ≡ tokAs (word w)
+        unfolding word
+        word-false h = rw (no-import, no-let, no-true, h)
+
+        pub word-other : same w false′ ≡ false → tok-is.Identifier ≡ tokAs (word w)
+        unfolding word
+        word-other h = rw (no-import, no-let, no-true, h)
+
+pub no-mark : (b : ℕ) →
+    (((((Unit {0} × (b ≡ 40 → ⊥)) × (b ≡ 41 → ⊥)) × (b ≡ 46 → ⊥)) × (b ≡ 59 → ⊥)) × (b ≡ 61 → ⊥)) × (b ≡ 44 → ⊥)
+    → mark-is.Not ≡ markAs (punctuation b)
+unfolding punctuation
+no-mark b r =
+    rw (
+      ne-eqb b 40 (r .0 .0 .0 .0 .0 .1),
+      ne-eqb b 41 (r .0 .0 .0 .0 .1),
+      ne-eqb b 46 (r .0 .0 .0 .1),
+      ne-eqb b 59 (r .0 .0 .1),
+      ne-eqb b 61 (r .0 .1),
+      ne-eqb b 44 (r .1),
+    )
