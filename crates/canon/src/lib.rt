@@ -6,7 +6,7 @@ ghost use Prim.Native.Nat.{_+_, _-_, _≤_};
 ghost use lib.ListN.{length};
 ghost use Rattle.table.specs.Table.{padTo};
 ghost use Rattle.language.specs.Integers.{decimal, hexadecimal};
-ghost use Rattle.language.specs.Tokens.{between, bodiesIn};
+ghost use Rattle.language.specs.Tokens.{between, bodiesIn, mostBytes};
 ghost use Rattle.language.specs.Canonical.{spellDigits, spellQuad, quoted};
 ghost use Rattle.wide.specs.Wide.{valueOf};
 ghost use Rattle.canon.specs.Writing.{Writes, literalsText, literalText, markOf, boolText, fixedText, rowText, gapText, RowFits, Lexes, WritesText};
@@ -29,7 +29,7 @@ pub struct Canonised {
 
 // The bytes of `s` from `from` up to `to`.
 fn copy(s: &[u8], from: usize, to: usize, text: &mut [u8], at: usize) -> usize
-    requires { ⌜ (from ≤ to) × (to ≤ length (now s)) × (to ≤ 65536) × (at ≤ 1048576) ⌝ }
+    requires { ⌜ (from ≤ to) × (to ≤ length (now s)) × (to ≤ mostBytes) × (at ≤ 1048576) ⌝ }
     ensures { λ r. ⌜ Writes (now (text .entry)) at (between (now (s .entry)) from to) r (now (text .exit)) ⌝ }
     ensures { λ r. ⌜ r ≤ at + (to - from) ⌝ }
 {
@@ -75,29 +75,29 @@ fn octet_text(n: u64, text: &mut [u8], at: usize) -> usize
 
 // `0x` with lower case and no leading zeros.
 fn hex_text(v: Wide, text: &mut [u8], at: usize) -> usize
-    requires { ⌜ at ≤ 65536 ⌝ }
+    requires { ⌜ at ≤ mostBytes ⌝ }
     ensures { λ r. ⌜ Writes (now (text .entry)) at (48 ∷ 120 ∷ spellDigits (hexadecimal (valueOf v))) r (now (text .exit)) ⌝ }
     ensures { λ r. ⌜ r ≤ at + 34 ⌝ }
 {
     let mut digits = [0u8; Wide::MOST_HEX_DIGITS];
     let start = v.hexadecimal(&mut digits);
-    let a = put(48, text, at);
-    let b = put(120, text, a);
+    let a = put(b'0', text, at);
+    let b = put(b'x', text, a);
     copy(&digits, start, Wide::MOST_HEX_DIGITS, text, b)
 }
 
 // Four numbers with dots between.
 fn quad_text(address: u64, text: &mut [u8], at: usize) -> usize
-    requires { ⌜ at ≤ 65536 ⌝ }
+    requires { ⌜ at ≤ mostBytes ⌝ }
     ensures { λ r. ⌜ Writes (now (text .entry)) at (spellQuad address) r (now (text .exit)) ⌝ }
     ensures { λ r. ⌜ r ≤ at + 159 ⌝ }
 {
     let a = octet_text(address / 16777216 % 256, text, at);
-    let b = put(46, text, a);
+    let b = put(b'.', text, a);
     let c = octet_text(address / 65536 % 256, text, b);
-    let d = put(46, text, c);
+    let d = put(b'.', text, c);
     let e = octet_text(address / 256 % 256, text, d);
-    let f = put(46, text, e);
+    let f = put(b'.', text, e);
     octet_text(address % 256, text, f)
 }
 
@@ -105,31 +105,31 @@ fn quad_text(address: u64, text: &mut [u8], at: usize) -> usize
 
 // A body in its quotes.
 fn quoted_text(body: &[u8], text: &mut [u8], at: usize) -> usize
-    requires { ⌜ (length (now body) ≤ 65536) × (at ≤ 524288) ⌝ }
+    requires { ⌜ (length (now body) ≤ mostBytes) × (at ≤ 524288) ⌝ }
     ensures { λ r. ⌜ Writes (now (text .entry)) at (quoted (now (body .entry))) r (now (text .exit)) ⌝ }
     ensures { λ r. ⌜ r ≤ at + length (now (body .entry)) + 2 ⌝ }
 {
-    let a = put(34, text, at);
+    let a = put(b'"', text, at);
     let b = copy(body, 0, body.len(), text, a);
-    put(34, text, b)
+    put(b'"', text, b)
 }
 
 // A literal of a string whose text starts at `from`: with a space before it, unless it is the first.
 fn literal_text(body: &[u8], from: usize, text: &mut [u8], at: usize) -> usize
-    requires { ⌜ (length (now body) ≤ 65536) × (at ≤ 524287) ⌝ }
+    requires { ⌜ (length (now body) ≤ mostBytes) × (at ≤ 524287) ⌝ }
     ensures { λ r. ⌜ Writes (now (text .entry)) at (literalText from at (now (body .entry))) r (now (text .exit)) ⌝ }
     ensures { λ r. ⌜ r ≤ at + length (now (body .entry)) + 3 ⌝ }
 {
     if at == from {
         return quoted_text(body, text, at);
     }
-    let a = put(32, text, at);
+    let a = put(b' ', text, at);
     quoted_text(body, text, a)
 }
 
 // The literals among the lexemes of a part of the source, with one space between.
 fn literals(part: &[u8], text: &mut [u8], at: usize) -> usize
-    requires { ⌜ (length (now part) ≤ 65536) × (at ≤ 65536) ⌝ }
+    requires { ⌜ (length (now part) ≤ mostBytes) × (at ≤ mostBytes) ⌝ }
     ensures { λ r. ⌜ Writes (now (text .entry)) at (literalsText (bodiesIn (now (part .entry)))) r (now (text .exit)) ⌝ }
     ensures { λ r. ⌜ r ≤ at + 262144 ⌝ }
 {
@@ -168,7 +168,7 @@ fn mark(kind: u64) -> u8
 }
 
 fn bool_text(low: u64, text: &mut [u8], at: usize) -> usize
-    requires { ⌜ at ≤ 65536 ⌝ }
+    requires { ⌜ at ≤ mostBytes ⌝ }
     ensures { λ r. ⌜ Writes (now (text .entry)) at (boolText low) r (now (text .exit)) ⌝ }
     ensures { λ r. ⌜ r ≤ at + 6 ⌝ }
 {
@@ -180,7 +180,7 @@ fn bool_text(low: u64, text: &mut [u8], at: usize) -> usize
 
 // Punctuation, keywords and booleans.
 fn fixed_text(kind: u64, low: u64, text: &mut [u8], at: usize) -> usize
-    requires { ⌜ at ≤ 65536 ⌝ }
+    requires { ⌜ at ≤ mostBytes ⌝ }
     ensures { λ r. ⌜ Writes (now (text .entry)) at (fixedText kind low) r (now (text .exit)) ⌝ }
     ensures { λ r. ⌜ r ≤ at + 6 ⌝ }
 {
@@ -195,7 +195,7 @@ fn fixed_text(kind: u64, low: u64, text: &mut [u8], at: usize) -> usize
 
 // The token whose row starts at the word `row` of the table.
 fn token_text(source: &[u8], toks: &[u64], row: usize, text: &mut [u8], at: usize) -> usize
-    requires { ⌜ RowFits (now source) (now toks) row × (at ≤ 65536) ⌝ }
+    requires { ⌜ RowFits (now source) (now toks) row × (at ≤ mostBytes) ⌝ }
     ensures { λ r. ⌜ Writes (now (text .entry)) at (rowText (now (source .entry)) (now (toks .entry)) row) r (now (text .exit)) ⌝ }
     ensures { λ r. ⌜ r ≤ at + 262144 ⌝ }
 {
@@ -221,13 +221,13 @@ fn separator(kind: u64, next: u64, text: &mut [u8], at: usize) -> usize
     ensures { λ r. ⌜ r ≤ at + 1 ⌝ }
 {
     if kind == TokKind::SEMI_COLON {
-        return put(10, text, at);
+        return put(b'\n', text, at);
     }
     // nothing before `Eof`
     if next == TokKind::EOF {
         return at;
     }
-    put(32, text, at)
+    put(b' ', text, at)
 }
 
 // The text of `count` tokens, of which the last is `Eof`. It stops early where the text is too long already.

@@ -1,5 +1,6 @@
 -- How the table of numbers stands for the constant table.
 use Prim.Native.Nat.{ℕ, zero, suc, _+_, _*_}
+use mathlib.Core.Path.{_≡_}
 use mathlib.Core.Bool.{Bool, true, false, _&&_}
 use mathlib.Core.List.{List, [], _∷_}
 use mathlib.Core.Option.{Option, none, some}
@@ -48,3 +49,7 @@ isHit rows text i m bs = eqb (getD rows (6 * i) 0) m && same (between text (getD
 abbrev pub textOf : Bool → List ℕ → List ℕ → ℕ → ℕ → List ℕ
 textOf true source text a e = between text a e
 textOf false source text a e = between source a e
+
+-- of `name_text`: the part r of the table's text or of the source
+abbrev pub NameText : Bool → List ℕ → List ℕ → ℕ → ℕ → List ℕ → Type 0
+NameText fromTable source text a e r = r ≡ textOf fromTable source text a e

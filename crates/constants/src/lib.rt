@@ -8,7 +8,7 @@ ghost use Prim.Native.Nat.{_+_, _*_, _<_, _≤_};
 ghost use Rattle.language.specs.Lexemes.{same};
 ghost use Rattle.language.specs.Tokens.{between};
 ghost use Rattle.language.specs.Values.{tableText, lookup};
-ghost use Rattle.constants.specs.Constants.{tableRows, orZero, isHit, entryWord, textOf};
+ghost use Rattle.constants.specs.Constants.{tableRows, orZero, isHit, entryWord, NameText};
 
 // The types of values, by their numbers: in the order of check.rs `Ty`, where those between are types that no value has yet.
 pub struct Ty {}
@@ -91,7 +91,7 @@ pub fn part(s: &[u8], a: usize, e: usize) -> &[u8]
 
 // A name that a diagnostic shows: a part of the table's text or of the source.
 pub fn name_text<'a>(from_table: bool, source: &'a [u8], text: &'a [u8], a: usize, e: usize) -> &'a [u8]
-    ensures { λ r. ⌜ now r ≡ textOf «from_table» (now (source .entry)) (now (text .entry)) a e ⌝ }
+    ensures { λ r. ⌜ NameText «from_table» (now (source .entry)) (now (text .entry)) a e (now r) ⌝ }
 {
     if from_table {
         return part(text, a, e);

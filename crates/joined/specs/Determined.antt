@@ -4,10 +4,9 @@ use mathlib.Core.Path.{_≡_}
 use mathlib.Core.Bool.{Bool}
 use mathlib.Core.List.{List}
 use Rattle.language.specs.Determined.{Determined, CallsDetermined}
-use Rattle.lex.specs.Lexing.{bodyAt}
-use Rattle.constants.specs.Constants.{textOf}
+use Rattle.constants.specs.Constants.{NameText}
 use Rattle.scan.specs.Entry.{ScanLine}
-use Rattle.lex.specs.Entry.{LexSource}
+use Rattle.lex.specs.Entry.{LexSource, StringBody}
 use Rattle.parse.specs.Entry.{ParseSource}
 use Rattle.canon.specs.Entry.{CanonSource}
 use Rattle.checker.specs.Entry.{CheckSource}
@@ -18,5 +17,5 @@ EntriesDetermined = CallsDetermined ScanLine LexSource ParseSource CanonSource C
 -- nor do the calls that hand back a part of a text: `string_body` and `name_text`
 abbrev pub PartsDetermined : Type 0
 PartsDetermined =
-    ((s : List ℕ) (start e i : ℕ) → Determined (λ (r : List ℕ). r ≡ bodyAt s start e i))
-    × ((fromTable : Bool) (source text : List ℕ) (a e : ℕ) → Determined (λ (r : List ℕ). r ≡ textOf fromTable source text a e))
+    ((s : List ℕ) (start e i : ℕ) → Determined (StringBody s start e i))
+    × ((fromTable : Bool) (source text : List ℕ) (a e : ℕ) → Determined (NameText fromTable source text a e))

@@ -414,7 +414,7 @@ fn local(source: &[u8], bindings: &[Entry], used: usize, tok: Token) -> Judged
     Judged::Err(named(Fault::ERROR, Fault::UNKNOWN_NAME, tok, 0, 0))
 }
 
-// A path below a module of the constant table: `left` more names, each two tokens after the one before, which is t.
+// A path below a module of the constant table: so many more names, each two tokens after the one before, the first after t.
 fn walk(source: &[u8], toks: &[u64], top: u64, t: u64, names: u64) -> Judged
     requires { ⌜ Lexed (now source) (now toks) ⌝ }
     ensures { λ r. ⌜ r ≡ judgedAs (now (source .entry)) (walk (contents (tokens (now (source .entry)))) names top t) ⌝ }

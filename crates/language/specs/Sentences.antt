@@ -88,8 +88,11 @@ pub data Port : Type 0 where
   notPort : Port
 
 -- "the port must be a decimal token up to 65,535"
+abbrev pub largestPort : ℕ
+largestPort = 65535
+
 abbrev pub portTok : Tok → Port
-portTok (decLiteral n) = if′ (leb n 65535) port tooLarge
+portTok (decLiteral n) = if′ (leb n largestPort) port tooLarge
 portTok lParen = notPort
 portTok rParen = notPort
 portTok dot = notPort

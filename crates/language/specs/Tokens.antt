@@ -13,6 +13,10 @@ use Rattle.language.specs.Lexemes.{Tok, lParen, rParen, dot, doubleColon
 abbrev pub mostBytes : ℕ
 mostBytes = 65536
 
+-- each takes a byte at least, and `Eof` is one more
+abbrev pub mostTokens : ℕ
+mostTokens = mostBytes + 1
+
 -- ---- contents
 
 pub data Content : Type 0 where

@@ -5,9 +5,13 @@ use Prim.Native.Nat.{ℕ, _/_}
 use Rattle.language.specs.Tables.{tokenWidth}
 use Rattle.language.specs.Numbers.{lexAnswer, lexTable}
 use Rattle.lex.specs.declared.Lexed.{Lexed}
-use Rattle.lex.specs.Lexing.{lexedAs}
+use Rattle.lex.specs.Lexing.{lexedAs, bodyAt}
 
 -- of a source and a table of n words: the answer r, and what is left in the table
 pub record LexSource (source : List ℕ) (n : ℕ) (r : Lexed) (left : List ℕ) : Type 0 where
   pub answer : r ≡ lexedAs (lexAnswer source (n / tokenWidth))
   pub table : left ≡ lexTable source n
+
+-- of `string_body`: the bytes r of body i of the string token that spans a source from `start` up to e
+abbrev pub StringBody : List ℕ → ℕ → ℕ → ℕ → List ℕ → Type 0
+StringBody source start e i r = r ≡ bodyAt source start e i

@@ -10,7 +10,7 @@ use Rattle.table.specs.Table.{padTo, tabled}
 use Rattle.language.specs.Lexemes as language
 use Rattle.language.specs.Lexemes.{scan, run, notNewline}
 use Rattle.language.specs.Tables.{tokenRow, tokenWidth}
-use Rattle.language.specs.Tokens.{eof, lines, items, Token, lineAt, Piece, gap, body, token, wrong, Item, itemOf, contentOf, Pending, joined, flushed, itemToken, Wrong, firstWrong, Place, between, bodiesIn}
+use Rattle.language.specs.Tokens.{eof, lines, items, Token, lineAt, Piece, gap, body, token, wrong, Item, itemOf, contentOf, Pending, joined, flushed, itemToken, Wrong, firstWrong, Place, between, bodiesIn, mostBytes}
 use Rattle.language.specs.Numbers as numbers
 use Rattle.lexemes.specs.Kinds.{tokAs}
 use Rattle.scan.specs.Scanning.{verdictAs}
@@ -106,7 +106,7 @@ lineItems n at line = map (itemOf n (lineAt at line)) (scan line)
 pub record Few (x : Lexer) (at : ℕ) : Type 0 where
   pub lines : x .lno ≤ at + 1
   pub tokens : x .count + x .pending .bodies ≤ at
-  pub short : at ≤ 65536
+  pub short : at ≤ mostBytes
 
 -- what feeding lexemes up to a place came to: it goes on with the state after all of them, or stops at the first error
 abbrev pub FedIs : Fed → List ℕ → State → Option Wrong → Type 0

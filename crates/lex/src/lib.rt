@@ -3,10 +3,10 @@
 ghost use mathlib.Core.Path.{_≡_};
 ghost use Prim.Native.Nat.{_+_, _≤_};
 ghost use lib.ListN.{length};
-ghost use Rattle.language.specs.Tokens.{placeOf, between, bodiesIn};
-ghost use Rattle.lex.specs.Entry.{LexSource};
+ghost use Rattle.language.specs.Tokens.{placeOf, between, bodiesIn, mostBytes};
+ghost use Rattle.lex.specs.Entry.{LexSource, StringBody};
 ghost use Rattle.lexemes.specs.Kinds.{errorNumber, errorChar};
-ghost use Rattle.lex.specs.Lexing.{Strings, Flushes, Tokens, Few, lineItems, Feeds, Finishes, lineEnd, FeedsAll, spotAs, nth, bodyAt};
+ghost use Rattle.lex.specs.Lexing.{Strings, Flushes, Tokens, Few, lineItems, Feeds, Finishes, lineEnd, FeedsAll, spotAs, nth};
 use lexemes::LexErrorKind;
 use lexemes::LexemeKind;
 use lexemes::Tok;
@@ -81,7 +81,7 @@ impl Lexer {
 
     // A literal from `from` up to `to` of the line that starts at `start`: it is joined with those that wait.
     fn string(self, start: usize, from: usize, to: usize) -> Lexer
-        requires { ⌜ (start + to ≤ 65536) × (from ≤ to) × (self .pending .bodies ≤ 65536) ⌝ }
+        requires { ⌜ (start + to ≤ mostBytes) × (from ≤ to) × (self .pending .bodies ≤ mostBytes) ⌝ }
         ensures { λ r. ⌜ Strings self start from to r ⌝ }
     {
         let p = self.pending;
@@ -114,7 +114,7 @@ impl Lexer {
 
     // The literals that wait become a token.
     fn flush(self, table: &mut [u64]) -> Lexer
-        requires { ⌜ self .count ≤ 65536 ⌝ }
+        requires { ⌜ self .count ≤ mostBytes ⌝ }
         ensures { λ r. ⌜ Flushes self (now (table .entry)) r (now (table .exit)) ⌝ }
     {
         let p = self.pending;
@@ -140,7 +140,7 @@ impl Lexer {
 
     // A token from `from` up to `to` of the line that starts at `start`.
     fn token(self, start: usize, from: usize, to: usize, tok: Tok, table: &mut [u64]) -> Lexer
-        requires { ⌜ (start + to ≤ 65536) × (from ≤ to) × (self .count + self .pending .bodies ≤ 65536) ⌝ }
+        requires { ⌜ (start + to ≤ mostBytes) × (from ≤ to) × (self .count + self .pending .bodies ≤ mostBytes) ⌝ }
         ensures { λ r. ⌜ Tokens self (now (table .entry)) start from to tok r (now (table .exit)) ⌝ }
     {
         let lexer = self.flush(table);
@@ -164,7 +164,7 @@ impl Lexer {
 
     // Lexes the line numbered `lno`, which starts at `start` of the source, lexeme by lexeme.
     fn lexemes(self, line: &[u8], start: usize, table: &mut [u64]) -> Fed
-        requires { ⌜ (self .count + self .pending .bodies ≤ start) × (start + length (now line) ≤ 65536) ⌝ }
+        requires { ⌜ (self .count + self .pending .bodies ≤ start) × (start + length (now line) ≤ mostBytes) ⌝ }
         ensures { λ r. ⌜ Feeds self (now (table .entry)) r (now (table .exit)) (self .lno) (start + length (now (line .entry))) (lineItems (self .lno) start (now (line .entry))) ⌝ }
     {
         let mut lexer = self;
@@ -196,7 +196,7 @@ impl Lexer {
 
     // Lexes one line, which is lent as a part of the source: from `start` up to `end`.
     pub fn line(self, source: &[u8], start: usize, end: usize, table: &mut [u64]) -> Fed
-        requires { ⌜ Few self start × (start ≤ end) × (end ≤ length (now source)) × (end ≤ 65536) ⌝ }
+        requires { ⌜ Few self start × (start ≤ end) × (end ≤ length (now source)) × (end ≤ mostBytes) ⌝ }
         ensures { λ r. ⌜ Feeds self (now (table .entry)) r (now (table .exit)) (self .lno + 1) end (lineItems (self .lno + 1) start (between (now (source .entry)) start end)) ⌝ }
     {
         let pending = self.pending;
@@ -234,7 +234,7 @@ impl Lexer {
 
 // Number 3: a lexical error that starts at `from` of the line numbered `lno`.
 fn lexical(e: LexErrorKind, lno: u64, from: usize) -> Verdict
-    requires { ⌜ from ≤ 65536 ⌝ }
+    requires { ⌜ from ≤ mostBytes ⌝ }
     ensures { λ r. ⌜ r ≡ record { number = 3; kind = errorNumber e; line = lno; column = from + 1; character = errorChar e } ⌝ }
 {
     Verdict {
@@ -256,14 +256,14 @@ fn line_end(source: &[u8], at: usize) -> usize
 
 // The line and the column of a byte.
 fn spot_of(source: &[u8], at: usize) -> Spot
-    requires { ⌜ (at ≤ length (now source)) × (length (now source) ≤ 65536) ⌝ }
+    requires { ⌜ (at ≤ length (now source)) × (length (now source) ≤ mostBytes) ⌝ }
     ensures { λ r. ⌜ r ≡ spotAs (placeOf (now (source .entry)) at) ⌝ }
 {
     let mut line: u64 = 1;
     let mut column: u64 = 1;
     let mut i = 0;
     while i < at {
-        if source[i] == 10 {
+        if source[i] == b'\n' {
             line += 1;
             column = 1;
         } else {
@@ -279,7 +279,7 @@ fn spot_of(source: &[u8], at: usize) -> Spot
 
 // Feeds a source to a new lexer, line by line.
 fn feed_lines(source: &[u8], table: &mut [u64]) -> Fed
-    requires { ⌜ length (now source) ≤ 65536 ⌝ }
+    requires { ⌜ length (now source) ≤ mostBytes ⌝ }
     ensures { λ r. ⌜ FeedsAll (now (table .entry)) r (now (table .exit)) (now (source .entry)) ⌝ }
 {
     let mut lexer = Lexer::new();
@@ -342,7 +342,7 @@ pub fn lex_source(source: &[u8], table: &mut [u64]) -> Lexed
 // The body numbered `i`, from 0, of a string token that spans the source from `start` up to `end`: the part of the
 // source between its quotes. Nothing where there is none.
 pub fn string_body(source: &[u8], start: usize, end: usize, i: u64) -> &[u8]
-    ensures { λ r. ⌜ now r ≡ bodyAt (now (source .entry)) start end i ⌝ }
+    ensures { λ r. ⌜ StringBody (now (source .entry)) start end i (now r) ⌝ }
 {
     if end <= source.len() {
         if start <= end {

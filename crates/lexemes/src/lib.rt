@@ -5,7 +5,7 @@ ghost use Rattle.lexemes.specs.Kinds.{tokNumber, tokValue, errorNumber, 
 use rows::TokKind;
 use wide::Wide;
 
-// A token of the resynth language. The bytes of an `Identifier` and of a `StringLiteral` are its span.
+// A token of the resynth language. The bytes of an `Identifier` are its span.
 pub enum Tok {
     LParen,
     RParen,

@@ -34,14 +34,15 @@ module _ (b : ℕ) where
   unfolding digitOf
   dec-digit h k = rw (inside-test 48 57 b h (omega arith))
 
-  pub small-digit : 97 ≤ b → b < 103 → b - 87 ≡ digitOf b
+  pub small-digit : 97 ≤ b → b < 103 → b - 97 + 10 ≡ digitOf b
   unfolding digitOf
-  small-digit h k = rw (outside-test 48 57 b (omega arith), inside-test 97 102 b h (omega arith))
+  small-digit h k = rw (outside-test 48 57 b (omega arith), inside-test 97 102 b h (omega arith)) (omega arith)
 
-  pub large-digit : 65 ≤ b → b < 71 → b - 55 ≡ digitOf b
+  pub large-digit : 65 ≤ b → b < 71 → b - 65 + 10 ≡ digitOf b
   unfolding digitOf
   large-digit h k =
       rw (outside-test 48 57 b (omega arith), outside-test 97 102 b (omega arith), inside-test 65 70 b h (omega arith))
+      (omega arith)
 
   pub no-digit : 0 < (48 - b) + (b - 57) → 0 < (97 - b) + (b - 102) → 0 < (65 - b) + (b - 70) → 16 ≡ digitOf b
   unfolding digitOf

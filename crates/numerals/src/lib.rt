@@ -28,9 +28,9 @@ fn digit(b: u8) -> u64
     ensures { λ r. ⌜ r ≡ digitOf b ⌝ }
 {
     match b {
-        48..=57 => (b - 48) as u64,
-        97..=102 => (b - 87) as u64,
-        65..=70 => (b - 55) as u64,
+        b'0'..=b'9' => (b - b'0') as u64,
+        b'a'..=b'f' => (b - b'a') as u64 + 10,
+        b'A'..=b'F' => (b - b'A') as u64 + 10,
         _ => 16,
     }
 }
@@ -75,10 +75,10 @@ fn starts_hex(line: &[u8], at: usize) -> bool
     requires { ⌜ at < length (now line) ⌝ }
     ensures { λ r. ⌜ r ≡ startsHex (drop at (now (line .entry))) ⌝ }
 {
-    if runs::peek(line, at) != 48 {
+    if runs::peek(line, at) != b'0' {
         return false;
     }
-    if runs::peek(line, at + 1) != 120 {
+    if runs::peek(line, at + 1) != b'x' {
         return false;
     }
     let b = runs::peek(line, at + 2);
@@ -90,7 +90,7 @@ fn starts_zero(line: &[u8], at: usize) -> bool
     requires { ⌜ at < length (now line) ⌝ }
     ensures { λ r. ⌜ r ≡ startsZero (drop at (now (line .entry))) ⌝ }
 {
-    if runs::peek(line, at) != 48 {
+    if runs::peek(line, at) != b'0' {
         return false;
     }
     let b = runs::peek(line, at + 1);
@@ -187,7 +187,7 @@ pub fn dotted_quad(line: &[u8], at: usize) -> Quad
             return Quad::Dotted(end, join(address, last));
         }
         // most numbers are no quad: that is seen before one is read
-        if runs::peek(line, end) != 46 {
+        if runs::peek(line, end) != b'.' {
             return Quad::Not;
         }
         let n = quad_part(line, i, end);

@@ -8,8 +8,8 @@ use lib.ListN.{length, getD}
 use Rattle.table.specs.Table.{tabled}
 use Rattle.language.specs.Choice.{if′}
 use Rattle.language.specs.Tables.{contentKind}
-use Rattle.language.specs.Tokens.{Content, eof}
-use Rattle.language.specs.Sentences.{Expr, Args, given, named, Stmt, expr′, firstOf, Port, port, tooLarge, notPort, portOf, Out, ok, no, andThen, mostLists, exprAt, ended, Node, exprNodes, argNodes, lastOf, stmtNodes, nodes, nodeRow, nodeWidth}
+use Rattle.language.specs.Tokens.{Content, eof, mostTokens}
+use Rattle.language.specs.Sentences.{Expr, Args, given, named, Stmt, expr′, firstOf, Port, port, tooLarge, notPort, portOf, Out, ok, no, andThen, mostLists, exprAt, ended, Node, exprNodes, argNodes, lastOf, stmtNodes, nodes, nodeRow, nodeWidth, largestPort}
 use Rattle.scan.specs.declared.Verdict.{Verdict}
 use Rattle.parse.specs.declared.Parsed.{Parsed}
 use Rattle.parse.specs.declared.Parsed.the-variants.{Done, Refused}
@@ -40,7 +40,7 @@ unfoldable pub portTokOf : ℕ → ℕ → ℕ → PortTok
 portTokOf kind lo hi = if′ (eqb kind 18) (DecLiteral (record { hi = hi; lo = lo })) Other
 
 unfoldable pub portOfTok : PortTok → Port
-portOfTok (DecLiteral v) = if′ (eqb (v .hi) 0) (if′ (leb (v .lo) 65535) port tooLarge) tooLarge
+portOfTok (DecLiteral v) = if′ (eqb (v .hi) 0) (if′ (leb (v .lo) largestPort) port tooLarge) tooLarge
 portOfTok Other = notPort
 
 unfoldable pub portAt : List ℕ → ℕ → Port
@@ -157,7 +157,7 @@ pub record MetAll (r : Parsed) (t : List ℕ) (o : Out (List Stmt)) : Type 0 whe
 
 -- where a part of the grammar starts: a token, in a table of so many words, and how many nodes there are
 abbrev pub Room : ℕ → ℕ → ℕ → Type 0
-Room len at count = (7 * at ≤ len) × (len ≤ 458759) × (count ≤ 2 * at)
+Room len at count = (7 * at ≤ len) × (len ≤ 7 * mostTokens) × (count ≤ 2 * at)
 
 -- from the token `at` with `count` nodes and some steps it went on by d tokens and d nodes at least, and by at most two
 -- nodes for each token

@@ -6,7 +6,7 @@ ghost use mathlib.Core.Path.{_≡_};
 ghost use mathlib.Core.List.{List, [], _∷_, _++_};
 ghost use Prim.Native.Nat.{ℕ, _+_, _*_, _<_, _≤_};
 ghost use lib.ListN.{length, getD};
-ghost use Rattle.language.specs.Tokens.{Content};
+ghost use Rattle.language.specs.Tokens.{Content, mostBytes, mostTokens};
 ghost use Rattle.language.specs.Sentences.{Stmt, Node, node, mostSteps, primary, address, named′, links, chainAt, slashes, exprAt, argOf, listAt, ended, importAt, letAt, stmtAt, program};
 ghost use Rattle.parse.specs.Entry.{GivesUp, Lexes, ParseSource};
 ghost use Rattle.parse.specs.Parsing.{kindAt, literalKind, portAt, portAs, portTokOf, isNamed, argKind, valueFrom, Room, Rep, Holds, Pushes, withStmt, exprStmt, After, AfterExpr, AfterArgs, MetExpr, MetArg, MetArgs, MetStmt, MetAll, Ahead, AheadList, rowVerdict, verdictAt};
@@ -65,6 +65,8 @@ impl Parser {
     pub const MOST_STEPS: usize = 64;
 
     pub const MOST_LISTS: usize = 32;
+
+    pub const LARGEST_PORT: u64 = 65535;
 }
 
 // ---- tokens
@@ -106,7 +108,7 @@ fn port(toks: &[u64], at: usize) -> PortIs
         return PortIs::NotPort;
     };
     if v.hi == 0 {
-        if v.lo <= 65535 {
+        if v.lo <= Parser::LARGEST_PORT {
             return PortIs::Good;
         }
     }
@@ -344,7 +346,7 @@ fn links(toks: &[u64], nodes: &mut [u64], p: Parser, start: usize, count: usize)
 
 // A bare name before `:` names its argument.
 fn arg_head(toks: &[u64], at: usize) -> ArgHead
-    requires { ⌜ (7 * at ≤ length (now toks)) × (length (now toks) ≤ 458759) ⌝ }
+    requires { ⌜ (7 * at ≤ length (now toks)) × (length (now toks) ≤ 7 * mostTokens) ⌝ }
     ensures { λ r. ⌜ (r .kind ≡ argKind (isNamed (now (toks .entry)) at)) × (r .value ≡ valueFrom (isNamed (now (toks .entry)) at) at) ⌝ }
     ensures { λ r. ⌜ (at ≤ r .value) × (7 * r .value ≤ length (now (toks .entry))) ⌝ }
 {
@@ -490,7 +492,7 @@ fn stmt(toks: &[u64], nodes: &mut [u64], at: usize, count: usize) -> Parsed
 
 // The statements of a whole program. The node table starts out as zeros.
 pub fn program(toks: &[u64], nodes: &mut [u64]) -> Parsed
-    requires { ⌜ length (now toks) ≤ 458759 ⌝ }
+    requires { ⌜ length (now toks) ≤ 7 * mostTokens ⌝ }
     ensures { λ r. ⌜ Ahead 0 (length (now (toks .entry))) 0 0 0 r ⌝ }
     ensures { λ r. ⌜ ((ts : List Content) → Rep (now (toks .entry)) ts → Holds (now (nodes .entry)) [] → MetAll r (now (nodes .exit)) (program ts)) ⌝ }
 {
@@ -538,7 +540,7 @@ fn give_up(verdict: Verdict, toks: &mut [u64], nodes: &mut [u64]) -> ParseAnswer
 
 // A refusal at the token in a row.
 fn at_row(toks: &[u64], i: usize, number: u64, kind: u64) -> Verdict
-    requires { ⌜ (7 * i + 7 ≤ length (now toks)) × (i ≤ 65536) ⌝ }
+    requires { ⌜ (7 * i + 7 ≤ length (now toks)) × (i ≤ mostBytes) ⌝ }
     ensures { λ r. ⌜ r ≡ rowVerdict (now (toks .entry)) number kind i ⌝ }
 {
     let row = TokenRow::WORDS * i;
@@ -553,7 +555,7 @@ fn at_row(toks: &[u64], i: usize, number: u64, kind: u64) -> Verdict
 
 // A refusal at the token numbered `at` of `count`, the last of which is `Eof`: past the end it stands there.
 fn at_token(toks: &[u64], count: usize, number: u64, kind: u64, at: usize) -> Verdict
-    requires { ⌜ (1 ≤ count) × (7 * count ≤ length (now toks)) × (count ≤ 65537) ⌝ }
+    requires { ⌜ (1 ≤ count) × (7 * count ≤ length (now toks)) × (count ≤ mostTokens) ⌝ }
     ensures { λ r. ⌜ r ≡ verdictAt (now (toks .entry)) count number kind at ⌝ }
 {
     if at < count {
@@ -564,7 +566,7 @@ fn at_token(toks: &[u64], count: usize, number: u64, kind: u64, at: usize) -> Ve
 
 // Parses `count` tokens. The node table starts out as zeros.
 fn parse_tokens(toks: &mut [u64], nodes: &mut [u64], count: usize) -> ParseAnswer
-    requires { ⌜ (1 ≤ count) × (7 * count ≤ length (now toks)) × (count ≤ 65537) ⌝ }
+    requires { ⌜ (1 ≤ count) × (7 * count ≤ length (now toks)) × (count ≤ mostTokens) ⌝ }
     ensures { λ r. ⌜ ((s : List ℕ) → Lexes s (now (toks .entry)) count → Holds (now (nodes .entry)) [] → ParseSource s (length (now (toks .entry))) (length (now (nodes .entry))) r (now (toks .exit)) (now (nodes .exit))) ⌝ }
 {
     let room = nodes.len() / NodeRow::WORDS;

@@ -24,13 +24,13 @@ pub fn is_space(c: u32) -> bool
 pub fn is_digit(b: u8) -> bool
     ensures { λ r. ⌜ r ≡ isDigit b ⌝ }
 {
-    (48 <= b) & (b <= 57)
+    (b'0' <= b) & (b <= b'9')
 }
 
 pub fn is_word_start(b: u8) -> bool
     ensures { λ r. ⌜ r ≡ isWordStart b ⌝ }
 {
-    (97 <= b) & (b <= 122) | (65 <= b) & (b <= 90) | (b == 95)
+    (b'a' <= b) & (b <= b'z') | (b'A' <= b) & (b <= b'Z') | (b == b'_')
 }
 
 fn is_word(b: u8) -> bool
@@ -94,14 +94,14 @@ fn body8(line: &[u8], at: usize) -> bool
     let f = line[at + 5];
     let g = line[at + 6];
     let h = line[at + 7];
-    ((a != 34) & (a != 10))
-        & ((b != 34) & (b != 10))
-        & ((c != 34) & (c != 10))
-        & ((d != 34) & (d != 10))
-        & ((e != 34) & (e != 10))
-        & ((f != 34) & (f != 10))
-        & ((g != 34) & (g != 10))
-        & ((h != 34) & (h != 10))
+    ((a != b'"') & (a != b'\n'))
+        & ((b != b'"') & (b != b'\n'))
+        & ((c != b'"') & (c != b'\n'))
+        & ((d != b'"') & (d != b'\n'))
+        & ((e != b'"') & (e != b'\n'))
+        & ((f != b'"') & (f != b'\n'))
+        & ((g != b'"') & (g != b'\n'))
+        & ((h != b'"') & (h != b'\n'))
 }
 
 fn body_blocks(line: &[u8], at: usize) -> usize
@@ -125,7 +125,7 @@ pub fn eat_body(line: &[u8], at: usize) -> usize
     let mut i = body_blocks(line, at);
     while i < line.len() {
         let b = line[i];
-        if (b == 34) | (b == 10) {
+        if (b == b'"') | (b == b'\n') {
             return i;
         }
         i += 1;
@@ -137,14 +137,14 @@ fn comment8(line: &[u8], at: usize) -> bool
     requires { ⌜ at + 8 ≤ length (now line) ⌝ }
     ensures { λ r. ⌜ r ≡ allFrom notNewline 8 (now (line .entry)) at ⌝ }
 {
-    (line[at] != 10)
-        & (line[at + 1] != 10)
-        & (line[at + 2] != 10)
-        & (line[at + 3] != 10)
-        & (line[at + 4] != 10)
-        & (line[at + 5] != 10)
-        & (line[at + 6] != 10)
-        & (line[at + 7] != 10)
+    (line[at] != b'\n')
+        & (line[at + 1] != b'\n')
+        & (line[at + 2] != b'\n')
+        & (line[at + 3] != b'\n')
+        & (line[at + 4] != b'\n')
+        & (line[at + 5] != b'\n')
+        & (line[at + 6] != b'\n')
+        & (line[at + 7] != b'\n')
 }
 
 fn comment_blocks(line: &[u8], at: usize) -> usize
@@ -168,7 +168,7 @@ pub fn eat_comment(line: &[u8], at: usize) -> usize
 {
     let mut i = comment_blocks(line, at);
     while i < line.len() {
-        if line[i] == 10 {
+        if line[i] == b'\n' {
             return i;
         }
         i += 1;
@@ -184,7 +184,7 @@ pub fn eat_spaces(line: &[u8], at: usize) -> usize
     let mut i = at;
     while i < line.len() {
         // most blanks are this one
-        if line[i] == 32 {
+        if line[i] == b' ' {
             i += 1;
             continue;
         }

@@ -5,6 +5,7 @@ ghost use mathlib.Core.Bool.{true};
 ghost use mathlib.Core.List.{[]};
 ghost use Prim.Native.Nat.{_+_, _≤_, _<_};
 ghost use lib.ListN.{length, drop, getD};
+ghost use Rattle.language.specs.Tokens.{mostBytes};
 ghost use Rattle.language.specs.Lexemes.{isDigit, number, comment, string, punctuation, ascii, lexeme, scan};
 ghost use Rattle.language.specs.Tables.{lexemeRow, lexemeWidth};
 ghost use Rattle.table.specs.Table.{padTo, tabled};
@@ -50,7 +51,7 @@ fn string(line: &[u8], at: usize) -> Lexeme
     ensures { λ r. ⌜ r ≡ lexemeAs at (string (drop (at + 1) (now (line .entry)))) ⌝ }
 {
     let end = runs::eat_body(line, at + 1);
-    if runs::peek(line, end) == 34 {
+    if runs::peek(line, end) == b'"' {
         return Lexeme {
             start: at,
             end: end + 1,
@@ -75,12 +76,12 @@ fn punctuation(b: u8) -> Mark
     ensures { λ r. ⌜ r ≡ markAs (punctuation b) ⌝ }
 {
     match b {
-        40 => Mark::Is(Tok::LParen),
-        41 => Mark::Is(Tok::RParen),
-        46 => Mark::Is(Tok::Dot),
-        59 => Mark::Is(Tok::SemiColon),
-        61 => Mark::Is(Tok::Equals),
-        44 => Mark::Is(Tok::Comma),
+        b'(' => Mark::Is(Tok::LParen),
+        b')' => Mark::Is(Tok::RParen),
+        b'.' => Mark::Is(Tok::Dot),
+        b';' => Mark::Is(Tok::SemiColon),
+        b'=' => Mark::Is(Tok::Equals),
+        b',' => Mark::Is(Tok::Comma),
         _ => Mark::Not,
     }
 }
@@ -204,22 +205,22 @@ impl Scanner {
     {
         let b = line[at];
         let next = runs::peek(line, at + 1);
-        if b == 35 {
+        if b == b'#' {
             return comment(line, at);
         }
-        if b == 47 {
-            if next == 47 {
+        if b == b'/' {
+            if next == b'/' {
                 return comment(line, at);
             }
             return token(at, at + 1, Tok::Slash);
         }
-        if b == 58 {
-            if next == 58 {
+        if b == b':' {
+            if next == b':' {
                 return token(at, at + 2, Tok::DoubleColon);
             }
             return token(at, at + 1, Tok::Colon);
         }
-        if b == 34 {
+        if b == b'"' {
             return string(line, at);
         }
         unexpected(at, at + 1, b as u32)
@@ -343,7 +344,7 @@ impl Verdict {
 // Writes a row for each lexeme of a line into a table of zeros, and answers how many there are. A row that the table has
 // no room for is counted, and not kept.
 fn fill(line: &[u8], table: &mut [u64]) -> u64
-    requires { ⌜ length (now line) ≤ 65536 ⌝ }
+    requires { ⌜ length (now line) ≤ mostBytes ⌝ }
     requires { ⌜ now table ≡ padTo (length (now table)) [] ⌝ }
     ensures { λ r. ⌜ r ≡ length (scan (now (line .entry))) ⌝ }
     ensures { λ _. ⌜ now (table .exit) ≡ tabled lexemeRow lexemeWidth (length (now (table .entry))) (scan (now (line .entry))) ⌝ }

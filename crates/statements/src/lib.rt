@@ -10,7 +10,7 @@ ghost use Rattle.language.specs.Numbers.{tokenOf};
 ghost use Rattle.language.specs.Values.{lookup};
 ghost use Rattle.constants.specs.Constants.{orZero};
 ghost use Rattle.language.specs.Sentences.{Expr, Stmt, import′, let′};
-ghost use Rattle.language.specs.Judgements.{Known, nameAt, stmt, judgeAll};
+ghost use Rattle.language.specs.Judgements.{Known, nameAt, stmt, judgeAll, mostNames, mostImports};
 ghost use Rattle.judging.specs.Judging.{tokenAs, Lexed, keyOf, Keyed, Ready, Knows, RepAt, faultRow, word, plusWarnings};
 ghost use Rattle.statements.specs.Checking.{plusError, plusStatement, plusName, plusImport, entryRow, HeldRow, bareAs, Narrow, Shown, Tells, Exprs, Turns, Binds, Room, StmtFits, StmtsAt, RowFits, RowTurns, noCounts, Comes};
 use constants::Constants;
@@ -53,14 +53,14 @@ impl Checker {
 
     // No names yet.
     pub fn names() -> [Entry; Checker::NAMES]
-        ensures { λ r. ⌜ length r ≡ 512 ⌝ }
+        ensures { λ r. ⌜ length r ≡ mostNames ⌝ }
     {
         [Checker::EMPTY; Checker::NAMES]
     }
 
     // No imports yet.
     pub fn modules() -> [Entry; Checker::IMPORTS]
-        ensures { λ r. ⌜ length r ≡ 64 ⌝ }
+        ensures { λ r. ⌜ length r ≡ mostImports ⌝ }
     {
         [Checker::EMPTY; Checker::IMPORTS]
     }
@@ -100,7 +100,7 @@ pub enum Narrowed {
 // ---- counts
 
 fn named_one(counts: Counts) -> Counts
-    requires { ⌜ counts .used < 512 ⌝ }
+    requires { ⌜ counts .used < mostNames ⌝ }
     ensures { λ r. ⌜ r ≡ plusName counts ⌝ }
 {
     Counts {
@@ -110,7 +110,7 @@ fn named_one(counts: Counts) -> Counts
 }
 
 fn imported_one(counts: Counts) -> Counts
-    requires { ⌜ counts .imported < 64 ⌝ }
+    requires { ⌜ counts .imported < mostImports ⌝ }
     ensures { λ r. ⌜ r ≡ plusImport counts ⌝ }
 {
     Counts {
@@ -365,7 +365,7 @@ fn import(
     t: u64,
     counts: Counts,
 ) -> Turn
-    requires { ⌜ Lexed (now source) (now toks) × (64 ≤ length (now imports)) × (counts .imported ≤ 64) × Keyed (now source) (now imports) (counts .imported) ⌝ }
+    requires { ⌜ Lexed (now source) (now toks) × (mostImports ≤ length (now imports)) × (counts .imported ≤ mostImports) × Keyed (now source) (now imports) (counts .imported) ⌝ }
     requires { ⌜ Room counts ⌝ }
     ensures { λ r. ⌜ ((n : ℕ) (k : Known) (b : List (List ℕ)) (u : List ℕ) → Knows (now (source .entry)) b (now (imports .entry)) counts k
         → Ready (now (source .entry)) (now (toks .entry)) b (now (imports .entry)) counts
@@ -408,7 +408,7 @@ fn bind(
     t: u64,
     j: Judgement,
 ) -> Counts
-    requires { ⌜ (j .counts .used < 512) × (512 ≤ length (now bindings)) ⌝ }
+    requires { ⌜ (j .counts .used < mostNames) × (mostNames ≤ length (now bindings)) ⌝ }
     requires { ⌜ Room (j .counts) ⌝ }
     ensures { λ r. ⌜ Binds (now (bindings .entry)) (now (diags .entry)) (name .start) (name .end) key t j r (now (bindings .exit)) (now (diags .exit)) ⌝ }
 {
@@ -446,7 +446,7 @@ fn let_stmt(
     i: usize,
     counts: Counts,
 ) -> Turn
-    requires { ⌜ Ready (now source) (now toks) (now bindings) (now imports) counts × (length (now bindings) ≡ 512) ⌝ }
+    requires { ⌜ Ready (now source) (now toks) (now bindings) (now imports) counts × (length (now bindings) ≡ mostNames) ⌝ }
     requires { ⌜ StmtFits (now nodes) i counts × (5 * i + 5 ≤ length (now nodes)) ⌝ }
     ensures { λ r. ⌜ ((n : ℕ) (k : Known) (e : Expr) (u : List ℕ) → Knows (now (source .entry)) (now (bindings .entry)) (now (imports .entry)) counts k
         → RepAt (now (nodes .entry)) (word (now (nodes .entry)) i 2) e
@@ -491,7 +491,7 @@ fn stmt(
     i: usize,
     counts: Counts,
 ) -> Turn
-    requires { ⌜ Ready (now source) (now toks) (now bindings) (now imports) counts × (length (now bindings) ≡ 512) × (length (now imports) ≡ 64) ⌝ }
+    requires { ⌜ Ready (now source) (now toks) (now bindings) (now imports) counts × (length (now bindings) ≡ mostNames) × (length (now imports) ≡ mostImports) ⌝ }
     requires { ⌜ RowFits (now nodes) i counts × (5 * i + 5 ≤ length (now nodes)) ⌝ }
     ensures { λ r. ⌜ ((n : ℕ) (k : Known) (ss : List Stmt) → Knows (now (source .entry)) (now (bindings .entry)) (now (imports .entry)) counts k
         → StmtsAt (now (nodes .entry)) i ss

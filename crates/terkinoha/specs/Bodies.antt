@@ -57,6 +57,14 @@ LiteralIs text at Nowhere = spansFrom text at ≡ []
 pub record FirstOf (text : List ℕ) (at : ℕ) (r : Literal) : Type 0 where
   pub is : LiteralIs text at r
 
+-- of `terkinoha_next_body`: the first body that a source has from `at` up to e
+abbrev pub NextBody : List ℕ → ℕ → ℕ → Body → Type 0
+NextBody s at e r = r ≡ first (bodySpans s at e)
+
+-- of `terkinoha_body_at`: body i of those from `start` up to e
+abbrev pub BodyAt : List ℕ → ℕ → ℕ → ℕ → Body → Type 0
+BodyAt s start e i r = r ≡ first (drop i (bodySpans s start e))
+
 -- ---- the claims
 
 -- a string token's bodies are what lies there, in order
@@ -73,5 +81,4 @@ WalkGoesOn =
 -- two results that satisfy a call's promise are equal: `terkinoha_next_body` and `terkinoha_body_at`
 abbrev pub BodiesDetermined : Type 0
 BodiesDetermined =
-    ((s : List ℕ) (at e : ℕ) → Determined (λ (r : Body). r ≡ first (bodySpans s at e)))
-    × ((s : List ℕ) (start e i : ℕ) → Determined (λ (r : Body). r ≡ first (drop i (bodySpans s start e))))
+    ((s : List ℕ) (at e : ℕ) → Determined (NextBody s at e)) × ((s : List ℕ) (start e i : ℕ) → Determined (BodyAt s start e i))

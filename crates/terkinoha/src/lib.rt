@@ -3,7 +3,7 @@
 ghost use mathlib.Core.Path.{_≡_};
 ghost use lib.ListN.{length, drop};
 ghost use Rattle.terkinoha.specs.Entry.{verdictOf, ScanLine, LexSource, ParseSource, CanonSource, CheckSource};
-ghost use Rattle.terkinoha.specs.Bodies.{none, first, bodySpans, FirstOf};
+ghost use Rattle.terkinoha.specs.Bodies.{none, FirstOf, NextBody, BodyAt};
 use lexemes::LexemeKind;
 use scan::Scanner;
 use scan::Step;
@@ -198,7 +198,7 @@ fn literal_from(text: &[u8], at: usize) -> Literal
 // The first body that a part of the source has, from `at` up to `end`.
 #[no_mangle]
 pub extern "C" fn terkinoha_next_body(source: &[u8], at: u64, end: u64) -> Body
-    ensures { λ r. ⌜ r ≡ first (bodySpans (now (source .entry)) at end) ⌝ }
+    ensures { λ r. ⌜ NextBody (now (source .entry)) at end r ⌝ }
 {
     let to = end as usize;
     if source.len() < to {
@@ -218,7 +218,7 @@ pub extern "C" fn terkinoha_next_body(source: &[u8], at: u64, end: u64) -> Body
 // The body numbered `i`, from 0, of a string token that spans the source from `start` up to `end`.
 #[no_mangle]
 pub extern "C" fn terkinoha_body_at(source: &[u8], start: u64, end: u64, i: u64) -> Body
-    ensures { λ r. ⌜ r ≡ first (drop i (bodySpans (now (source .entry)) start end)) ⌝ }
+    ensures { λ r. ⌜ BodyAt (now (source .entry)) start end i r ⌝ }
 {
     let mut left = i;
     let mut body = terkinoha_next_body(source, start, end);
