@@ -1,7 +1,7 @@
 use native.Mathlib.Omega.{arith}
 use borrow.Author.Needs.{needs}
 use Prim.Native.Nat.{_+_, _*_}
-use mathlib.Core.Path.{refl, sym, ap, _∙_}
+use mathlib.Core.Path.{refl, sym, _∙_}
 use Rattle.judging.specs.Judging.{knownIn}
 use Rattle.language.specs.Sentences.{slash′}
 use Rattle.judging.proofs.TokenRows.{some-row}

@@ -1,10 +1,6 @@
 use borrow.Author.Needs.{needs}
 use Rattle.lex.proofs.lexical.Statement.{statement}
 use Rattle.lex.proofs.lexical.Tie as tie
-use Rattle.lex.proofs.lexical.Reads as reads
-use Rattle.lex.proofs.lexical.Lts as lts
-use Rattle.scan.proofs.LexErrorKind.character.Reads as character-reads
-use Rattle.scan.proofs.LexErrorKind.kind.Reads as kind-reads
 
 returns : tie.Need-returns
 returns c = rw (c .before .kind .ensures, c .character .ensures)

@@ -5,11 +5,9 @@ use mathlib.Core.Path.{_≡_, refl, ap, _∙_}
 use mathlib.Core.List.{List, _++_}
 use lib.ListN.{length, drop, set, replicate}
 use borrow.Author.Needs.{needs}
-use borrow.Author.Fill.{fill-none, fill-more}
+use borrow.Author.Fill.{fill-more}
 use Rattle.table.proofs.clear_bytes.Statement.{statement}
 use Rattle.table.proofs.clear_bytes.Tie as tie
-use Rattle.table.proofs.clear_bytes.Reads as reads
-use Rattle.table.proofs.clear_bytes.Lts as lts
 
 abbrev Inv-loop : tie.InvT-loop
 Inv-loop text₀ i₀ table i = (i ≤ length text₀) × (length table ≡ length text₀) × (table ≡ replicate i 0 ++ drop i text₀)

@@ -1,18 +1,11 @@
 use Prim.Native.Nat.{_-_}
-use mathlib.Core.Path.{_≡_, refl, sym, _∙_}
+use mathlib.Core.Path.{refl, sym, _∙_}
 use lib.ListN.{length}
 use Rattle.lex.proofs.Feeding.{Feeding, begun, shrinks, room, more, stopped, finished}
 use borrow.Author.Needs.{needs}
 use native.Mathlib.Omega.{arith}
 use Rattle.lex.proofs.Lexer.lexemes.Statement.{statement}
 use Rattle.lex.proofs.Lexer.lexemes.Tie as tie
-use Rattle.lex.proofs.Lexer.lexemes.Reads as reads
-use Rattle.lex.proofs.Lexer.lexemes.Lts as lts
-use Rattle.lex.proofs.Lexer.string.Reads as string-reads
-use Rattle.lex.proofs.Lexer.token.Reads as token-reads
-use Rattle.lex.proofs.lexical.Reads as lexical-reads
-use Rattle.scan.proofs.Scanner.new.Reads as new-reads
-use Rattle.scan.proofs.Scanner.next.Reads as next-reads
 
 abbrev Inv-loop : tie.InvT-loop
 Inv-loop line start table₀ lexer₀ scanner₀ table lexer scanner = Feeding lexer₀ table₀ start line lexer table (scanner .pos)
