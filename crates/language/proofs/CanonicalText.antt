@@ -14,8 +14,7 @@ use Rattle.language.specs.Utf8.{charAt, leadOf, follow, Encoded}
 use Rattle.language.specs.Lexemes.{all, notNewline, isBlank, blankRun, lexeme}
 use Rattle.language.specs.Tokens.{Piece, gap, Item, firstWrong}
 use Rattle.language.specs.Canonical.{spell, endsLine, between′, after, canonical}
-use Rattle.language.proofs.Tests.{both, inside, never}
-use Rattle.language.proofs.LexemeSizes.{by-cases}
+use Rattle.language.proofs.Tests.{both, inside, never, by-cases}
 use Rattle.language.proofs.SpellingRuns.{all-parts, up-to, implied}
 use Rattle.language.proofs.CanonicalUtf8.{encoded-append, ascii-encoded}
 use Rattle.language.proofs.CanonicalGood.{Part, literal, named, other, pieceFor, contentFor, Ends, end, space, isVisible, Good, ascii-char}

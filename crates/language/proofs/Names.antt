@@ -15,8 +15,7 @@ use Rattle.language.specs.Sentences.{Expr, Stmt, import′, let′, expr
 use Rattle.language.specs.Values.{Value, lookup}
 use Rattle.language.specs.Judgements.{Diag, Judged, val, err, poisoned, Known, known, Import, Binding, Held, Turn, goes, full, refused, firstNamed, find, findImport, mostImports, mostNames, nameAt, narrowed, judge, imported, importStmt, bind, bound, letStmt, discarded, told, stmt, onward, run}
 use Rattle.language.specs.Names.{letNames, importNames, TooMany, NamesRefused}
-use Rattle.language.proofs.Tests.{never}
-use Rattle.language.proofs.LexemeSizes.{by-cases}
+use Rattle.language.proofs.Tests.{never, by-cases}
 use Rattle.language.proofs.DistinctNames.{among, Kept, none-kept, repeated, added, filled}
 
 -- ---- what is known, by name
