@@ -15,14 +15,13 @@ use lib.Seq.{getD-at}
 use Rattle.language.specs.Tables.{tokenWidth, contentKind, contentLow, contentHigh}
 use Rattle.language.specs.Tokens.{Content, eof, string, Token, items, tokensFrom, eofToken, tokens, contents, between, bodiesIn}
 use Rattle.language.specs.Canonical.{spell, after, canonical, text}
-use Rattle.language.proofs.TokenClaims.{places-right, names-held, bodies-held}
+use Rattle.language.proofs.TokenClaims.{places-right, names-held, bodies-held, name-kind}
 use Rattle.language.proofs.TokenContents.{contents-decide}
 use Rattle.lex.specs.Lexing.{nth, bodyAt}
 use Rattle.lex.proofs.Bodies.{some-part}
 use Rattle.canon.specs.Writing.{kindText, rowText, Lexes}
 use Rattle.joined.specs.Canonical.{SameRow, SameRows}
 use Rattle.canon.proofs.Contents.{ends-line, gap-is, string-kind}
-use Rattle.language.proofs.TokenClaims.{name-kind}
 use Rattle.canon.proofs.Rows.{before, counted, tokenAt, RowIs, row-past, row-is, row-text}
 
 -- ---- bodies

@@ -23,7 +23,7 @@ use Rattle.language.proofs.Tests.{both, each-side}
 use Rattle.language.proofs.Each.{Each, of-none, of-one, of-both}
 use Rattle.language.proofs.SentenceOutcomes.{Every}
 use Rattle.language.proofs.GrammarSound.{found-program}
-use Rattle.language.proofs.GrammarRows.{names-next}
+use Rattle.language.proofs.GrammarPlaces.{names-next}
 
 -- a part of the table's text, by a test
 part : (start end : ℕ) → ltb start end && leb end (length tableText) ≡ true → PartOf tableText start end
