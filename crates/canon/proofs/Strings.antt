@@ -7,7 +7,7 @@ use borrow.Author.Tests.{eq-eqb, ne-eqb}
 use types.Run.{OneOf}
 use denote.Enum.Declared.{tagOf}
 use lib.ListN.{length, drop, length-take}
-use Rattle.language.specs.Lexemes.{Kind, scanFrom, lexeme}
+use Rattle.language.specs.Lexemes.{scanFrom}
 use Rattle.language.specs.Tokens.{unquoted, between, bodyOf, bodiesOf, bodiesIn}
 use Rattle.language.specs.Canonical.{quoted, spellBodies}
 use Rattle.scan.specs.declared.Lexeme.{Lexeme}
