@@ -67,7 +67,7 @@ returns-4 c =
 pub import-spec : {M : Type 1} → statement M
 import-spec =
     tie.close
-    (tie.spec token-at-requires (λ c. search needs) (λ c. search needs) (λ c. search needs) warn-requires
+    (tie.spec token-at-requires (λ c. search needs) (λ c κs. search needs) (λ c. search needs) warn-requires
     (λ c. search needs) (λ c. search needs) returns (λ c. search needs) returns-2 (λ c. search needs)
     (λ c. search needs) (λ c. search needs) (λ c. search needs) (λ c. search needs) (λ c. search needs) error-requires
     (λ c. search needs) (λ c. search needs) returns-3 (λ c. search needs) returns-4)
