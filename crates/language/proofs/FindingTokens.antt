@@ -20,7 +20,7 @@ use Rattle.language.specs.Judgements.{left, right, What, unknownName, un
 use Rattle.language.specs.Numbers.{statementsOf, foundBy, heldBy}
 use Rattle.language.specs.Checks.{PartOf}
 use Rattle.language.proofs.Tests.{both, each-side}
-use Rattle.language.proofs.Each.{Each, of-none, of-one, of-both}
+use Rattle.language.proofs.Each.{Each, All, of-none, of-one, of-both}
 use Rattle.language.proofs.SentenceOutcomes.{Every}
 use Rattle.language.proofs.GrammarSound.{found-program}
 use Rattle.language.proofs.GrammarPlaces.{names-next}
@@ -153,11 +153,7 @@ module _ (ts : List Content) where
   narrowed-right (isFunction k) h = h
 
   -- the constant table holds no string of the source, and its bytes are a part of its text
-  abbrev AllRight : List Entry → Type 0
-  AllRight [] = Unit {0}
-  AllRight (e ∷ es) = If Right (e .value) × AllRight es
-
-  getD-right : (es : List Entry) (k : ℕ) → AllRight es → If Right (getD es k (entry 0 0 0 none) .value)
+  getD-right : (es : List Entry) (k : ℕ) → All (λ e. If Right (e .value)) es → If Right (getD es k (entry 0 0 0 none) .value)
   getD-right [] k h = tt
   getD-right (e ∷ es) zero h = h .0
   getD-right (e ∷ es) (suc k) h = getD-right es k (h .1)

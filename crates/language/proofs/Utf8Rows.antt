@@ -14,6 +14,7 @@ use lib.Dec.{leb}
 use lib.ListN.{length, getD, length-append}
 use Rattle.language.specs.Choice.{if′, within}
 use Rattle.language.specs.Utf8.{isScalar, encode, Range, to, derives, derivesOne, isChar, Char, char, noChar, Lead, lead, leadOf, follow, begun, charAt}
+use Rattle.language.proofs.Each.{All}
 use Rattle.language.proofs.Tests.{both, either, inside, inside-test, outside, outside-test, never, by-cases}
 
 -- a first byte from `low` to `high`, then `tails` bytes, the next one from `next` to `last`: the numbers `first` to `final`
@@ -139,11 +140,6 @@ unfolding isScalar
 is-scalar n h = rw (le-leb n 0x10FFFF (h .0), outside-test 0xD800 0xDFFF n (h .1))
 
 -- ---- what holds of the rows (`omega` takes at most 64 statements at once, so some are proved in parts)
-
--- P of each row
-abbrev pub All : (Row → Type 0) → List Row → Type 0
-All P [] = Unit {0}
-All P (r ∷ rs) = P r × All P rs
 
 -- the second byte of a number, where it has one, is within bounds
 abbrev Second : ℕ → ℕ → ℕ → ℕ → Type 0

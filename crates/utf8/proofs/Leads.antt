@@ -7,7 +7,8 @@ use native.Mathlib.Omega.{arith}
 use Rattle.language.specs.Choice.{within}
 use Rattle.language.specs.Utf8.{leadOf}
 use Rattle.language.proofs.Tests.{inside, never}
-use Rattle.language.proofs.Utf8Rows.{Row, rows, base, All, At, here, at, Bounds, bounds, row-said, by-rows}
+use Rattle.language.proofs.Each.{All}
+use Rattle.language.proofs.Utf8Rows.{Row, rows, base, At, here, at, Bounds, bounds, row-said, by-rows}
 use Rattle.utf8.specs.declared.Lead.the-variants.{Starts, Not}
 use Rattle.utf8.specs.Decoding.{leading, Small}
 
