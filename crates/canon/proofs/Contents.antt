@@ -5,50 +5,22 @@ use mathlib.Core.Bool.{true, false}
 use mathlib.Core.List.{List, _∷_}
 use native.Mathlib.Nat.{div-add-mod'}
 use native.Mathlib.Omega.{arith}
-use lib.Dec.{eqb}
+use borrow.Author.Tests.{ne-eqb}
 use Rattle.language.specs.Lexemes.{Tok, lParen, rParen, dot, doubleColon, colon, semiColon, equals, comma, slash, importKeyword, letKeyword, identifier, booleanLiteral, ipv4Literal, hexLiteral, decLiteral}
 use Rattle.language.specs.Tokens.{Content, eof, plain, name, string, bodiesIn}
 use Rattle.language.specs.Tables.{word, tokKind, tokLow, tokHigh, contentKind, contentLow, contentHigh}
-use Rattle.language.specs.Canonical.{spellTok, spell, isSemi, endsLine, after}
+use Rattle.language.specs.Canonical.{spellTok, spell, after}
 use Rattle.language.proofs.Tests.{never}
-use Rattle.language.proofs.Forms.{no-string, tok-form}
+use Rattle.language.proofs.Forms.{no-string, no-end, tok-form}
 use Rattle.canon.specs.Writing.{markOf, fixedText, kindText, gapText}
 
 -- ---- what follows a token
 
--- what the number of a token's kind tells
-kind-tells : (t : Tok) → (eqb (tokKind t) 7 ≡ isSemi t) × (eqb (tokKind t) 1 ≡ false)
-kind-tells t =
-    elim t [
-      | lParen ↦ (refl, refl)
-      | rParen ↦ (refl, refl)
-      | dot ↦ (refl, refl)
-      | doubleColon ↦ (refl, refl)
-      | colon ↦ (refl, refl)
-      | semiColon ↦ (refl, refl)
-      | equals ↦ (refl, refl)
-      | comma ↦ (refl, refl)
-      | slash ↦ (refl, refl)
-      | importKeyword ↦ (refl, refl)
-      | letKeyword ↦ (refl, refl)
-      | identifier ↦ (refl, refl)
-      | booleanLiteral b ↦ (refl, refl)
-      | ipv4Literal n ↦ (refl, refl)
-      | hexLiteral n ↦ (refl, refl)
-      | decLiteral n ↦ (refl, refl)
-    ]
-
-pub ends-line : (c : Content) → eqb (contentKind c) 7 ≡ endsLine c
-ends-line eof = refl
-ends-line (plain t) = kind-tells t .0
-ends-line (name bs) = refl
-ends-line (string b bs) = refl
-
 pub gap-is : (c d : Content) (cs : List Content) → gapText (contentKind c) (contentKind d) ≡ after c (d ∷ cs)
-gap-is c eof cs = rw (ends-line c)
-gap-is c (plain t) cs = rw (ends-line c, kind-tells t .1)
-gap-is c (name bs) cs = rw (ends-line c)
-gap-is c (string b bs) cs = rw (ends-line c)
+gap-is c eof cs = refl
+gap-is c (plain t) cs = rw (ne-eqb (tokKind t) 1 (λ e. no-end (tok-form t e)))
+gap-is c (name bs) cs = refl
+gap-is c (string b bs) cs = refl
 
 -- ---- a token's spelling
 

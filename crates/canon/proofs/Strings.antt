@@ -7,7 +7,7 @@ use borrow.Author.Tests.{eq-eqb, ne-eqb}
 use types.Run.{OneOf}
 use denote.Enum.Declared.{tagOf}
 use lib.ListN.{length, drop, length-take}
-use Rattle.language.specs.Lexemes.{Kind, scanFrom, lexeme}
+use Rattle.language.specs.Lexemes.{scanFrom}
 use Rattle.language.specs.Tokens.{unquoted, between, bodyOf, bodiesOf, bodiesIn}
 use Rattle.language.specs.Canonical.{quoted, spellBodies}
 use Rattle.lexemes.specs.declared.Lexeme.{Lexeme}
@@ -18,7 +18,7 @@ use Rattle.scan.specs.Scanning as scanning
 use Rattle.scan.specs.Scanning.{stepAt}
 use Rattle.lexemes.proofs.LexemeKind as kind
 use Rattle.lex.proofs.Feeding.{turn, at-end}
-use Rattle.lex.proofs.Bodies.{part-size, unquoted-is, is-literal, no-literal}
+use Rattle.lex.proofs.Bodies.{part-size, unquoted-is, none-here, one-here}
 use Rattle.canon.specs.Writing.{Writes, literalsText, literalText}
 use Rattle.canon.proofs.Writing.{none, _then_, bytes-are}
 
@@ -68,27 +68,17 @@ module _ (part t : List ℕ) (at : ℕ) where
         (rw (← all) (k .writes), omega (arith, k .few, k .within))
 
     module _ (l : Lexeme) (next : Scanner) (e : Found l next ≡ stepAt part pos) where
-      pub shrinks : length part - next .pos < length part - pos
-      shrinks = let p = turn part pos l next e in omega (arith, p .forth, p .within)
-
-      abbrev x : Kind
-      x = lexeme (drop pos part) .kind
-
-      abbrev bytes : List ℕ
-      bytes = between part pos (pos + lexeme (drop pos part) .size)
-
-      abbrev after : List (List ℕ)
-      after = bodiesOf part (scanFrom 0 (next .pos) (drop (next .pos) part))
-
-      from-here : k .done ++ (bodyOf x bytes ++ after) ≡ bodiesIn part
-      from-here = rw (turn part pos l next e .rest) at (k .whole)
-
       -- no literal
       pub passed : OneOf (0 ∷ 2 ∷ 3 ∷ []) (tagOf kind.the-type (l .kind)) → Telling part t at u end (next .pos)
       passed h =
           let p = turn part pos l next e in
-          let n = no-literal x bytes (rw (p .kind) at h) in
-          record { done = k .done; whole = rw n at from-here; writes = k .writes; few = omega (arith, k .few, p .forth); within = p .within }
+          record {
+            done = k .done;
+            whole = rw (none-here part pos l next e h) at (k .whole);
+            writes = k .writes;
+            few = omega (arith, k .few, p .forth);
+            within = p .within;
+          }
 
       module _ {r : List ℕ} (d : r ≡ scanning.bodyOf part (l .start) (l .end)) where
         short : length r ≤ next .pos - pos - 2
@@ -106,15 +96,9 @@ module _ (part t : List ℕ) (at : ℕ) where
             → Telling part t at v to (next .pos)
         told h {v} {to} w =
             let p = turn part pos l next e in
-            let b : bodyOf x bytes ≡ unquoted bytes ∷ [] = rw (is-literal x (sym h ∙ p .kind)) in
-            let past : pos + lexeme (drop pos part) .size ≡ next .pos = sym (p .past) in
-            let a : unquoted bytes ≡ scanning.bodyOf part pos (next .pos) = rw past (unquoted-is part pos (next .pos) (p .within)) in
-            let c : r ≡ scanning.bodyOf part pos (next .pos) = d ∙ rw (p .begins, p .ends) in
-            let q : unquoted bytes ≡ r = a ∙ sym c in
-            let here : k .done ++ r ∷ after ≡ bodiesIn part = rw (b, q) at from-here in
             record {
               done = k .done ++ r ∷ [];
-              whole = append-assoc (k .done) (r ∷ []) after ∙ here;
+              whole = append-assoc (k .done) (r ∷ []) _ ∙ rw (one-here part pos l next e h d) at (k .whole);
               writes = bytes-are _ (literal-more (k .done) r at end (k .writes .moved)) (k .writes then w .0);
               few = omega (arith, k .few, w .1, short, p .forth);
               within = p .within;

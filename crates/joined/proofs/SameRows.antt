@@ -15,14 +15,13 @@ use lib.Seq.{getD-at}
 use Rattle.language.specs.Tables.{tokenWidth, contentKind, contentLow, contentHigh}
 use Rattle.language.specs.Tokens.{Content, eof, string, Token, items, tokensFrom, eofToken, tokens, contents, between, bodiesIn}
 use Rattle.language.specs.Canonical.{spell, after, canonical, text}
-use Rattle.language.proofs.TokenClaims.{places-right, names-held, bodies-held}
+use Rattle.language.proofs.TokenClaims.{places-right, names-held, bodies-held, name-kind}
 use Rattle.language.proofs.TokenContents.{contents-decide}
 use Rattle.lex.specs.Lexing.{nth, bodyAt}
 use Rattle.lex.proofs.Bodies.{some-part}
 use Rattle.canon.specs.Writing.{kindText, rowText, Lexes}
 use Rattle.joined.specs.Canonical.{SameRow, SameRows}
-use Rattle.canon.proofs.Contents.{ends-line, gap-is, string-kind}
-use Rattle.language.proofs.TokenClaims.{name-kind}
+use Rattle.canon.proofs.Contents.{gap-is, string-kind}
 use Rattle.canon.proofs.Rows.{before, counted, tokenAt, RowIs, row-past, row-is, row-text}
 
 -- ---- bodies
@@ -134,7 +133,7 @@ EachAlike cs ds = (length cs ≡ length ds) × ((i : ℕ) → i < length cs → 
 
 -- what follows them
 follow : {c d : Content} (cs ds : List Content) → Alike c d → EachAlike cs ds → after c cs ≡ after d ds
-follow {c} {d} [] [] e (l, f) = rw (← ends-line c, ← ends-line d, e .kind)
+follow {c} {d} [] [] e (l, f) = rw (e .kind)
 follow [] (y ∷ ys) e (l, f) = absurd (omega arith)
 follow (x ∷ xs) [] e (l, f) = absurd (omega arith)
 follow {c} {d} (x ∷ xs) (y ∷ ys) e (l, f) = sym (gap-is c x xs) ∙ rw (e .kind, f 0 (omega arith) .kind) (gap-is d y ys)

@@ -12,7 +12,7 @@ use Rattle.language.specs.Integers.{u16, low16, isTruncated}
 use Rattle.language.specs.Tables as tables
 use Rattle.language.specs.Tokens as tokens
 use Rattle.language.specs.Tokens.{Content, contents}
-use Rattle.language.specs.Sentences.{Expr, literal, sock4, local, path, member, call, slash′, firstOf, exprSize}
+use Rattle.language.specs.Sentences.{Expr, Args, literal, sock4, local, path, member, call, slash′, firstOf, exprSize}
 use Rattle.language.specs.Values as values
 use Rattle.language.specs.Values.{tyInt, tyIp4, typeOf}
 use Rattle.language.specs.Judgements as judgements
@@ -50,6 +50,16 @@ pub record SlashAt (ws : List ℕ) (i : ℕ) (e : Expr) : Type 0 where
   pub right-rep : RepAt ws (word ws i 3) right
   pub is : e ≡ slash′ left right
 
+-- the tree by the kind of its row: a case over a number has only the trees with it
+data RowOf (ws : List ℕ) (i : ℕ) (e : Expr) : ℕ → Type 0 where
+  a-literal : e ≡ literal (word ws i 1) → RowOf ws i e 2
+  a-sock4 : e ≡ sock4 (word ws i 1) → RowOf ws i e 3
+  a-local : e ≡ local (word ws i 1) → RowOf ws i e 4
+  a-path : e ≡ path (word ws i 1) (word ws i 2) → RowOf ws i e 5
+  a-member : MemberAt ws i e → RowOf ws i e 6
+  a-slash : SlashAt ws i e → RowOf ws i e 7
+  a-call : (d : Expr) (t : ℕ) (g : Args) → e ≡ call d t g → RowOf ws i e 8
+
 module _ {ws : List ℕ} where
   pub row-in : {i : ℕ} {e : Expr} → RepAt ws i e → 5 * i + 5 ≤ length ws
   row-in (is-literal f k) = f
@@ -70,61 +80,33 @@ module _ {ws : List ℕ} where
   first-at (is-slash f k z n m a b) = z
   first-at (is-call f k z) = z
 
-  literal-at : {i : ℕ} {e : Expr} → RepAt ws i e → word ws i 0 ≡ 2 → e ≡ literal (word ws i 1)
-  literal-at (is-literal f k) q = refl
-  literal-at (is-sock4 f k) q = absurd (omega arith)
-  literal-at (is-local f k) q = absurd (omega arith)
-  literal-at (is-path f k) q = absurd (omega arith)
-  literal-at (is-member f k z n r) q = absurd (omega arith)
-  literal-at (is-slash f k z n m a b) q = absurd (omega arith)
-  literal-at (is-call f k z) q = absurd (omega arith)
+  own-row : {i : ℕ} {e : Expr} → RepAt ws i e → RowOf ws i e (word ws i 0)
+  own-row (is-literal f k) = rw k (a-literal refl)
+  own-row (is-sock4 f k) = rw k (a-sock4 refl)
+  own-row (is-local f k) = rw k (a-local refl)
+  own-row (is-path f k) = rw k (a-path refl)
+  own-row (is-member {e = e} f k z n r) = rw k (a-member (record { inner = e; near = n; rep = r; is = refl }))
+  own-row (is-slash {a = a} {b = b} f k z n m u v) =
+      rw k (a-slash (record { left = a; right = b; first = z; near = n; near′ = m; left-rep = u; right-rep = v; is = refl }))
+  own-row (is-call {e = e} {t = t} {g = g} f k z) = rw k (a-call e t g refl)
 
-  sock4-at : {i : ℕ} {e : Expr} → RepAt ws i e → word ws i 0 ≡ 3 → e ≡ sock4 (word ws i 1)
-  sock4-at (is-literal f k) q = absurd (omega arith)
-  sock4-at (is-sock4 f k) q = refl
-  sock4-at (is-local f k) q = absurd (omega arith)
-  sock4-at (is-path f k) q = absurd (omega arith)
-  sock4-at (is-member f k z n r) q = absurd (omega arith)
-  sock4-at (is-slash f k z n m a b) q = absurd (omega arith)
-  sock4-at (is-call f k z) q = absurd (omega arith)
+  row-of : {i k : ℕ} {e : Expr} → RepAt ws i e → word ws i 0 ≡ k → RowOf ws i e k
+  row-of {i} {e = e} r q = subst (λ (k : ℕ). RowOf ws i e k) q (own-row r)
 
-  local-at : {i : ℕ} {e : Expr} → RepAt ws i e → word ws i 0 ≡ 4 → e ≡ local (word ws i 1)
-  local-at (is-literal f k) q = absurd (omega arith)
-  local-at (is-sock4 f k) q = absurd (omega arith)
-  local-at (is-local f k) q = refl
-  local-at (is-path f k) q = absurd (omega arith)
-  local-at (is-member f k z n r) q = absurd (omega arith)
-  local-at (is-slash f k z n m a b) q = absurd (omega arith)
-  local-at (is-call f k z) q = absurd (omega arith)
-
-  path-at : {i : ℕ} {e : Expr} → RepAt ws i e → (word ws i 0 ≡ 2 → ⊥) → (word ws i 0 ≡ 3 → ⊥) → (word ws i 0 ≡ 4 → ⊥) → word ws i 0 < 6
-      → e ≡ path (word ws i 1) (word ws i 2)
-  path-at (is-literal f k) o p q l = absurd (o k)
-  path-at (is-sock4 f k) o p q l = absurd (p k)
-  path-at (is-local f k) o p q l = absurd (q k)
-  path-at (is-path f k) o p q l = refl
-  path-at (is-member f k z n r) o p q l = absurd (omega arith)
-  path-at (is-slash f k z n m a b) o p q l = absurd (omega arith)
-  path-at (is-call f k z) o p q l = absurd (omega arith)
+  kinds : {i k : ℕ} {e : Expr} → RowOf ws i e k → (2 ≤ k) × (k ≤ 8)
+  kinds (a-literal w) = omega arith
+  kinds (a-sock4 w) = omega arith
+  kinds (a-local w) = omega arith
+  kinds (a-path w) = omega arith
+  kinds (a-member m) = omega arith
+  kinds (a-slash m) = omega arith
+  kinds (a-call d t g w) = omega arith
 
   pub member-at : {i : ℕ} {e : Expr} → RepAt ws i e → word ws i 0 ≡ 6 → MemberAt ws i e
-  member-at (is-literal f k) q = absurd (omega arith)
-  member-at (is-sock4 f k) q = absurd (omega arith)
-  member-at (is-local f k) q = absurd (omega arith)
-  member-at (is-path f k) q = absurd (omega arith)
-  member-at (is-member {e = e} f k z n r) q = record { inner = e; near = n; rep = r; is = refl }
-  member-at (is-slash f k z n m a b) q = absurd (omega arith)
-  member-at (is-call f k z) q = absurd (omega arith)
+  member-at r q = elim (row-of r q) [ a-member m ↦ m ]
 
   pub slash-at : {i : ℕ} {e : Expr} → RepAt ws i e → 6 ≤ word ws i 0 → (word ws i 0 ≡ 8 → ⊥) → (word ws i 0 ≡ 6 → ⊥) → SlashAt ws i e
-  slash-at (is-literal f k) l p q = absurd (omega arith)
-  slash-at (is-sock4 f k) l p q = absurd (omega arith)
-  slash-at (is-local f k) l p q = absurd (omega arith)
-  slash-at (is-path f k) l p q = absurd (omega arith)
-  slash-at (is-member f k z n r) l p q = absurd (q k)
-  slash-at (is-slash {a = a} {b = b} f k z n m u v) l p q =
-      record { left = a; right = b; first = z; near = n; near′ = m; left-rep = u; right-rep = v; is = refl }
-  slash-at (is-call f k z) l p q = absurd (p k)
+  slash-at r l p q = elim (row-of {k = 7} r (omega (arith, kinds (own-row r)))) [ a-slash m ↦ m ]
 
   -- both operands of a row that is `/`
   pub slash-parts : {i : ℕ} {a b : Expr} → RepAt ws i (slash′ a b)
@@ -348,25 +330,23 @@ module _ (ts : List Content) (n : ℕ) (k : Known) where
 module _ (s : List ℕ) {ws : List ℕ} {i : ℕ} {e : Expr} (n : ℕ) (k : Known) (rep : RepAt ws i e) {t : ℕ} (at : t ≡ word ws i 1) where
   pub leaf-literal : word ws i 0 ≡ 2 → {v : Value} → v ≡ valueAs (literalAt (contents (tokens.tokens s)) t) → LeafIs s (Val v) (judge (contents (tokens.tokens s)) n k e)
   unfolding judge
-  leaf-literal q h = rw (literal-at rep q, ← at) (record { out = ap Val h; quiet = refl })
+  leaf-literal q h = elim (row-of rep q) [ a-literal w ↦ rw (w, ← at) (record { out = ap Val h; quiet = refl }) ]
 
   pub leaf-sock4 : word ws i 0 ≡ 3 → {v : Value} → v ≡ sock4As (tokenOf s t) (tokenOf s (t + 2)) → LeafIs s (Val v) (judge (contents (tokens.tokens s)) n k e)
   unfolding judge
   leaf-sock4 q h =
-      rw (sock4-at rep q, ← at) (record {
-        out = ap Val (h ∙ rw (content-of s t, content-of s (t + 2)));
-        quiet = refl;
-      })
+      elim (row-of rep q) [ a-sock4 w ↦ rw (w, ← at) (record { out = ap Val (h ∙ rw (content-of s t, content-of s (t + 2))); quiet = refl }) ]
 
   module _ {toks : List ℕ} {bindings imports : List (List ℕ)} {c : Counts} (kn : Knows s bindings imports c k) (ready : Ready s toks bindings imports c) {r : Judged} where
     pub leaf-local : {tok : Token} → word ws i 0 ≡ 4 → tok ≡ tokenAs (tokenOf s t) → LocalIs s bindings (c .used) tok r → LeafIs s r (judge (contents (tokens.tokens s)) n k e)
     unfolding judge
-    leaf-local q g h = rw (local-at rep q, ← at, kn .is) (record { out = h .is t g (ready .sound); quiet = refl })
+    leaf-local q g h = elim (row-of rep q) [ a-local w ↦ rw (w, ← at, kn .is) (record { out = h .is t g (ready .sound); quiet = refl }) ]
 
     pub leaf-path : (word ws i 0 ≡ 2 → ⊥) → (word ws i 0 ≡ 3 → ⊥) → (word ws i 0 ≡ 4 → ⊥) → word ws i 0 < 6 → {names : ℕ} → names ≡ word ws i 2
         → PathIs s imports (c .imported) t names r → LeafIs s r (judge (contents (tokens.tokens s)) n k e)
     unfolding judge
-    leaf-path o p q l m h = rw (path-at rep o p q l, ← at, ← m, kn .is) (record { out = h .is; quiet = refl })
+    leaf-path o p q l m h =
+        elim (row-of {k = 5} rep (omega (arith, kinds (own-row rep)))) [ a-path w ↦ rw (w, ← at, ← m, kn .is) (record { out = h .is; quiet = refl }) ]
 
 -- ---- trees
 
@@ -389,13 +369,7 @@ module _ (s : List ℕ) (n : ℕ) (k : Known) where
   pub of-call : {ws : List ℕ} {i : ℕ} {e : Expr} {r : Judgement} {x : List ℕ} {c : Counts} → RepAt ws i e → word ws i 0 ≡ 8 → r .out ≡ Poisoned → r .counts ≡ c
       → Agrees s r x x c (judged e)
   unfolding judge
-  of-call (is-literal f k) q o w = absurd (omega arith)
-  of-call (is-sock4 f k) q o w = absurd (omega arith)
-  of-call (is-local f k) q o w = absurd (omega arith)
-  of-call (is-path f k) q o w = absurd (omega arith)
-  of-call (is-member f k z m r) q o w = absurd (omega arith)
-  of-call (is-slash f k z m l a b) q o w = absurd (omega arith)
-  of-call (is-call f k z) q o w = give poisoned o w
+  of-call r q o w = elim (row-of r q) [ a-call d t g z ↦ rw z (give poisoned o w) ]
 
   pub of-member : {ws : List ℕ} {i : ℕ} {e : Expr} {l r : Judgement} {x y : List ℕ} {c : Counts} {t : ℕ} (p : MemberAt ws i e) → t ≡ word ws i 3 → Members s t l r
       → Agrees s l x y c (judged (p .inner)) → Agrees s r x y c (judged e)

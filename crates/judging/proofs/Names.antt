@@ -18,7 +18,7 @@ use Rattle.language.specs.Tokens as tokens
 use Rattle.language.specs.Tokens.{Content, contents}
 use Rattle.language.specs.Values as values
 use Rattle.language.specs.Values.{Entry, entries, entryAt, entryName, tableText, lookupFrom, lookup}
-use Rattle.language.specs.Judgements.{err, poisoned, unknownItem, notAModule, notAValue, notImported, Binding, find, findImport, nameAt, boundTo, below, walk, lastItem, innerItem}
+use Rattle.language.specs.Judgements.{err, poisoned, unknownItem, notAModule, notAValue, notImported, Binding, firstNamed, find, findImport, nameAt, boundTo, below, walk, lastItem, innerItem}
 use Rattle.language.specs.Judgements as judgements
 use Rattle.language.specs.Findings.{valueKind}
 use Rattle.language.specs.Numbers.{tokenOf}
@@ -86,50 +86,48 @@ module _ (s : List ℕ) (ws : List (List ℕ)) (w : List ℕ) (used i : ℕ) whe
 
 -- ---- what it finds: a table's entries as a list, and the first of a name in it
 
-module _ (s : List ℕ) (ws : List (List ℕ)) {A : Type 0} (entry : ℕ → A) (listed : ℕ → ℕ → List A) (first : List A → List ℕ → Option A)
+-- of k entries from i on, which are the list xs, the one numbered r is the first of the name w
+record Found {A : Type 0} (entry : ℕ → A) (named : A → List ℕ) (xs : List A) (k i : ℕ) (w : List ℕ) (r : ℕ) : Type 0 where
+  hit : {n : ℕ} → n ≡ i + r → r < k → firstNamed named xs w ≡ some (entry n)
+  lost : k ≤ r → firstNamed named xs w ≡ none
+
+module _ (s : List ℕ) (ws : List (List ℕ)) {A : Type 0} (entry : ℕ → A) (named : A → List ℕ) (listed : ℕ → ℕ → List A)
     (empty : (i : ℕ) → listed zero i ≡ []) (one : (k i : ℕ) → listed (suc k) i ≡ entry i ∷ listed k (i + 1))
-    (nothing : (w : List ℕ) → first [] w ≡ none)
-    (step : (i : ℕ) (xs : List A) (w : List ℕ) → first (entry i ∷ xs) w ≡ if′ (same (nameOf s ws i) w) (some (entry i)) (first xs w)) where
-  Found : ℕ → ℕ → List ℕ → ℕ → Type 0
-  Found k i w r = (r < k → first (listed k i) w ≡ some (entry (i + r))) × (k ≤ r → first (listed k i) w ≡ none)
-
-  found-step : (k i : ℕ) (w : List ℕ) (r n : ℕ) (b : Bool) → same (nameOf s ws i) w ≡ b → r ≡ if′ b 0 (suc n) → Found k (i + 1) w n → Found (suc k) i w r
-  unfolding Found
+    (own : (i : ℕ) → named (entry i) ≡ nameOf s ws i) where
+  found-step : (k i : ℕ) (w : List ℕ) (r n : ℕ) (b : Bool) → same (nameOf s ws i) w ≡ b → r ≡ if′ b 0 (suc n)
+      → Found entry named (listed k (i + 1)) k (i + 1) w n → Found entry named (listed (suc k) i) (suc k) i w r
+  unfolding firstNamed
   found-step k i w r n true q e on =
-      ((λ h. let t : i + r ≡ i = omega arith in rw (one k i, step i (listed k (i + 1)) w, q, t)), (λ h. absurd (omega arith)))
+      record { hit = λ {n = m} g h. let t : m ≡ i = omega arith in rw (one k i, own i, q, t); lost = λ h. absurd (omega arith) }
   found-step k i w r n false q e on =
-      let t : i + r ≡ i + 1 + n = omega arith in
-      ((λ h. rw (one k i, step i (listed k (i + 1)) w, q, t) (on .0 (omega arith))), (λ h. rw (one k i, step i (listed k (i + 1)) w, q) (on .1 (omega arith))))
+      record { hit = λ g h. rw (one k i, own i, q) (on .hit (omega arith) (omega arith)); lost = λ h. rw (one k i, own i, q) (on .lost (omega arith)) }
 
-  found-from : (k i : ℕ) (w : List ℕ) (r : ℕ) → r ≡ place (namesIn s ws k i) w → Found k i w r
-  unfolding namesIn place Found
-  found-from zero i w r e = ((λ h. absurd (omega arith)), (λ h. rw (empty i) (nothing w)))
+  found-from : (k i : ℕ) (w : List ℕ) (r : ℕ) → r ≡ place (namesIn s ws k i) w → Found entry named (listed k i) k i w r
+  unfolding namesIn place firstNamed
+  found-from zero i w r e = record { hit = λ g h. absurd (omega arith); lost = λ h. rw (empty i) }
   found-from (suc k) i w r e =
       found-step k i w r (place (namesIn s ws k (i + 1)) w) (same (nameOf s ws i) w) refl e (found-from k (i + 1) w (place (namesIn s ws k (i + 1)) w) refl)
 
 module _ (s : List ℕ) (ws : List (List ℕ)) (w : List ℕ) (used r : ℕ) (e : r ≡ place (namesIn s ws used 0) w) where
-  zeroth : 0 + r ≡ r
-  zeroth = omega arith
+  in-bindings : Found (bindingAt s ws) (λ b. b .name) (boundIn s ws used 0) used 0 w r
+  unfolding boundIn
+  in-bindings = found-from s ws (bindingAt s ws) (λ b. b .name) (boundIn s ws) (λ i. refl) (λ k i. refl) (λ i. refl) used 0 w r e
+
+  in-imports : Found (importAt s ws) (λ m. m .name) (importsIn s ws used 0) used 0 w r
+  unfolding importsIn
+  in-imports = found-from s ws (importAt s ws) (λ m. m .name) (importsIn s ws) (λ i. refl) (λ k i. refl) (λ i. refl) used 0 w r e
 
   pub bound-found : r < used → find (boundIn s ws used 0) w ≡ some (bindingAt s ws r)
-  unfolding find boundIn Found
-  bound-found h =
-      found-from s ws (bindingAt s ws) (boundIn s ws) find (λ i. refl) (λ k i. refl) (λ w. refl) (λ i xs w. refl) used 0 w r e .0 h
-      ∙ ap (λ (i : ℕ). some (bindingAt s ws i)) zeroth
+  bound-found h = in-bindings .hit (omega arith) h
 
   pub bound-lost : used ≤ r → find (boundIn s ws used 0) w ≡ none
-  unfolding find boundIn Found
-  bound-lost h = found-from s ws (bindingAt s ws) (boundIn s ws) find (λ i. refl) (λ k i. refl) (λ w. refl) (λ i xs w. refl) used 0 w r e .1 h
+  bound-lost h = in-bindings .lost h
 
   pub import-found : r < used → findImport (importsIn s ws used 0) w ≡ some (importAt s ws r)
-  unfolding findImport importsIn Found
-  import-found h =
-      found-from s ws (importAt s ws) (importsIn s ws) findImport (λ i. refl) (λ k i. refl) (λ w. refl) (λ i xs w. refl) used 0 w r e .0 h
-      ∙ ap (λ (i : ℕ). some (importAt s ws i)) zeroth
+  import-found h = in-imports .hit (omega arith) h
 
   pub import-lost : used ≤ r → findImport (importsIn s ws used 0) w ≡ none
-  unfolding findImport importsIn Found
-  import-lost h = found-from s ws (importAt s ws) (importsIn s ws) findImport (λ i. refl) (λ k i. refl) (λ w. refl) (λ i xs w. refl) used 0 w r e .1 h
+  import-lost h = in-imports .lost h
 
 -- ---- a name's value
 

@@ -60,25 +60,23 @@ bytes-kind of-text = refl
 pub kind-17 : (u : values.Value) → valueKind u ≡ 17 → 9 ≡ tyKind (typeOf u)
 kind-17 u e = bytes-kind (value-form u e)
 
+-- the number of the type is that of the value, but for bytes of the table; the type has no text, but for a function; and it is no address
+apart : (u : values.Value) → ((valueKind u ≡ 17 → ⊥) → valueKind u ≡ tyKind (typeOf u))
+    × ((valueKind u ≡ 14 → ⊥) → record { from = 0; start = 0; end = 0 } ≡ textAs (typeOf u)) × ((valueKind u ≡ 7 → ⊥) → ip4Of u ≡ none)
+apart (isInteger n) = ((λ h. refl), (λ h. refl), (λ h. refl))
+apart (isBool b) = ((λ h. refl), (λ h. refl), (λ h. refl))
+apart (isSized t n) = ((λ h. refl), (λ h. refl), (λ h. refl))
+apart (isIp4 n) = ((λ h. refl), (λ h. refl), (λ h. absurd (h refl)))
+apart (isSock4 n p) = ((λ h. refl), (λ h. refl), (λ h. refl))
+apart (isString t) = ((λ h. refl), (λ h. refl), (λ h. refl))
+apart (isText a b) = ((λ h. absurd (h refl)), (λ h. refl), (λ h. refl))
+apart (isFunction k) = ((λ h. refl), (λ h. absurd (h refl)), (λ h. refl))
+
 pub kind-type : (u : values.Value) → (valueKind u ≡ 17 → ⊥) → valueKind u ≡ tyKind (typeOf u)
-kind-type (isInteger n) h = refl
-kind-type (isBool b) h = refl
-kind-type (isSized t n) h = refl
-kind-type (isIp4 n) h = refl
-kind-type (isSock4 n p) h = refl
-kind-type (isString t) h = refl
-kind-type (isText a b) h = absurd (h refl)
-kind-type (isFunction k) h = refl
+kind-type u h = apart u .0 h
 
 pub plain-text : (u : values.Value) → (valueKind u ≡ 14 → ⊥) → record { from = 0; start = 0; end = 0 } ≡ textAs (typeOf u)
-plain-text (isInteger n) h = refl
-plain-text (isBool b) h = refl
-plain-text (isSized t n) h = refl
-plain-text (isIp4 n) h = refl
-plain-text (isSock4 n p) h = refl
-plain-text (isString t) h = refl
-plain-text (isText a b) h = refl
-plain-text (isFunction k) h = absurd (h refl)
+plain-text u h = apart u .1 h
 
 function-text : {u : values.Value} {rows : List ℕ} → rows ≡ tableRows → ValueOf 14 u
     → record { from = 2; start = entryWord rows (valueLow u) 1; end = entryWord rows (valueLow u) 2 } ≡ textAs (typeOf u)
@@ -93,14 +91,7 @@ pub ip4-is : (u : values.Value) → valueKind u ≡ 7 → ip4Of u ≡ some (valu
 ip4-is u e = ip4-value (value-form u e)
 
 pub ip4-not : (u : values.Value) → (valueKind u ≡ 7 → ⊥) → ip4Of u ≡ none
-ip4-not (isInteger n) h = refl
-ip4-not (isBool b) h = refl
-ip4-not (isSized t n) h = refl
-ip4-not (isIp4 n) h = absurd (h refl)
-ip4-not (isSock4 n p) h = refl
-ip4-not (isString t) h = refl
-ip4-not (isText a b) h = refl
-ip4-not (isFunction k) h = refl
+ip4-not u h = apart u .2 h
 
 -- the number that two words are
 abbrev pub numberAs : values.Value → ℕ

@@ -10,7 +10,9 @@ use Rattle.language.proofs.Utf8.{good-is-encoded}
 use Rattle.language.proofs.CanonicalGood.{Part}
 use Rattle.language.proofs.CanonicalLines.{pieces, by-walk}
 use Rattle.language.proofs.CanonicalJoin.{Reads, no-error, joins, alone, tokens-join, joins-text}
-use Rattle.language.proofs.CanonicalText.{AllFine, walk-fine, Parts, parts-of, text-reads, text-encoded}
+use Rattle.language.proofs.Each.{All}
+use Rattle.language.proofs.CanonicalSound.{Fine}
+use Rattle.language.proofs.CanonicalText.{walk-fine, Parts, parts-of, text-reads, text-encoded}
 
 -- the contents of a source that reads as parts
 contents-join : (s : List ℕ) (ps : List Part) → Reads (pieces (items s)) ps → contents (tokens s) ≡ joins ps
@@ -20,7 +22,7 @@ contents-join s ps r = tokens-join (items s) ps (eofToken s) r refl none
 module _ (s : List ℕ) (h : Lexes s) where
   -- its good parts
   parts : Parts (pieces (items s))
-  parts = parts-of (items s) (subst AllFine (sym (by-walk s)) (walk-fine s 0 [] (good-is-encoded .0 s (h .whole)))) (h .good)
+  parts = parts-of (items s) (subst (All Fine) (sym (by-walk s)) (walk-fine s 0 [] (good-is-encoded .0 s (h .whole)))) (h .good)
 
   -- the text is that of the parts, each alone
   by-parts : text s ≡ canonical (alone (parts .parts))

@@ -8,7 +8,7 @@ use mathlib.Core.Option.{Option, none, some}
 use native.Mathlib.Omega.{arith}
 use native.Mathlib.Decide.{decLt}
 use borrow.Author.Tests.{lt-ltb, ne-eqb, not-true}
-use lib.Dec.{eqb}
+use lib.Dec.{eqb, ltb}
 use lib.ListN.{length, take, length-append}
 use lib.Seq.{take-append-seam, getD-append-seam}
 use Rattle.language.specs.Choice.{if′, within}
@@ -16,6 +16,7 @@ use Rattle.language.specs.Utf8.{char, charAt, leadOf, follow, Encoded}
 use Rattle.language.specs.Lexemes.{Tok, lParen, rParen, dot, doubleColon, colon, semiColon, equals, comma, slash, importKeyword, letKeyword, identifier, booleanLiteral, ipv4Literal, hexLiteral, decLiteral, unexpectedChar, Kind, str, tok, error, Lexeme, lexemeOf, isBlank, isDigit, isWordStart, isWord, notNewline, isBody, run, all, word, number, punctuation, ascii, lexeme}
 use Rattle.language.specs.Lexemes as lexemes
 use Rattle.language.specs.Tokens.{Content, plain, name, string, Piece, body, token, pieceOf}
+use Rattle.language.specs.Tables.{tokKind}
 use Rattle.language.specs.Canonical.{spellTok, quoted, spell}
 use Rattle.language.proofs.Tests.{both, inside, inside-test, outside-test}
 use Rattle.language.proofs.SpellingRuns.{and, all-parts, all-append, all-also, run-all, up-to, implied}
@@ -91,23 +92,9 @@ pub by-end : (P : List ℕ → Type 0) → P [] → ((r : List ℕ) → P (32 �
 by-end P e s r end = e
 by-end P e s r (space {r = q}) = s q
 
+-- punctuation, keywords and booleans, by the number of the kind
 abbrev pub isFixed : Tok → Bool
-isFixed lParen = true
-isFixed rParen = true
-isFixed dot = true
-isFixed doubleColon = true
-isFixed colon = true
-isFixed semiColon = true
-isFixed equals = true
-isFixed comma = true
-isFixed slash = true
-isFixed importKeyword = true
-isFixed letKeyword = true
-isFixed identifier = false
-isFixed (booleanLiteral b) = true
-isFixed (ipv4Literal n) = false
-isFixed (hexLiteral n) = false
-isFixed (decLiteral n) = false
+isFixed t = ltb (tokKind t) 13 || eqb (tokKind t) 14
 
 -- by what is read before either end
 fixed : (t : Tok) (front : ℕ) (back : List ℕ) → spellTok t ≡ front ∷ back → all isVisible (front ∷ back) ≡ true

@@ -16,7 +16,8 @@ use Rattle.language.specs.Lexemes.{Tok, lParen, rParen, dot, doubleColon
 use Rattle.language.specs.Lexemes as lexemes
 use Rattle.language.specs.Tokens.{plain, Piece, gap, body, token, contentOf, unquoted, pieceOf}
 use Rattle.language.specs.Tokens as tokens
-use Rattle.language.proofs.LexemeSizes.{by-cases, stands}
+use Rattle.language.proofs.Tests.{by-cases}
+use Rattle.language.proofs.LexemeSizes.{stands}
 use Rattle.language.proofs.LexemeDigits.{digits-read}
 use Rattle.language.proofs.SpellingRuns.{all-run}
 use Rattle.language.proofs.CanonicalUtf8.{isAscii, cut}

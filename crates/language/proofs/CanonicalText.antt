@@ -14,8 +14,8 @@ use Rattle.language.specs.Utf8.{charAt, leadOf, follow, Encoded}
 use Rattle.language.specs.Lexemes.{all, notNewline, isBlank, blankRun, lexeme}
 use Rattle.language.specs.Tokens.{Piece, gap, Item, firstWrong}
 use Rattle.language.specs.Canonical.{spell, endsLine, between′, after, canonical}
-use Rattle.language.proofs.Tests.{both, inside, never}
-use Rattle.language.proofs.LexemeSizes.{by-cases}
+use Rattle.language.proofs.Each.{All}
+use Rattle.language.proofs.Tests.{both, inside, never, by-cases}
 use Rattle.language.proofs.SpellingRuns.{all-parts, up-to, implied}
 use Rattle.language.proofs.CanonicalUtf8.{encoded-append, ascii-encoded}
 use Rattle.language.proofs.CanonicalGood.{Part, literal, named, other, pieceFor, contentFor, Ends, end, space, isVisible, Good, ascii-char}
@@ -23,15 +23,7 @@ use Rattle.language.proofs.CanonicalSound.{Fine, a-gap, an-error, a-par
 use Rattle.language.proofs.CanonicalLines.{lineOf, walk, pieces}
 use Rattle.language.proofs.CanonicalJoin.{Reads, nothing, past, next, alone}
 
-abbrev pub AllGood : List Part → Type 0
-AllGood [] = Unit {0}
-AllGood (p ∷ ps) = Good p × AllGood ps
-
 -- ---- a source is good parts
-
-abbrev pub AllFine : List Piece → Type 0
-AllFine [] = Unit {0}
-AllFine (q ∷ qs) = Fine q × AllFine qs
 
 -- a line begins its source
 line-first : (s : List ℕ) → (q : List ℕ) × (lineOf s ++ q ≡ s)
@@ -43,21 +35,21 @@ line-first (b ∷ s) = go (eqb b 10) (line-first s)
     go false h = (h .0, ap (λ (x : List ℕ). b ∷ x) (h .1))
 
 -- each piece of an encoded text, of which s is the rest
-pub walk-fine : (s : List ℕ) (skip : ℕ) (p : List ℕ) → Encoded (p ++ s) → AllFine (walk skip s)
+pub walk-fine : (s : List ℕ) (skip : ℕ) (p : List ℕ) → Encoded (p ++ s) → All Fine (walk skip s)
 unfolding walk
 walk-fine [] skip p w = tt
 walk-fine (b ∷ s) (suc skip) p w = walk-fine s skip (p ++ b ∷ []) (rw append-assoc w)
 walk-fine (b ∷ s) zero p w =
     let m : Encoded ((p ++ b ∷ []) ++ s) = rw append-assoc w in
     let q = line-first s in
-    by-cases AllFine (eqb b 10) (λ _. walk-fine s 0 (p ++ b ∷ []) m)
+    by-cases (All Fine) (eqb b 10) (λ _. walk-fine s 0 (p ++ b ∷ []) m)
     (λ _. (lexeme-fine b (lineOf s) p (q .0) (rw (q .1) w), walk-fine s _ (p ++ b ∷ []) m))
 
 -- pieces that are good parts
 pub record Parts (qs : List Piece) : Type 0 where
   pub parts : List Part
   pub reads : Reads qs parts
-  pub good : AllGood parts
+  pub good : All Good parts
 
 -- no error is first after a part either
 after-part : (i : Item) (is : List Item) (p : Part) → i .piece ≡ pieceFor p → firstWrong (i ∷ is) ≡ none → firstWrong is ≡ none
@@ -67,7 +59,7 @@ after-part i is (named w) k e = rw k at e
 after-part i is (other t) k e = rw k at e
 
 -- lexemes without an error are parts
-pub parts-of : (is : List Item) → AllFine (pieces is) → firstWrong is ≡ none → Parts (pieces is)
+pub parts-of : (is : List Item) → All Fine (pieces is) → firstWrong is ≡ none → Parts (pieces is)
 unfolding firstWrong
 parts-of [] f e = record { parts = []; reads = nothing; good = tt }
 parts-of (i ∷ is) f e = go refl (f .0) (parts-of is (f .1))
@@ -157,7 +149,7 @@ spaced (named w) ps = refl
 spaced (other t) ps = refl
 
 -- it ends the part, and reads as the others
-tail-reads : (t : Bool) (ps : List Part) → AllGood ps → Reads (walk 0 (canonical (alone ps))) ps
+tail-reads : (t : Bool) (ps : List Part) → All Good ps → Reads (walk 0 (canonical (alone ps))) ps
     → Ends (lineOf (tail t ps)) × Reads (walk 0 (tail t ps)) ps
 unfolding walk canonical spell
 tail-reads true ps g r = (end, r)
@@ -168,7 +160,7 @@ tail-reads false (p ∷ ps) g r =
     rw e (space, rw (a-space (g .0 .front) (f .0) (g .0 .starts)) (past refl (rw (f .1) at r)))
 
 -- the text of good parts is read as those parts
-pub text-reads : (ps : List Part) → AllGood ps → Reads (walk 0 (canonical (alone ps))) ps
+pub text-reads : (ps : List Part) → All Good ps → Reads (walk 0 (canonical (alone ps))) ps
 unfolding canonical spell walk
 text-reads [] g = nothing
 text-reads (p ∷ ps) g =
@@ -185,7 +177,7 @@ between-encoded true ps = ascii-encoded (10 ∷ []) refl
 between-encoded false [] = ascii-encoded [] refl
 between-encoded false (p ∷ ps) = rw (spaced p ps) (ascii-encoded (32 ∷ []) refl)
 
-pub text-encoded : (ps : List Part) → AllGood ps → Encoded (canonical (alone ps))
+pub text-encoded : (ps : List Part) → All Good ps → Encoded (canonical (alone ps))
 unfolding canonical spell
 text-encoded [] g = ascii-encoded [] refl
 text-encoded (p ∷ ps) g =

@@ -9,8 +9,7 @@ use borrow.Author.Tests.{le-leb, ltb-true}
 use lib.Dec.{leb, ltb}
 use Rattle.language.specs.Utf8.{isScalar, encode, Encoded, nothing, another}
 use Rattle.language.specs.Lexemes.{all}
-use Rattle.language.proofs.Tests.{outside-test, never}
-use Rattle.language.proofs.LexemeSizes.{by-cases}
+use Rattle.language.proofs.Tests.{outside-test, never, by-cases}
 use Rattle.language.proofs.SpellingRuns.{all-parts}
 
 abbrev pub isAscii : ℕ → Bool

@@ -41,23 +41,12 @@ unfolding checkAnswer checked checked-after
 checked-by s t n k = refl
 
 module _ (s u : List ℕ) where
-  same : (a : Checked) → a .verdict .line ≡ 0 → a .verdict .column ≡ 0 → SameCheck s u a a
-  same a l c =
-      record {
-        number = refl;
-        kind = refl;
-        place = nowhere l c l c;
-        character = refl;
-        tokens = refl;
-        nodes = refl;
-        errors = refl;
-        warnings = refl;
-        statements = refl;
-      }
-
-  same-refused : (v w : Verdict) → v .number ≡ w .number → v .kind ≡ w .kind → SamePlace s u v w → v .character ≡ w .character
-      → SameCheck s u (refusedCheck v) (refusedCheck w)
-  same-refused v w n k p c =
+  -- answers that differ in their verdicts alone
+  alike : (a : Checked) (v : Verdict) → a .verdict .number ≡ v .number → a .verdict .kind ≡ v .kind → SamePlace s u (a .verdict) v
+      → a .verdict .character ≡ v .character
+      → SameCheck s u a
+      (record { verdict = v; tokens = a .tokens; nodes = a .nodes; errors = a .errors; warnings = a .warnings; statements = a .statements })
+  alike a v n k p c =
       record {
         number = n;
         kind = k;
@@ -70,9 +59,12 @@ module _ (s u : List ℕ) where
         statements = refl;
       }
 
+  same : (a : Checked) → a .verdict .line ≡ 0 → a .verdict .column ≡ 0 → SameCheck s u a a
+  same a l c = alike a (a .verdict) refl refl (nowhere l c l c) refl
+
   same-at : (n at : ℕ) → SameCheck s u (refusedCheck (placed n (tokenPlace s at))) (refusedCheck (placed n (tokenPlace u at)))
   same-at n at =
-      same-refused (placed n (tokenPlace s at)) (placed n (tokenPlace u at)) refl refl (at-token at refl refl refl refl) refl
+      alike (refusedCheck (placed n (tokenPlace s at))) (placed n (tokenPlace u at)) refl refl (at-token at refl refl refl refl) refl
 
   same-within : (room t n : ℕ) (ds : List Diag) (hs : List Held)
       → let a = checkedWithin room t n ds hs in SameCheck s u a a
@@ -101,7 +93,7 @@ module _ (s u : List ℕ) where
         rw e
         (both-sides (SameCheck s u) b
         (λ _. same-parsed room (firstCall (parsedNodes (program cs))) (judgeAll cs (statementsOf (program cs))))
-        (λ _. same-refused (p .verdict) (q .verdict) (h .number) (h .kind) (h .place) (h .character)))
+        (λ _. alike (refusedCheck (p .verdict)) (q .verdict) (h .number) (h .kind) (h .place) (h .character)))
 
 same-answer : (s u : List ℕ) → Lexes s → Lexes u → contents (tokens s) ≡ contents (tokens u) → (t n k : ℕ)
     → SameCheck s u (checkAnswer s t n k) (checkAnswer u t n k)

@@ -12,8 +12,7 @@ use Rattle.language.specs.Tokens.{Content, eof, plain}
 use Rattle.language.specs.Sentences.{Expr, Stmt, import′, let′, expr′, Out, ok, no, andThen, mostLists, is, isName, exprAt, ended, importAt, letAt, stmtAt, stmtsFrom, program}
 use Rattle.language.specs.Bounds.{alone, reached}
 use Rattle.language.specs.Counted.{turn, tooMany, Counted, CountedInPrograms}
-use Rattle.language.proofs.Tests.{never}
-use Rattle.language.proofs.LexemeSizes.{by-cases}
+use Rattle.language.proofs.Tests.{never, by-cases}
 use Rattle.language.proofs.Bounds.{Passed, bounded}
 use Rattle.language.proofs.CountedTokens.{At, start, there, passed, after-semiColon, none-named, not-before}
 use Rattle.language.proofs.CountedGrammar.{Paced, found, refused, stopped, onward, Made, after-name, whole-paced}

@@ -13,8 +13,7 @@ use Rattle.language.specs.Tokens.{Content, eof, plain, name, string}
 use Rattle.language.specs.Tables.{contentKind}
 use Rattle.language.specs.Sentences.{Expr, sock4, member, call, slash′, Args, none-given, given, named, Port, port, tooLarge, notPort, portOf, Out, ok, no, andThen, unexpected, outOfRange, mostSteps, mostLists, is, isName, isLiteral, namesFrom, address, named′, primary, links, chainOf, slashes, exprOf, argOf, argsOf, listAt, exprAt}
 use Rattle.language.specs.Counted.{turn, tooMany}
-use Rattle.language.proofs.Tests.{never, either}
-use Rattle.language.proofs.LexemeSizes.{by-cases}
+use Rattle.language.proofs.Tests.{never, either, by-cases}
 use Rattle.language.proofs.CountedTokens.{At, there, passed, opened, closed, dotted, slashed, after-comma, list-named, lParen-named, dot-named, slash-named}
 
 -- a port is a decimal token

@@ -12,11 +12,10 @@ use lib.Dec.{ltb, eqb}
 use lib.ListN.{length, getD, take, drop, length-append, length-drop, List·getD-eq-default, List·getD-append}
 use lib.Seq.{take-append-le, drop-append-le, getD-append-add}
 use Rattle.language.specs.Choice.{if′, within}
-use Rattle.language.specs.Utf8.{encode, Char, char, noChar, Lead, lead, leadOf, follow, begun, charAt}
+use Rattle.language.specs.Utf8.{encode, Char, char, noChar, leadOf, follow, begun, charAt}
 use Rattle.language.specs.Lexemes.{Tok, word, Kind, trivia, tok, error, unexpectedChar, Lexeme, lexemeOf, run, isBlank, blankRun, isDigit, isWord, isWordStart, isBody, notNewline, octet, joined, Quad, quad, notQuad, further, quadFrom, quadLexeme, integer, number, string, comment, punctuation, ascii, lexemeAt, lexeme}
-use Rattle.language.proofs.Tests.{both-sides, inside}
-use Rattle.language.proofs.Utf8Rows.{character-at}
-use Rattle.language.proofs.LexemeSizes.{by-cases}
+use Rattle.language.proofs.Tests.{both-sides, inside, by-cases}
+use Rattle.language.proofs.Utf8Rows.{at, Bounds, bounds, by-rows, character-at}
 
 -- z has a first byte, and it is not 10
 abbrev Goes : List ℕ → Type 0
@@ -127,21 +126,11 @@ follow-cut m size (suc left) low high bits (b ∷ s) z h e =
 
 -- the first character, by the rows of `leadOf`
 char-cut : (b : ℕ) (s z : List ℕ) → CharCut (suc (length s)) z (charAt (b ∷ s)) (charAt (b ∷ s ++ z))
-unfolding charAt leadOf
+unfolding charAt
 char-cut b s z =
-    let P : Option Lead → Type 0 = λ o. CharCut (suc (length s)) z (begun o s) (begun o (s ++ z)) in
-    by-cases P (within 0x00 0x7F b) (λ _. row 0 0x80 0xBF _ refl)
-    (λ _. by-cases P (within 0xC2 0xDF b) (λ _. row 1 0x80 0xBF _ refl)
-    (λ _. by-cases P (within 0xE0 0xE0 b) (λ _. row 2 0xA0 0xBF _ refl)
-    (λ _. by-cases P (within 0xE1 0xEC b) (λ _. row 2 0x80 0xBF _ refl)
-    (λ _. by-cases P (within 0xED 0xED b) (λ _. row 2 0x80 0x9F _ refl)
-    (λ _. by-cases P (within 0xEE 0xEF b) (λ _. row 2 0x80 0xBF _ refl)
-    (λ _. by-cases P (within 0xF0 0xF0 b) (λ _. row 3 0x90 0xBF _ refl)
-    (λ _. by-cases P (within 0xF1 0xF3 b) (λ _. row 3 0x80 0xBF _ refl)
-    (λ _. by-cases P (within 0xF4 0xF4 b) (λ _. row 3 0x80 0x8F _ refl) (λ _. unread)))))))))
-  where
-    row : (t l h bits : ℕ) → ltb 10 l ≡ true → CharCut (suc (length s)) z (begun (lead t l h bits) s) (begun (lead t l h bits) (s ++ z))
-    row t l h bits e = follow-cut (suc (length s)) (suc t) t l h bits s z (ltb-true 10 l e) (omega arith)
+    by-rows (λ o. CharCut (suc (length s)) z (begun o s) (begun o (s ++ z))) b
+    (λ r a _. follow-cut (suc (length s)) _ (r .tails) (r .next) (r .last) _ s z (omega (arith, at Bounds bounds a .tail-least)) (omega arith))
+    unread
 
 -- ---- blank characters
 

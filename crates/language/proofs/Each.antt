@@ -5,6 +5,11 @@ use mathlib.Core.Logic.{inl, inr}
 pub record Each {A : Type 0} (P : A → Type 0) (xs : List A) : Type 0 where
   pub holds : (x : A) → List·Memᴰ x xs → P x
 
+-- the same of a list that is there
+abbrev pub All : {A : Type 0} → (A → Type 0) → List A → Type 0
+All P [] = Unit {0}
+All P (x ∷ xs) = P x × All P xs
+
 module _ {A : Type 0} {P : A → Type 0} where
   pub of-none : Each P []
   of-none = record { holds = λ x m. absurd (List·Memᴰ·not-nil m) }

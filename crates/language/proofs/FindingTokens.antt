@@ -2,7 +2,7 @@
 -- stands at one, a string that is held is one, and a function or module that is shown has a name in the table.
 use Prim.Native.Nat.{ℕ, zero, suc, _+_, _*_, _<_}
 use mathlib.Core.Path.{_≡_, refl}
-use mathlib.Core.Bool.{true, _&&_}
+use mathlib.Core.Bool.{Bool, true, _&&_}
 use mathlib.Core.List.{List, [], _∷_, _++_, List·Memᴰ·head, List·Memᴰ·tail}
 use mathlib.Core.Option.{Option, none, some}
 use native.Mathlib.Omega.{arith}
@@ -16,14 +16,14 @@ use Rattle.language.specs.Tokens.{Content, eof, plain, name, string}
 use Rattle.language.specs.Sentences.{Expr, Stmt, firstOf, Out, ok, no, is, program}
 use Rattle.language.specs.Grammar.{PathNames, is-start, is-name, Chain, is-literal, is-address, is-sock4, is-local, is-path, is-member, is-call, Slashed, is-chain, is-slash, Expression, is-expression, Statement, is-import, is-let, is-expr, Program, is-end, is-next}
 use Rattle.language.specs.Values.{Value, isInteger, isBool, isSized, isIp4, isSock4, isString, isText, isFunction, Ty, tyBool, tyInt, tyIp4, tySock4, tyBytes, tyFunction, tyInteger, typeOf, Entry, entry, tableText, entries, entryAt, entryName, lookupFrom, lookup}
-use Rattle.language.specs.Judgements.{left, right, What, unknownName, unknownItem, unknownModule, notImported, notAModule, notAValue, alreadyBound, noMembers, operandType, integralTooLarge, multipleImports, discardedValue, truncated, Diag, Judged, val, err, poisoned, Judgement, judgement, andThen, goesOn, ip4Of, integerOf, Known, known, Import, Binding, Held, Turn, goes, full, Outcome, find, findImport, mostImports, mostNames, content, nameAt, tokValue, literalValue, leftOf, rightOf, cut, narrowed, lastItem, innerItem, walk, below, boundTo, judge, imported, importStmt, bound, letStmt, discarded, told, stmt, onward, run, judgeAll}
+use Rattle.language.specs.Judgements.{left, right, What, unknownName, unknownItem, unknownModule, notImported, notAModule, notAValue, alreadyBound, noMembers, operandType, integralTooLarge, multipleImports, discardedValue, truncated, Diag, Judged, val, err, poisoned, Judgement, judgement, andThen, goesOn, ip4Of, integerOf, Known, known, Import, Binding, Held, Turn, goes, full, Outcome, firstNamed, find, findImport, mostImports, mostNames, content, nameAt, tokValue, literalValue, leftOf, rightOf, cut, narrowed, lastItem, innerItem, walk, below, boundTo, judge, imported, importStmt, bound, letStmt, discarded, told, stmt, onward, run, judgeAll}
 use Rattle.language.specs.Numbers.{statementsOf, foundBy, heldBy}
 use Rattle.language.specs.Checks.{PartOf}
 use Rattle.language.proofs.Tests.{both, each-side}
-use Rattle.language.proofs.Each.{Each, of-none, of-one, of-both}
+use Rattle.language.proofs.Each.{Each, All, of-none, of-one, of-both}
 use Rattle.language.proofs.SentenceOutcomes.{Every}
 use Rattle.language.proofs.GrammarSound.{found-program}
-use Rattle.language.proofs.GrammarRows.{names-next}
+use Rattle.language.proofs.GrammarPlaces.{names-next}
 
 -- a part of the table's text, by a test
 part : (start end : ℕ) → ltb start end && leb end (length tableText) ≡ true → PartOf tableText start end
@@ -45,46 +45,34 @@ NamedTy tySock4 = Unit {0}
 NamedTy tyBytes = Unit {0}
 NamedTy tyInteger = Unit {0}
 
--- each of the entries from k on has one, so what is looked up has
-abbrev AllNamed : List Entry → ℕ → Type 0
-AllNamed [] k = Unit {0}
-AllNamed (e ∷ es) k = NamedEntry k × AllNamed es (suc k)
+-- of what is found, if anything is
+abbrev If : {A : Type 0} → (A → Type 0) → Option A → Type 0
+If P (some a) = P a
+If P none = Unit {0}
 
-abbrev NamedIf : Option ℕ → Type 0
-NamedIf (some k) = NamedEntry k
-NamedIf none = Unit {0}
+find-each : {A : Type 0} {P : A → Type 0} (named : A → List ℕ) (xs : List A) (w : List ℕ) → Each P xs → If P (firstNamed named xs w)
+unfolding firstNamed
+find-each named [] w h = tt
+find-each {P = P} named (a ∷ xs) w h =
+    each-side (If P) (same (named a) w) (h .holds a (List·Memᴰ·head refl))
+    (find-each named xs w (record { holds = λ c m. h .holds c (List·Memᴰ·tail m) }))
 
-lookup-from : (es : List Entry) (k m : ℕ) (w : List ℕ) → AllNamed es k → NamedIf (lookupFrom es k m w)
-unfolding lookupFrom
+-- each of the entries from k on has a name, by a test, so what is looked up has
+allNamed : List Entry → ℕ → Bool
+allNamed [] k = true
+allNamed (e ∷ es) k = (ltb (entryAt k .start) (entryAt k .end) && leb (entryAt k .end) (length tableText)) && allNamed es (suc k)
+
+lookup-from : (es : List Entry) (k m : ℕ) (w : List ℕ) → allNamed es k ≡ true → If NamedEntry (lookupFrom es k m w)
+unfolding lookupFrom allNamed
 lookup-from [] k m w h = tt
 lookup-from (e ∷ es) k m w h =
-    each-side NamedIf (eqb (e .inside) m && same (entryName e) w) (h .0) (lookup-from es (suc k) m w (h .1))
+    let b = both _ (allNamed es (suc k)) h in
+    each-side (If NamedEntry) (eqb (e .inside) m && same (entryName e) w) (part (entryAt k .start) (entryAt k .end) (b .0))
+    (lookup-from es (suc k) m w (b .1))
 
-lookup-named : (m : ℕ) (w : List ℕ) → NamedIf (lookup m w)
-unfolding entries tableText
-lookup-named m w =
-    lookup-from entries 1 m w (
-      part 0 5 refl,
-      (
-        part 5 9 refl,
-        (
-          part 9 13 refl,
-          (
-            part 13 16 refl,
-            (
-              part 16 18 refl,
-              (
-                part 18 24 refl,
-                (
-                  part 26 30 refl,
-                  (part 30 34 refl, (part 34 38 refl, tt)),
-                ),
-              ),
-            ),
-          ),
-        ),
-      ),
-    )
+lookup-named : (m : ℕ) (w : List ℕ) → If NamedEntry (lookup m w)
+unfolding entries tableText allNamed
+lookup-named m w = lookup-from entries 1 m w refl
 
 module _ (ts : List Content) where
   -- the kinds that show a name ask for one where they stand, those that show an entry of the table for its name
@@ -116,10 +104,6 @@ module _ (ts : List Content) where
   Right (isSock4 n p) = Unit {0}
   Right (isText a b) = PartOf tableText a b
   Right (isFunction k) = NamedEntry k
-
-  abbrev RightIf : Option Value → Type 0
-  RightIf (some v) = Right v
-  RightIf none = Unit {0}
 
   -- ---- values
 
@@ -157,9 +141,9 @@ module _ (ts : List Content) where
   literal-right t (name bs) e = tt
   literal-right t eof e = tt
 
-  narrowed-right : (v : Value) → Right v → RightIf (narrowed v)
+  narrowed-right : (v : Value) → Right v → If Right (narrowed v)
   narrowed-right (isInteger n) h =
-      elim (smallest n) as (λ o. RightIf (elim o [ some t ↦ some (isSized t n) | none ↦ none ])) [ some t ↦ tt | none ↦ tt ]
+      elim (smallest n) as (λ o. If Right (elim o [ some t ↦ some (isSized t n) | none ↦ none ])) [ some t ↦ tt | none ↦ tt ]
   narrowed-right (isBool b) h = tt
   narrowed-right (isSized t n) h = tt
   narrowed-right (isIp4 n) h = tt
@@ -169,16 +153,12 @@ module _ (ts : List Content) where
   narrowed-right (isFunction k) h = h
 
   -- the constant table holds no string of the source, and its bytes are a part of its text
-  abbrev AllRight : List Entry → Type 0
-  AllRight [] = Unit {0}
-  AllRight (e ∷ es) = RightIf (e .value) × AllRight es
-
-  getD-right : (es : List Entry) (k : ℕ) → AllRight es → RightIf (getD es k (entry 0 0 0 none) .value)
+  getD-right : (es : List Entry) (k : ℕ) → All (λ e. If Right (e .value)) es → If Right (getD es k (entry 0 0 0 none) .value)
   getD-right [] k h = tt
   getD-right (e ∷ es) zero h = h .0
   getD-right (e ∷ es) (suc k) h = getD-right es k (h .1)
 
-  entry-right : (k : ℕ) → RightIf (entryAt k .value)
+  entry-right : (k : ℕ) → If Right (entryAt k .value)
   unfolding entries tableText
   entry-right zero = tt
   entry-right (suc k) = getD-right entries k (tt, (tt, (tt, (tt, (tt, (part 24 26 refl, (part 26 30 refl, (tt, (tt, tt)))))))))
@@ -186,37 +166,15 @@ module _ (ts : List Content) where
   -- ---- what is known
 
   abbrev Bound : Binding → Type 0
-  Bound b = RightIf (b .value)
+  Bound b = If Right (b .value)
 
   abbrev Found : Import → Type 0
-  Found i = NamedIf (i .found)
+  Found i = If NamedEntry (i .found)
 
   -- values are right, and modules have a name
   record Sure (k : Known) : Type 0 where
     values : Each Bound (k .bindings)
     modules : Each Found (k .imports)
-
-  abbrev BoundIf : Option Binding → Type 0
-  BoundIf (some b) = Bound b
-  BoundIf none = Unit {0}
-
-  find-bound : (bs : List Binding) (w : List ℕ) → Each Bound bs → BoundIf (find bs w)
-  unfolding find
-  find-bound [] w h = tt
-  find-bound (b ∷ bs) w h =
-      each-side BoundIf (same (b .name) w) (h .holds b (List·Memᴰ·head refl))
-      (find-bound bs w (record { holds = λ c m. h .holds c (List·Memᴰ·tail m) }))
-
-  abbrev FoundIf : Option Import → Type 0
-  FoundIf (some i) = Found i
-  FoundIf none = Unit {0}
-
-  find-import : (is : List Import) (w : List ℕ) → Each Found is → FoundIf (findImport is w)
-  unfolding findImport
-  find-import [] w h = tt
-  find-import (i ∷ is) w h =
-      each-side FoundIf (same (i .name) w) (h .holds i (List·Memᴰ·head refl))
-      (find-import is w (record { holds = λ c m. h .holds c (List·Memᴰ·tail m) }))
 
   -- ---- judgements
 
@@ -241,11 +199,11 @@ module _ (ts : List Content) where
       by (err at w) r = record { out = r; warns = h .warns }
       by poisoned r = record { out = tt; warns = h .warns }
 
-  bound-sound : (t : ℕ) (o : Option Binding) → is ts t (name []) ≡ true → BoundIf o → Sound (boundTo ts t o)
+  bound-sound : (t : ℕ) (o : Option Binding) → is ts t (name []) ≡ true → If Bound o → Sound (boundTo ts t o)
   bound-sound t none a h = a
   bound-sound t (some b) a h = by (b .value) h
     where
-      by : (o : Option Value) → RightIf o → Sound (elim o [ some v ↦ val v | none ↦ poisoned ])
+      by : (o : Option Value) → If Right o → Sound (elim o [ some v ↦ val v | none ↦ poisoned ])
       by (some v) r = r
       by none r = tt
 
@@ -263,7 +221,7 @@ module _ (ts : List Content) where
         | Dec.no m ↦ let last : t ≡ at + 2 * suc j = omega (arith, names-next ts p, a .after) in rw last at (b .passes)
       ]
 
-  last-sound : (t : ℕ) (o : Option Value) → is ts t (name []) ≡ true → RightIf o → Sound (lastItem ts t o)
+  last-sound : (t : ℕ) (o : Option Value) → is ts t (name []) ≡ true → If Right o → Sound (lastItem ts t o)
   last-sound t (some v) a h = h
   last-sound t none a h = a
 
@@ -284,7 +242,7 @@ module _ (ts : List Content) where
       go (lookup m (nameAt ts (t + 2))) (lookup-named m (nameAt ts (t + 2))) (λ k. walk-sound (suc n) k (t + 2) (λ j i.
       let on : t + 2 * suc (suc j) ≡ t + 2 + 2 * suc j = omega arith in rw on at (h (suc j) (omega arith))))
     where
-      go : (o : Option ℕ) → NamedIf o → ((k : ℕ) → NamedEntry k → Sound (walk ts (suc n) k (t + 2)))
+      go : (o : Option ℕ) → If NamedEntry o → ((k : ℕ) → NamedEntry k → Sound (walk ts (suc n) k (t + 2)))
           → Sound (elim o [
             | none ↦ err (t + 2) (unknownItem m)
             | some k ↦ innerItem ts (t + 2) (entryAt k .value) (walk ts (suc n) k (t + 2))
@@ -292,11 +250,11 @@ module _ (ts : List Content) where
       go none l f = (h 0 (omega arith), e)
       go (some k) l f = inner-sound (t + 2) (entryAt k .value) (walk ts (suc n) k (t + 2)) (h 0 (omega arith)) (f k l)
 
-  below-sound : (t n : ℕ) (o : Option Import) → is ts t (name []) ≡ true → Names t n → FoundIf o → Sound (below ts t n o)
+  below-sound : (t n : ℕ) (o : Option Import) → is ts t (name []) ≡ true → Names t n → If Found o → Sound (below ts t n o)
   below-sound t n none a h f = a
   below-sound t n (some i) a h f = go (i .found) f
     where
-      go : (o : Option ℕ) → NamedIf o → Sound (elim o [ none ↦ poisoned | some m ↦ walk ts n m t ])
+      go : (o : Option ℕ) → If NamedEntry o → Sound (elim o [ none ↦ poisoned | some m ↦ walk ts n m t ])
       go none l = tt
       go (some m) l = walk-sound n m t h l
 
@@ -333,10 +291,10 @@ module _ (ts : List Content) where
       chain-fine (is-sock4 a b c) = alone tt
       chain-fine (is-local {at = at} a b) =
           alone (bound-sound at (find (k .bindings) (nameAt ts at)) (a .passes)
-          (find-bound (k .bindings) (nameAt ts at) (sure .values)))
+          (find-each _ (k .bindings) (nameAt ts at) (sure .values)))
       chain-fine (is-path {at = at} {n = m} a p l b) =
           alone (below-sound at m (findImport (k .imports) (nameAt ts at)) (a .passes) (names-at at (a .after) p)
-          (find-import (k .imports) (nameAt ts at) (sure .modules)))
+          (find-each _ (k .imports) (nameAt ts at) (sure .modules)))
       chain-fine (is-member {e = e} c a b) = then-fine (judge ts n k e) _ (chain-fine c) (λ v h. alone (type-named v h))
       chain-fine (is-call c l) = alone tt
 
@@ -367,7 +325,7 @@ module _ (ts : List Content) where
     more-modules : (i : Import) → Found i → Sure (known (k .imports ++ i ∷ []) (k .bindings))
     more-modules i h = record { values = sure .values; modules = of-both (sure .modules) (of-one h) }
 
-    imported-turned : (t : ℕ) (o : Option ℕ) → is ts t (name []) ≡ true → NamedIf o → Turned (imported ts n k t o)
+    imported-turned : (t : ℕ) (o : Option ℕ) → is ts t (name []) ≡ true → If NamedEntry o → Turned (imported ts n k t o)
     imported-turned t (some m) a l = (more-modules _ l, of-none, of-none)
     imported-turned t none a l = (more-modules _ tt, of-one a, of-none)
 
@@ -389,7 +347,7 @@ module _ (ts : List Content) where
         each-side Turned (ltb (length (k .bindings)) mostNames)
         (bound-turned t (judge ts n k e .out) (judge ts n k e .warns) (f .out) (f .warns)) tt
 
-    discarded-turned : (at : ℕ) (o : Option Value) (ws : List Diag) → RightIf o → Each Stands ws → Turned (discarded ts n k at o ws)
+    discarded-turned : (at : ℕ) (o : Option Value) (ws : List Diag) → If Right o → Each Stands ws → Turned (discarded ts n k at o ws)
     discarded-turned at (some v) ws h l = (sure, of-both l (of-one (type-named v h)), of-one h)
     discarded-turned at none ws h l = (sure, of-both l (of-one tt), of-none)
 

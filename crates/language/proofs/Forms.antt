@@ -51,9 +51,12 @@ own-tok (decLiteral n) = of-dec
 pub tok-form : (t : Tok) {k : ℕ} → tokKind t ≡ k → TokOf k t
 tok-form t e = subst (λ k. TokOf k t) e (own-tok t)
 
--- a string is no token of one lexeme
+-- a string is no token of one lexeme, and neither is the end
 pub no-string : {t : Tok} → TokOf 16 t → ⊥
 no-string x = elim x [ ]
+
+pub no-end : {t : Tok} → TokOf 1 t → ⊥
+no-end x = elim x [ ]
 
 -- ---- contents
 

@@ -1,5 +1,5 @@
 -- Where trees stand: an expression at its first token, and every part further on.
-use Prim.Native.Nat.{ℕ, _≤_, _<_}
+use Prim.Native.Nat.{ℕ, _+_, _*_, _≤_, _<_}
 use mathlib.Core.Path.{_≡_, refl}
 use mathlib.Core.List.{List}
 use native.Mathlib.Omega.{arith}
@@ -9,9 +9,10 @@ use Rattle.language.specs.Grammar.{PathNames, is-start, is-name, Chain, 
 use Rattle.language.proofs.GrammarSound.{found-expr}
 
 module _ (ts : List Content) where
-  names-on : {at n next : ℕ} → PathNames ts at n next → at ≤ next
-  names-on is-start = omega arith
-  names-on (is-name p a b) = omega (arith, names-on p)
+  -- each further name of a path is two tokens after the one before
+  pub names-next : {mid n next : ℕ} → PathNames ts mid n next → next ≡ mid + 2 * n
+  names-next is-start = omega arith
+  names-next (is-name p a b) = omega (arith, names-next p, a .after, b .after)
 
   mutual
     pub chain-on : {d at next : ℕ} {e : Expr} → Chain ts d at e next → at < next
@@ -19,7 +20,7 @@ module _ (ts : List Content) where
     chain-on (is-address a b) = omega arith
     chain-on (is-sock4 a b c) = omega arith
     chain-on (is-local a b) = omega arith
-    chain-on (is-path a p m b) = omega (arith, names-on p)
+    chain-on (is-path a p m b) = omega (arith, names-next p)
     chain-on (is-member c a b) = omega (arith, chain-on c)
     chain-on (is-call c l) = omega (arith, chain-on c, list-on l)
 

@@ -9,21 +9,17 @@ use Rattle.language.specs.Tokens.{Content}
 use Rattle.language.specs.Sentences.{Expr, Args, Stmt, isLiteral, Node, nameNodes, exprSize, argsSize, exprNodes, argNodes, stmtNodes, nodesFrom}
 use Rattle.language.specs.Grammar.{PathNames, is-start, is-name, Chain, is-literal, is-address, is-sock4, is-local, is-path, is-member, is-call, Slashed, is-chain, is-slash, Expression, is-expression, Argument, is-given, is-named, Arguments, is-none, is-more, Bracketed, is-closed, is-last, Statement, is-import, is-let, is-expr, Program, is-end, is-next, rightTokens, RowsRight}
 use Rattle.language.proofs.Each.{Each, of-none, of-one, of-both}
+use Rattle.language.proofs.GrammarPlaces.{names-next}
 use Rattle.language.proofs.GrammarMet.{opens, grammar-met}
 
 module _ (ts : List Content) where
   abbrev All : List Node → Type 0
   All ns = Each (λ n. rightTokens ts n ≡ true) ns
 
-  -- each further name of a path is two tokens after the one before
-  pub names-next : {mid n next : ℕ} → PathNames ts mid n next → next ≡ mid + 2 * n
-  names-next is-start = omega arith
-  names-next (is-name p a b) = omega (arith, names-next p, a .after, b .after)
-
   names-right : {mid n next : ℕ} (at : ℕ) → mid ≡ at + 1 → PathNames ts mid n next → All (nameNodes at n)
   names-right at h is-start = of-none
   names-right at h (is-name {n = n} {t = t} p a b) =
-      let last : t ≡ at + 2 * suc n = omega (arith, names-next p, a .after) in
+      let last : t ≡ at + 2 * suc n = omega (arith, names-next ts p, a .after) in
       of-both (names-right at h p) (of-one (rw last at (b .passes)))
 
   mutual

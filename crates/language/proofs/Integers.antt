@@ -10,7 +10,7 @@ use borrow.Author.Tests.{lt-ltb, le-ltb, leb-true}
 use lib.Dec.{ltb}
 use lib.ListN.{length, getD, length-append, List·getD-append}
 use Rattle.language.specs.Choice.{if′}
-use Rattle.language.specs.Integers.{limit, valueFrom, valueOf, digitsIn, digits, mostDigits, decimal, hexadecimal, IntType, u8, u16, u32, u64, bits, smallest, DigitsRight, DecimalIsRight, HexadecimalIsRight, DecimalUnfolds, HexadecimalUnfolds, SmallestHolds}
+use Rattle.language.specs.Integers.{limit, valueFrom, valueOf, digitsIn, mostDigits, decimal, hexadecimal, IntType, u8, u16, u32, u64, bits, smallest, DigitsRight, DecimalIsRight, HexadecimalIsRight, DecimalUnfolds, HexadecimalUnfolds, SmallestHolds}
 
 -- ---- digits in a base, one step
 

@@ -9,8 +9,7 @@ use borrow.Author.Tests.{ltb-true, ltb-false, lt-ltb, le-ltb}
 use lib.Dec.{ltb}
 use Rattle.language.specs.Integers.{limit, valueFrom}
 use Rattle.language.specs.Lexemes.{digitOf, Number, value, wrong, intOutOfRange, intInvalidSuffix, readDigits, areDigits, DigitsRead, SuffixFound, RangeFound}
-use Rattle.language.proofs.Tests.{both}
-use Rattle.language.proofs.LexemeSizes.{by-cases}
+use Rattle.language.proofs.Tests.{both, by-cases}
 
 -- the value of bytes after digits that give v
 abbrev after : ℕ → ℕ → List ℕ → ℕ

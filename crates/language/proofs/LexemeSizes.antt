@@ -12,12 +12,8 @@ use lib.ListN.{length, getD, take, drop, length-append, length-drop, List·getD-
 use Rattle.language.specs.Choice.{if′}
 use Rattle.language.specs.Utf8.{Char, char, noChar, charAt}
 use Rattle.language.specs.Lexemes.{Tok, Kind, Lexeme, lexemeOf, run, isBlank, blankRun, isDigit, isWord, isWordStart, isBody, notNewline, octet, joined, Quad, quad, notQuad, further, quadFrom, quadLexeme, number, string, punctuation, ascii, lexemeAt, lexeme, SizeFits}
+use Rattle.language.proofs.Tests.{by-cases}
 use Rattle.language.proofs.Utf8Rows.{not-empty, character-at}
-
--- what holds of both branches holds of an `if′`
-pub by-cases : {A : Type 0} (P : A → Type 0) (t : Bool) {a b : A} → (t ≡ true → P a) → (t ≡ false → P b) → P (if′ t a b)
-by-cases P true f g = f refl
-by-cases P false f g = g refl
 
 -- ---- runs
 

@@ -13,10 +13,9 @@ use Rattle.language.specs.Lexemes.{same}
 use Rattle.language.specs.Tokens.{Content}
 use Rattle.language.specs.Sentences.{Expr, Stmt, import′, let′, expr′, firstOf}
 use Rattle.language.specs.Values.{Value, lookup}
-use Rattle.language.specs.Judgements.{Diag, Judged, val, err, poisoned, Known, known, Import, Binding, Held, Turn, goes, full, refused, find, findImport, mostImports, mostNames, nameAt, narrowed, judge, imported, importStmt, bind, bound, letStmt, discarded, told, stmt, onward, run}
+use Rattle.language.specs.Judgements.{Diag, Judged, val, err, poisoned, Known, known, Import, Binding, Held, Turn, goes, full, refused, firstNamed, find, findImport, mostImports, mostNames, nameAt, narrowed, judge, imported, importStmt, bind, bound, letStmt, discarded, told, stmt, onward, run}
 use Rattle.language.specs.Names.{letNames, importNames, TooMany, NamesRefused}
-use Rattle.language.proofs.Tests.{never}
-use Rattle.language.proofs.LexemeSizes.{by-cases}
+use Rattle.language.proofs.Tests.{never, by-cases}
 use Rattle.language.proofs.DistinctNames.{among, Kept, none-kept, repeated, added, filled}
 
 -- ---- what is known, by name
@@ -32,24 +31,14 @@ abbrev importName : Import → List ℕ
 importName i = i .name
 
 -- a name is found exactly if it is among them
-module _ (w : List ℕ) where
-  bound-among : (bs : List Binding) → among w (map bindingName bs) ≡ isFound (find bs w)
-  unfolding find among
-  bound-among [] = refl
-  bound-among (b ∷ bs) =
-      elim (same (b .name) w) as (λ t. t || among w (map bindingName bs) ≡ isFound (if′ t (some b) (find bs w))) [
-        | true ↦ refl
-        | false ↦ bound-among bs
-      ]
-
-  imported-among : (is : List Import) → among w (map importName is) ≡ isFound (findImport is w)
-  unfolding findImport among
-  imported-among [] = refl
-  imported-among (i ∷ is) =
-      elim (same (i .name) w) as (λ t. t || among w (map importName is) ≡ isFound (if′ t (some i) (findImport is w))) [
-        | true ↦ refl
-        | false ↦ imported-among is
-      ]
+found-among : {A : Type 0} (named : A → List ℕ) (w : List ℕ) (xs : List A) → among w (map named xs) ≡ isFound (firstNamed named xs w)
+unfolding firstNamed among
+found-among named w [] = refl
+found-among named w (a ∷ xs) =
+    elim (same (named a) w) as (λ t. t || among w (map named xs) ≡ isFound (if′ t (some a) (firstNamed named xs w))) [
+      | true ↦ refl
+      | false ↦ found-among named w xs
+    ]
 
 module _ (ts : List Content) where
   -- after the statements us their distinct names are known
@@ -113,10 +102,10 @@ module _ (ts : List Content) where
         let-after : (o : Option Binding) → find (k .bindings) (nameAt ts t) ≡ o → After us (let′ t e) (letStmt ts n k t e o)
         unfolding After
         let-after (some b) f =
-            let a = repeated bindingName (h .lets) (nameAt ts t) (bound-among (nameAt ts t) (k .bindings) ∙ ap isFound f) in
+            let a = repeated bindingName (h .lets) (nameAt ts t) (found-among bindingName (nameAt ts t) (k .bindings) ∙ ap isFound f) in
             (let-knows (k .bindings) (a .0), λ u m. a .1 (m .1))
         let-after none f =
-            let new = bound-among (nameAt ts t) (k .bindings) ∙ ap isFound f in
+            let new = found-among bindingName (nameAt ts t) (k .bindings) ∙ ap isFound f in
             by-cases (After us (let′ t e)) (ltb (length (k .bindings)) mostNames)
             (λ r. bound-after (judge ts n k e .out) (judge ts n k e .warns) new (ltb-true (length (k .bindings)) mostNames r))
             (λ r. (refl, filled bindingName (h .lets) (nameAt ts t) new (ltb-false (length (k .bindings)) mostNames r)))
@@ -146,10 +135,10 @@ module _ (ts : List Content) where
       import-after : (o : Option Import) → findImport (k .imports) (nameAt ts t) ≡ o → After us (import′ t) (importStmt ts n k t o)
       unfolding After
       import-after (some i) f =
-          let a = repeated importName (h .imports) (nameAt ts t) (imported-among (nameAt ts t) (k .imports) ∙ ap isFound f) in
+          let a = repeated importName (h .imports) (nameAt ts t) (found-among importName (nameAt ts t) (k .imports) ∙ ap isFound f) in
           (import-knows (k .imports) (a .0), λ u m. a .1 (m .1))
       import-after none f =
-          let new = imported-among (nameAt ts t) (k .imports) ∙ ap isFound f in
+          let new = found-among importName (nameAt ts t) (k .imports) ∙ ap isFound f in
           by-cases (After us (import′ t)) (ltb (length (k .imports)) mostImports)
           (λ r. imported-after (lookup 0 (nameAt ts t)) new (ltb-true (length (k .imports)) mostImports r))
           (λ r. (refl, filled importName (h .imports) (nameAt ts t) new (ltb-false (length (k .imports)) mostImports r)))

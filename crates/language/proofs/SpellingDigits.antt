@@ -14,10 +14,9 @@ use Rattle.language.specs.Choice.{within}
 use Rattle.language.specs.Integers.{limit, valueFrom, valueOf, digits, decimal}
 use Rattle.language.specs.Lexemes.{all, isDigit, digitOf, value, readDigits, areDigits, positional, startsZero, octet}
 use Rattle.language.specs.Canonical.{spellDigit, spellDigits}
-use Rattle.language.proofs.Tests.{inside}
+use Rattle.language.proofs.Tests.{inside, by-cases}
 use Rattle.language.proofs.Integers.{few-in, room, has-room, Right, right, Same, same-one, same-more}
 use Rattle.language.proofs.LexemeDigits.{digits-read}
-use Rattle.language.proofs.LexemeSizes.{by-cases}
 use Rattle.language.proofs.SpellingRuns.{and, all-parts, upTo, up-to}
 
 -- digits of a base; past the end `getD` answers 0

@@ -15,8 +15,8 @@ use Rattle.language.specs.Choice.{if′}
 use Rattle.language.specs.Integers.{decimal}
 use Rattle.language.specs.Lexemes.{run, all, isDigit, Number, value, wrong, readDigits, startsZero, octet, joined, Quad, quad, notQuad, further, quadFrom}
 use Rattle.language.specs.Canonical.{spellDigits, spellQuad}
-use Rattle.language.proofs.Tests.{both}
-use Rattle.language.proofs.LexemeSizes.{by-cases, run-fits, stands}
+use Rattle.language.proofs.Tests.{both, by-cases}
+use Rattle.language.proofs.LexemeSizes.{run-fits, stands}
 use Rattle.language.proofs.SpellingRuns.{run-all}
 use Rattle.language.proofs.SpellingDigits.{byte-spelt, octet-spelt, read-again}
 

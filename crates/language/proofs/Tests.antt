@@ -51,6 +51,11 @@ pub each-side : {A : Type 0} (P : A → Type 0) (t : Bool) {a b : A} → P a →
 each-side P true x y = x
 each-side P false x y = y
 
+-- and where the test is used
+pub by-cases : {A : Type 0} (P : A → Type 0) (t : Bool) {a b : A} → (t ≡ true → P a) → (t ≡ false → P b) → P (if′ t a b)
+by-cases P true f g = f refl
+by-cases P false f g = g refl
+
 -- where two tests are the same, what holds of both branches holds of both choices
 pub both-sides : {A : Type 0} (P : A → A → Type 0) (t : Bool) {a b c d : A} → (t ≡ true → P a c) → (t ≡ false → P b d)
     → P (if′ t a b) (if′ t c d)

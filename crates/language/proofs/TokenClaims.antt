@@ -1,6 +1,6 @@
 -- The tokens of a source, by a walk over its lexemes with the literals that are pending.
 use Prim.Native.Nat.{ℕ, _+_, _-_, _≤_, _<_}
-use mathlib.Core.Path.{_≡_, refl, sym, ap, _∙_}
+use mathlib.Core.Path.{_≡_, refl, sym, ap}
 use mathlib.Core.List.{List, [], _∷_, _++_, append-assoc, append-nil, List·Memᴰ, List·Memᴰ·not-nil, List·Memᴰ·cases-cons, List·Memᴰ·append-cases, List·Memᴰ·eq-of-singleton}
 use mathlib.Core.Option.{Option, none, some}
 use mathlib.Core.Logic.{_⊎_, inl, inr}
@@ -11,7 +11,6 @@ use Rattle.language.specs.Lexemes.{Tok, lParen, rParen, dot, doubleColon
 use Rattle.language.specs.Tables.{contentKind}
 use Rattle.language.specs.Tokens.{eof, plain, name, string, Token, contentOf, unquoted, Item, items, Pending, joined, pendingToken, flushed, itemToken, tokensFrom, tokens, eofToken, Place, placeOf, between, PlacesRight, Ordered, ordered-none, ordered-one, TokensInOrder, NamesHeld, bodyOf, bodiesIn, BodiesHeld}
 use Rattle.language.specs.Canonical.{spell, AsSpelt}
-use Rattle.language.proofs.Tests.{never}
 use Rattle.language.proofs.LexemeTexts.{lexeme-spelt}
 use Rattle.language.proofs.CutLexemes.{newline}
 use Rattle.language.proofs.TokenBodies.{Held, held-none, held-more, bodies-of}

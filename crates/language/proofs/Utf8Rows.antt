@@ -11,25 +11,26 @@ use native.Mathlib.Decide.{decLe}
 use native.Mathlib.Nat.{sub-zero, zero-add}
 use borrow.Author.Tests.{leb-true, not-true, le-leb, lt-leb}
 use lib.Dec.{leb}
-use lib.ListN.{length, length-append}
+use lib.ListN.{length, getD, length-append}
 use Rattle.language.specs.Choice.{if′, within}
 use Rattle.language.specs.Utf8.{isScalar, encode, Range, to, derives, derivesOne, isChar, Char, char, noChar, Lead, lead, leadOf, follow, begun, charAt}
-use Rattle.language.proofs.Tests.{both, either, inside, inside-test, outside, outside-test, never}
+use Rattle.language.proofs.Each.{All}
+use Rattle.language.proofs.Tests.{both, either, inside, inside-test, outside, outside-test, never, by-cases}
 
 -- a first byte from `low` to `high`, then `tails` bytes, the next one from `next` to `last`: the numbers `first` to `final`
-record Row : Type 0 where
-  low : ℕ
-  high : ℕ
-  tails : ℕ
-  next : ℕ
-  last : ℕ
+pub record Row : Type 0 where
+  pub low : ℕ
+  pub high : ℕ
+  pub tails : ℕ
+  pub next : ℕ
+  pub last : ℕ
   first : ℕ
   final : ℕ
 
 abbrev row : ℕ → ℕ → ℕ → ℕ → ℕ → ℕ → ℕ → Row
 row a z t l h m n = record { low = a; high = z; tails = t; next = l; last = h; first = m; final = n }
 
-abbrev rows : List Row
+abbrev pub rows : List Row
 rows =
     row 0x00 0x7F 0 0x80 0xBF 0x0 0x7F
     ∷ row 0xC2 0xDF 1 0x80 0xBF 0x80 0x7FF
@@ -43,7 +44,7 @@ rows =
     ∷ []
 
 -- what the first byte has beside its bits of the number
-abbrev base : ℕ → ℕ
+abbrev pub base : ℕ → ℕ
 base zero = 0
 base (suc zero) = 0xC0
 base (suc (suc zero)) = 0xE0
@@ -51,10 +52,14 @@ base (suc (suc (suc t))) = 0xF0
 
 -- ---- the definitions have these rows
 
--- the first row that has b among its first bytes
+-- what a first byte of the row says
+abbrev pub saidBy : Row → ℕ → Option Lead
+saidBy r b = lead (r .tails) (r .next) (r .last) (b - base (r .tails))
+
+-- by the first row that has b among its first bytes
 abbrev lookup : List Row → ℕ → Option Lead
 lookup [] b = none
-lookup (r ∷ rs) b = if′ (within (r .low) (r .high) b) (lead (r .tails) (r .next) (r .last) (b - base (r .tails))) (lookup rs b)
+lookup (r ∷ rs) b = if′ (within (r .low) (r .high) b) (saidBy r b) (lookup rs b)
 
 -- `leadOf` looks in these rows
 leads : (b : ℕ) → leadOf b ≡ lookup rows b
@@ -136,11 +141,6 @@ is-scalar n h = rw (le-leb n 0x10FFFF (h .0), outside-test 0xD800 0xDFFF n (h .1
 
 -- ---- what holds of the rows (`omega` takes at most 64 statements at once, so some are proved in parts)
 
--- P of each row
-abbrev All : (Row → Type 0) → List Row → Type 0
-All P [] = Unit {0}
-All P (r ∷ rs) = P r × All P rs
-
 -- the second byte of a number, where it has one, is within bounds
 abbrev Second : ℕ → ℕ → ℕ → ℕ → Type 0
 Second zero low high n = Unit {0}
@@ -153,12 +153,12 @@ record Holds (r : Row) (n : ℕ) : Type 0 where
   second : Second (r .tails) (r .next) (r .last) n
 
 -- no first byte is below the base, and a next byte is one that may follow
-record Bounds (r : Row) : Type 0 where
+pub record Bounds (r : Row) : Type 0 where
   least : base (r .tails) ≤ r .low
-  tail-least : 0x80 ≤ r .next
-  tail-most : r .last ≤ 0xBF
+  pub tail-least : 0x80 ≤ r .next
+  pub tail-most : r .last ≤ 0xBF
 
-bounds : All Bounds rows
+pub bounds : All Bounds rows
 bounds = omega arith
 
 -- a row has scalar values only, and none that is shorter in another way
@@ -197,14 +197,41 @@ linked : Linked rows
 linked = omega arith
 
 -- the row is one of the list
-data At : List Row → Row → Type 0 where
+pub data At : List Row → Row → Type 0 where
   here : {r : Row} {rs : List Row} → At (r ∷ rs) r
   later : {q r : Row} {rs : List Row} → At rs r → At (q ∷ rs) r
 
+-- the row numbered i is
+pub numbered : (rs : List Row) (i : ℕ) → i < length rs → At rs (getD rs i (row 0 0 0 0 0 0 0))
+numbered [] i h = absurd (omega arith)
+numbered (r ∷ rs) zero h = here
+numbered (r ∷ rs) (suc i) h = later (numbered rs i (omega arith))
+
 -- what holds of all rows holds of one of them
-at : {rs : List Row} {r : Row} (P : Row → Type 0) → All P rs → At rs r → P r
+pub at : {rs : List Row} {r : Row} (P : Row → Type 0) → All P rs → At rs r → P r
 at P h here = h .0
 at P h (later a) = at P (h .1) a
+
+-- a first byte of a row finds that row
+finds : {rs : List Row} {r : Row} → Ordered rs → At rs r → (b : ℕ) → r .low ≤ b → b ≤ r .high → lookup rs b ≡ saidBy r b
+finds {r = r} o here b l h = rw (inside-test (r .low) (r .high) b)
+finds {r = r} o (later {q = q} a) b l h =
+    let k = at (λ (p : Row). q .high < p .low) (o .0) a in
+    rw (outside-test (q .low) (q .high) b (omega arith)) (finds (o .1) a b l h)
+
+pub row-said : {r : Row} → At rows r → (b : ℕ) → r .low ≤ b → b ≤ r .high → leadOf b ≡ saidBy r b
+row-said a b l h = leads b ∙ finds ordered a b l h
+
+-- what holds of what each row says of its first bytes, and of none, holds of what is said of a byte
+lookup-each : (P : Option Lead → Type 0) (b : ℕ) (rs : List Row)
+    → ((r : Row) → At rs r → within (r .low) (r .high) b ≡ true → P (saidBy r b)) → P none → P (lookup rs b)
+lookup-each P b [] f z = z
+lookup-each P b (r ∷ rs) f z =
+    by-cases P (within (r .low) (r .high) b) (λ e. f r here e) (λ _. lookup-each P b rs (λ q a e. f q (later a) e) z)
+
+pub by-rows : (P : Option Lead → Type 0) (b : ℕ)
+    → ((r : Row) → At rows r → within (r .low) (r .high) b ≡ true → P (saidBy r b)) → P none → P (leadOf b)
+by-rows P b f z = rw leads (lookup-each P b rows f z)
 
 -- one of the rows has a scalar value between its first and its final number
 between : (n : ℕ) → Scalar n → (rs : List Row) → Linked rs → Begins rs n → (r : Row) × At rs r × (r .first ≤ n) × (n ≤ r .final)
@@ -312,28 +339,6 @@ read-row {r} a b s n k i e =
     let f = encoded t n (h .1) in
     (is-scalar n (h .0), rw f (cc (length-tails t n)), (d .3 .0, rw f (cc (d .3 .1))))
 
--- a first byte of a row finds that row
-finds : {rs : List Row} {r : Row} → Ordered rs → At rs r → (b : ℕ) (s : List ℕ) → r .low ≤ b → b ≤ r .high
-    → begun (lookup rs b) s ≡ readBy r b s
-finds {r = r} o here b s l h = rw (inside-test (r .low) (r .high) b)
-finds {r = r} o (later {q = q} a) b s l h =
-    let k = at (λ (p : Row). q .high < p .low) (o .0) a in
-    rw (outside-test (q .low) (q .high) b (omega arith)) (finds (o .1) a b s l h)
-
--- a character that is found is of a row
-abbrev FoundBy : List Row → ℕ → List ℕ → Char → Type 0
-FoundBy rs b s c = (r : Row) × At rs r × (within (r .low) (r .high) b ≡ true) × (readBy r b s ≡ c)
-
-found : (rs : List Row) (b : ℕ) (s : List ℕ) (n k : ℕ) → begun (lookup rs b) s ≡ char n k → FoundBy rs b s (char n k)
-found [] b s n k e = absurd (not-found e)
-found (r ∷ rs) b s n k e = go (within (r .low) (r .high) b) refl e (found rs b s n k)
-  where
-    go : (w : Bool) → within (r .low) (r .high) b ≡ w
-        → begun (if′ w (lead (r .tails) (r .next) (r .last) (b - base (r .tails))) (lookup rs b)) s ≡ char n k
-        → (begun (lookup rs b) s ≡ char n k → FoundBy rs b s (char n k)) → FoundBy (r ∷ rs) b s (char n k)
-    go true i f ih = (r, here, i, f)
-    go false i f ih = let d = ih f in (d .0, later (d .1), d .2, d .3)
-
 -- what the grammar has is of a row
 derived-by : (rs : List Row) (s : List ℕ) → derivesOne (grammar rs) s ≡ true → (r : Row) × At rs r × (derives (rangesOf r) s ≡ true)
 derived-by [] s e = absurd (false≢true e)
@@ -354,7 +359,8 @@ derives-one (later {q = q} a) s e = rw (derives-one a s e) (or-true (derives (ra
 pub character-at : (s : List ℕ) (n size : ℕ) → charAt s ≡ char n size → Reads s n size
 unfolding charAt
 character-at [] n size e = absurd (not-found e)
-character-at (b ∷ s) n size e = let f = found rows b s n size (rw leads at e) in read-row (f .1) b s n size (f .2) (f .3)
+character-at (b ∷ s) n size e =
+    by-rows (λ o. begun o s ≡ char n size → Reads (b ∷ s) n size) b (λ r a i f. read-row a b s n size i f) (λ f. absurd (not-found f)) e
 
 -- an encoding is read
 pub encoding-at : (n : ℕ) (s : List ℕ) → isScalar n ≡ true → charAt (encode n ++ s) ≡ char n (length (encode n))
@@ -364,7 +370,7 @@ encoding-at n s e =
     let t = d .0 .tails in
     let h = d .2 in
     let f = follows (suc t) t (d .0 .next) (d .0 .last) (base t + top t n - base t) s n (omega arith) (h .second) in
-    rw (d .3, leads, length-tails) (finds ordered (d .1) (base t + top t n) (tailsOf t n ++ s) (h .from) (h .upto) ∙ f)
+    rw (d .3, row-said (d .1) (base t + top t n) (h .from) (h .upto), length-tails) f
 
 -- the grammar has every encoding
 pub in-grammar : (n : ℕ) → isScalar n ≡ true → isChar (encode n) ≡ true

@@ -4,12 +4,13 @@ use mathlib.Core.Path.{_≡_}
 use mathlib.Core.Bool.{Bool, true, false}
 use mathlib.Core.List.{List, [], _∷_, _++_, List·Memᴰ}
 use mathlib.Core.Option.{none}
-use lib.Dec.{ltb}
+use lib.Dec.{ltb, eqb}
 use lib.ListN.{length}
 use Rattle.language.specs.Choice.{if′}
 use Rattle.language.specs.Integers.{decimal, hexadecimal}
 use Rattle.language.specs.Lexemes.{Tok, lParen, rParen, dot, doubleColon, colon, semiColon, equals, comma, slash, importKeyword, letKeyword, identifier, booleanLiteral, ipv4Literal, hexLiteral, decLiteral, import′, let′, true′, false′}
 use Rattle.language.specs.Utf8.{firstBad}
+use Rattle.language.specs.Tables.{contentKind}
 use Rattle.language.specs.Tokens.{mostBytes, Content, eof, plain, name, string, Token, items, firstWrong, tokens, contents, between}
 
 -- ---- a token's spelling
@@ -67,29 +68,9 @@ spell (string b bs) = spellBodies b bs
 
 -- ---- the text
 
-abbrev pub isSemi : Tok → Bool
-isSemi semiColon = true
-isSemi lParen = false
-isSemi rParen = false
-isSemi dot = false
-isSemi doubleColon = false
-isSemi colon = false
-isSemi equals = false
-isSemi comma = false
-isSemi slash = false
-isSemi importKeyword = false
-isSemi letKeyword = false
-isSemi identifier = false
-isSemi (booleanLiteral b) = false
-isSemi (ipv4Literal n) = false
-isSemi (hexLiteral n) = false
-isSemi (decLiteral n) = false
-
+-- the content has the kind of `;`
 abbrev pub endsLine : Content → Bool
-endsLine eof = false
-endsLine (plain t) = isSemi t
-endsLine (name bs) = false
-endsLine (string b bs) = false
+endsLine c = eqb (contentKind c) (contentKind (plain semiColon))
 
 -- what follows a token: "Byte 10 after each `;`; between other neighbours one space; nothing else at the end"
 abbrev pub between′ : List Content → List ℕ

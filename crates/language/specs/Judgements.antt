@@ -189,13 +189,16 @@ pub record Known : Type 0 where
 abbrev pub known : List Import → List Binding → Known
 known is bs = record { imports = is; bindings = bs }
 
-unfoldable pub findImport : List Import → List ℕ → Option Import
-findImport [] w = none
-findImport (i ∷ is) w = if′ (same (i .name) w) (some i) (findImport is w)
+-- the first of a name
+unfoldable pub firstNamed : {A : Type 0} → (A → List ℕ) → List A → List ℕ → Option A
+firstNamed named [] w = none
+firstNamed named (a ∷ xs) w = if′ (same (named a) w) (some a) (firstNamed named xs w)
 
-unfoldable pub find : List Binding → List ℕ → Option Binding
-find [] w = none
-find (b ∷ bs) w = if′ (same (b .name) w) (some b) (find bs w)
+abbrev pub findImport : List Import → List ℕ → Option Import
+findImport = firstNamed (λ i. i .name)
+
+abbrev pub find : List Binding → List ℕ → Option Binding
+find = firstNamed (λ b. b .name)
 
 -- a statement that the run holds: where it stands, and the constant that is discarded
 pub record Held : Type 0 where

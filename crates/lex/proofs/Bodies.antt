@@ -1,7 +1,7 @@
 -- The bodies of the literals of a text, and the loop that looks for one.
 use Prim.Native.Nat.{ℕ, suc, _+_, _-_, _≤_, _<_}
 use mathlib.Core.Path.{_≡_, refl, sym, _∙_}
-use mathlib.Core.List.{List, [], _∷_, _++_}
+use mathlib.Core.List.{List, [], _∷_}
 use mathlib.Core.Logic.{inl, inr}
 use native.Mathlib.Decide.{decLe}
 use native.Mathlib.Numerals.{add-one}
@@ -61,6 +61,25 @@ no-literal str bs (inl o) = absurd (omega (arith, o))
 no-literal str bs (inr (inl o)) = absurd (omega (arith, o))
 no-literal str bs (inr (inr o)) = absurd (omega (arith, o))
 
+-- the bodies from a lexeme on: its own where it is a literal, and those after
+module _ (text : List ℕ) (pos : ℕ) (l : Lexeme) (next : Scanner) (e : Found l next ≡ stepAt text pos) where
+  abbrev after : List (List ℕ)
+  after = bodiesOf text (scanFrom 0 (next .pos) (drop (next .pos) text))
+
+  pub none-here : OneOf (0 ∷ 2 ∷ 3 ∷ []) (tagOf kind.the-type (l .kind)) → bodiesOf text (scanFrom 0 pos (drop pos text)) ≡ after
+  none-here h =
+      let p = turn text pos l next e in
+      let n = no-literal (lexeme (drop pos text) .kind) (between text pos (pos + lexeme (drop pos text) .size)) (rw (p .kind) at h) in
+      rw (p .rest, n)
+
+  pub one-here : l .kind ≡ kind-is.Str → {r : List ℕ} → r ≡ scanning.bodyOf text (l .start) (l .end)
+      → bodiesOf text (scanFrom 0 pos (drop pos text)) ≡ r ∷ after
+  one-here h {r} d =
+      let p = turn text pos l next e in
+      let to = pos + lexeme (drop pos text) .size in
+      let w : r ≡ unquoted (between text pos to) = d ∙ rw (p .begins, p .ends, p .past) (sym (unquoted-is text pos to (omega (arith, p .within, p .past)))) in
+      rw (p .rest, is-literal (lexeme (drop pos text) .kind) (sym h ∙ p .kind), w)
+
 -- the body numbered i is the one numbered `left` of the lexemes from `pos` on
 pub record Looking (text : List ℕ) (i left pos : ℕ) : Type 0 where
   same : nth left (bodiesOf text (scanFrom 0 pos (drop pos text))) ≡ nth i (bodiesIn text)
@@ -73,45 +92,18 @@ module _ (text : List ℕ) (i left pos : ℕ) (k : Looking text i left pos) wher
   none-left e = rw (at-end text pos e) at (k .same)
 
   module _ (l : Lexeme) (next : Scanner) (e : Found l next ≡ stepAt text pos) where
-    pub shrinks : length text - next .pos < length text - pos
-    shrinks = let p = turn text pos l next e in omega (arith, p .forth, p .within)
-
-    abbrev x : Kind
-    x = lexeme (drop pos text) .kind
-
-    abbrev bytes : List ℕ
-    bytes = between text pos (pos + lexeme (drop pos text) .size)
-
-    abbrev after : List (List ℕ)
-    after = bodiesOf text (scanFrom 0 (next .pos) (drop (next .pos) text))
-
-    from-here : nth left (bodyOf x bytes ++ after) ≡ nth i (bodiesIn text)
-    from-here = rw (turn text pos l next e .rest) at (k .same)
-
     -- no literal
     pub passed : OneOf (0 ∷ 2 ∷ 3 ∷ []) (tagOf kind.the-type (l .kind)) → Looking text i left (next .pos)
-    passed h =
-        let n = no-literal x bytes (rw (turn text pos l next e .kind) at h) in
-        record { same = rw n at from-here }
+    passed h = record { same = rw (none-here text pos l next e h) at (k .same) }
 
     module _ (h : l .kind ≡ kind-is.Str) where
-      literal : x ≡ str
-      literal = is-literal x (sym h ∙ turn text pos l next e .kind)
-
-      its-body : nth left (unquoted bytes ∷ after) ≡ nth i (bodiesIn text)
-      its-body = rw literal at from-here
-
       -- a literal, and it is the one
       pub is-it : {r : List ℕ} → left ≡ 0 → r ≡ scanning.bodyOf text (l .start) (l .end) → r ≡ nth i (bodiesIn text)
-      is-it {r} z d =
-          let p = turn text pos l next e in
-          let end = pos + lexeme (drop pos text) .size in
-          let w : r ≡ scanning.bodyOf text pos end = d ∙ rw (p .begins, p .ends, p .past) in
-          w ∙ sym (unquoted-is text pos end (omega (arith, p .within, p .past))) ∙ rw z at its-body
+      is-it z d = rw (one-here text pos l next e h d, z) at (k .same)
 
       -- a literal, and it is not
       pub not-it : (left ≡ 0 → ⊥) → Looking text i (left - 1) (next .pos)
-      not-it z = let n : left ≡ suc (left - 1) = omega arith in record { same = rw n at its-body }
+      not-it z = let n : left ≡ suc (left - 1) = omega arith in record { same = rw (one-here text pos l next e h refl, n) at (k .same) }
 
 -- ---- a string token of a source
 

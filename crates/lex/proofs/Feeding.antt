@@ -71,6 +71,9 @@ module _ (line : List ℕ) (pos : ℕ) where
             }
       ]
 
+  pub shrinks : (l : Lexeme) (next : Scanner) → Found l next ≡ stepAt line pos → length line - next .pos < length line - pos
+  shrinks l next e = let b = turn l next e in omega arith
+
   -- it found none: it stands at the end of the line
   pub at-end : Done ≡ stepAt line pos → scanFrom 0 pos (drop pos line) ≡ []
   unfolding stepAt
@@ -147,9 +150,6 @@ module _ (x : Lexer) (t : List ℕ) (start : ℕ) (line : List ℕ) where
 
   module _ (y : Lexer) (u : List ℕ) (pos : ℕ) (f : Feeding x t start line y u pos) where
     module _ (l : Lexeme) (next : Scanner) (e : Found l next ≡ stepAt line pos) where
-      pub shrinks : length line - next .pos < length line - pos
-      shrinks = let b = turn line pos l next e in omega arith
-
       -- what the calls ask for
       pub room : start + length line ≤ 65536 → (start + l .end ≤ 65536) × (l .start ≤ l .end) × (y .count + y .pending .bodies ≤ 65536)
       room h = let b = turn line pos l next e in let n = f .few in let w = f .within in (omega arith, omega arith, omega arith)

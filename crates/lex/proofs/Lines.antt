@@ -12,7 +12,7 @@ use lib.Seq.{drop-cons, drop-drop}
 use Rattle.language.specs.Lexemes.{run, notNewline}
 use Rattle.language.specs.Tables.{tokenRow, tokenWidth}
 use Rattle.language.specs.Tokens.{Line, lineAt, onto, linesFrom, lines, Item, itemsFrom, items, firstWrong, between}
-use Rattle.language.proofs.LexemeSizes.{by-cases}
+use Rattle.language.proofs.Tests.{by-cases}
 use Rattle.table.specs.Table.{padTo}
 use Rattle.table.proofs.Laws.{tabled-none}
 use Rattle.scan.specs.declared.Verdict.{Verdict}

@@ -1,18 +1,38 @@
 -- What the loops of stores leave.
-use mathlib.Core.Path.{_≡_, refl, sym, _∙_}
+use mathlib.Core.Path.{_≡_, refl, sym, ap, _∙_}
 use mathlib.Core.List.{List, [], _∷_, _++_, append-nil}
 use Prim.Native.Nat.{ℕ, suc, _+_, _*_, _≤_, _<_}
 use native.Mathlib.Nat.{le-trans, mul-le-mul-left, mul-le-mul-right}
 use native.Mathlib.Numerals.{add-one}
 use native.Mathlib.Omega.{arith}
-use lib.ListN.{length, set, getD, take, drop, replicate}
+use borrow.Author.Fill.{fill-more}
+use lib.ListN.{length, length-set, set, getD, take, drop, replicate}
 use lib.Seq.{sets, take-suc, take-length, length-take-le, drop-length}
 use Rattle.table.specs.Table.{padTo, putRow}
 use Rattle.table.proofs.Laws.{pad-none, put-fits}
 
--- a loop that clears a list, at its end
-pub cleared : (d t : List ℕ) (i : ℕ) → t ≡ replicate i 0 ++ drop i d → i ≡ length d → t ≡ padTo (length d) []
-cleared d t i e h = e ∙ rw (h, drop-length, append-nil) (sym (pad-none (length d)))
+-- a loop that clears a list: of d the first i are zero in t. None, one more, all
+pub record Zeros (d t : List ℕ) (i : ℕ) : Type 0 where
+  pub upto : i ≤ length d
+  pub size : length t ≡ length d
+  pub words : t ≡ replicate i 0 ++ drop i d
+
+pub zeros-none : (d : List ℕ) → Zeros d d 0
+zeros-none d = record { upto = omega arith; size = refl; words = refl }
+
+pub zeros-more : {d t : List ℕ} {i : ℕ} → Zeros d t i → i < length t → Zeros d (set t i 0) (i + 1)
+zeros-more {d} {t} {i} z h =
+    let l : i < length d = omega (arith, z .size) in
+    record {
+      upto = omega arith;
+      size = rw length-set (z .size);
+      words = ap (λ (x : List ℕ). set x i 0) (z .words) ∙ fill-more _ 0 _ l;
+    }
+
+pub cleared : {d t : List ℕ} {i : ℕ} → Zeros d t i → length t ≤ i → t ≡ padTo (length d) []
+cleared {d} {t} {i} z h =
+    let e : i ≡ length d = omega (arith, z .size, z .upto) in
+    z .words ∙ rw (e, drop-length, append-nil) (sym (pad-none (length d)))
 
 -- one store more in a run of them
 sets-more : (l : List ℕ) (at : ℕ) (vs : List ℕ) (a : ℕ) → set (sets l at vs) (at + length vs) a ≡ sets l at (vs ++ a ∷ [])

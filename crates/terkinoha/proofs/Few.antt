@@ -8,7 +8,7 @@ use Rattle.language.specs.Choice.{if′}
 use Rattle.language.specs.Lexemes.{ipv4Literal, semiColon, lParen, rParen, dot, doubleColon, colon, comma, slash, equals, importKeyword, letKeyword}
 use Rattle.language.specs.Tokens.{Content, eof, plain}
 use Rattle.language.specs.Sentences.{Expr, path, member, call, slash′, Args, none-given, given, named, Stmt, import′, let′, expr′, Out, ok, no, andThen, Port, port, tooLarge, notPort, portOf, mostSteps, mostLists, is, isName, isLiteral, namesFrom, address, named′, primary, links, chainOf, slashes, exprOf, argOf, argsOf, listAt, ended, importAt, letAt, stmtAt, stmtsFrom, program, exprAt, exprSize, argsSize, stmtSize, nodesFrom, nodes}
-use Rattle.language.proofs.LexemeSizes.{by-cases}
+use Rattle.language.proofs.Tests.{by-cases}
 use Rattle.language.proofs.SentenceOutcomes.{before-end}
 use Rattle.language.proofs.NodeClaims.{stmt-long}
 use Rattle.parse.proofs.Nodes.{nodes-more}

@@ -20,7 +20,7 @@ use Rattle.language.specs.Sentences.{Out, Stmt, ok, program, nodes, nodeWidth}
 use Rattle.language.specs.Judgements.{Outcome, judged, refused, errorsIn, judgeAll}
 use Rattle.language.specs.Numbers.{Scanned, Lexed, Parsed, Canonised, Checked, verdict, scanned, counted, lexed, lexical, placed, lexedWithin, parsedAs, parsedNodes, firstCall, checked, judgedWithin, scanAnswer, lexAnswer, parseAnswer, canonAnswer, checkAnswer}
 use Rattle.language.proofs.JudgementClaims.{all-counted}
-use Rattle.language.proofs.LexemeSizes.{by-cases}
+use Rattle.language.proofs.Tests.{by-cases}
 use Rattle.language.proofs.LexemeSpans.{spans-join}
 use Rattle.lex.proofs.Answers.{fits}
 use Rattle.parse.proofs.Entry.{short, all-good, no-wrong, all-lexed}

@@ -1,116 +1,53 @@
--- The rows of `leadOf`, each as the code has it, and that what a row says is small.
+-- What `leadOf` says of an octet by the rows of the language's table, as the code has it, and that it is small.
 use mathlib.Core.Path.{_≡_, refl}
-use mathlib.Core.Bool.{Bool, true, false}
-use mathlib.Core.Option.{Option, none}
+use mathlib.Core.Bool.{true}
 use Prim.Native.Nat.{ℕ, _+_, _-_, _≤_, _<_}
+use native.Mathlib.Nat.{sub-zero}
 use native.Mathlib.Omega.{arith}
-use lib.Dec.{T, leb, ltb, leb→le, ltb→lt}
-use Rattle.language.specs.Choice.{if′, within}
-use Rattle.language.specs.Utf8.{Lead, lead, leadOf}
-use Rattle.language.proofs.Tests.{inside, inside-test, outside-test, never}
+use Rattle.language.specs.Choice.{within}
+use Rattle.language.specs.Utf8.{leadOf}
+use Rattle.language.proofs.Tests.{inside, never}
+use Rattle.language.proofs.Each.{All}
+use Rattle.language.proofs.Utf8Rows.{Row, rows, base, At, here, at, Bounds, bounds, row-said, by-rows}
 use Rattle.utf8.specs.declared.Lead.the-variants.{Starts, Not}
 use Rattle.utf8.specs.Decoding.{leading, Small}
 
 -- ---- the rows: `w` is the octet, widened
 
--- a row that ends before c, where the octet does not; and one that begins at c or later, where the octet is before
-after : (b c : ℕ) → c ≤ b → (low high : ℕ) → ltb high c ≡ true → within low high b ≡ false
-after b c l low high e = let k = ltb→lt high c (rw e tt) in outside-test low high b (omega arith)
-
-before : (b c : ℕ) → b < c → (low high : ℕ) → leb c low ≡ true → within low high b ≡ false
-before b c l low high e = let k = leb→le c low (rw e tt) in outside-test low high b (omega arith)
-
 module _ (b w : ℕ) (same : w ≡ b) where
+  pub row-in : {r : Row} → At rows r → r .low ≤ b → b ≤ r .high
+      → Starts (r .tails) (r .next) (r .last) (w - base (r .tails)) ≡ leading (leadOf b)
+  row-in a l h = rw (same, row-said a b l h)
+
   pub row-ascii : b < 0x80 → Starts 0 0x80 0xBF w ≡ leading (leadOf b)
-  unfolding leadOf
-  row-ascii h = rw (same, inside-test 0 0x7F b (omega arith) (omega arith))
+  row-ascii h = rw sub-zero at (row-in here (omega arith) (omega arith))
 
-  pub row-C2 : 0xC2 ≤ b → b < 0xE0 → Starts 1 0x80 0xBF (w - 0xC0) ≡ leading (leadOf b)
-  unfolding leadOf
-  row-C2 h k = simp (same, after b 0xC2 h, inside-test 0xC2 0xDF b h (omega arith))
-
-  pub row-E0 : b ≡ 0xE0 → Starts 2 0xA0 0xBF (w - 0xE0) ≡ leading (leadOf b)
-  unfolding leadOf
-  row-E0 e = rw (same, e)
-
-  pub row-E1 : 0xE0 < b → b < 0xED → Starts 2 0x80 0xBF (w - 0xE0) ≡ leading (leadOf b)
-  unfolding leadOf
-  row-E1 h k = simp (same, after b 0xE1 h, inside-test 0xE1 0xEC b h (omega arith))
-
-  pub row-ED : b ≡ 0xED → Starts 2 0x80 0x9F (w - 0xE0) ≡ leading (leadOf b)
-  unfolding leadOf
-  row-ED e = rw (same, e)
-
-  pub row-EE : 0xED < b → b < 0xF0 → Starts 2 0x80 0xBF (w - 0xE0) ≡ leading (leadOf b)
-  unfolding leadOf
-  row-EE h k = simp (same, after b 0xEE h, inside-test 0xEE 0xEF b h (omega arith))
-
-  pub row-F0 : b ≡ 0xF0 → Starts 3 0x90 0xBF (w - 0xF0) ≡ leading (leadOf b)
-  unfolding leadOf
-  row-F0 e = rw (same, e)
-
-  pub row-F1 : 0xF0 < b → b < 0xF4 → Starts 3 0x80 0xBF (w - 0xF0) ≡ leading (leadOf b)
-  unfolding leadOf
-  row-F1 h k = simp (same, after b 0xF1 h, inside-test 0xF1 0xF3 b h (omega arith))
-
-  pub row-F4 : b ≡ 0xF4 → Starts 3 0x80 0x8F (w - 0xF0) ≡ leading (leadOf b)
-  unfolding leadOf
-  row-F4 e = rw (same, e)
-
--- the octets that no row has
-pub not-80 : (b : ℕ) → 0x80 ≤ b → b < 0xC2 → Not ≡ leading (leadOf b)
-unfolding leadOf
-not-80 b h k = simp (after b 0x80 h, before b 0xC2 k)
-
-pub not-F5 : (b : ℕ) → 0xF4 < b → Not ≡ leading (leadOf b)
-unfolding leadOf
-not-F5 b h = simp (after b 0xF5 h)
+-- an octet that no row has
+pub no-row : (b : ℕ) → All (λ r. r .low ≤ b → b ≤ r .high → ⊥) rows → Not ≡ leading (leadOf b)
+no-row b f =
+    by-rows (λ o. Not ≡ leading o) b
+    (λ r a e. let i = inside (r .low) (r .high) b e in absurd (at (λ r. r .low ≤ b → b ≤ r .high → ⊥) f a (i .0) (i .1))) refl
 
 -- ---- what a row says is small, the ASCII one aside
 
-data Fine : Option Lead → Type 0 where
-  refused : Fine none
-  taken : {t l h n : ℕ} → Small t l h n → Fine (lead t l h n)
+abbrev Few : Row → Type 0
+Few r = (r .tails ≤ 3) × (0x80 ≤ r .high → r .high < base (r .tails) + 0x20)
 
-row :
-    (low high base t l h b : ℕ) {o : Option Lead}
-    → T (leb t 3)
-    → T (leb 0x80 l)
-    → T (leb h 0xBF)
-    → T (ltb high (base + 0x20))
-    → Fine o
-    → Fine (if′ (within low high b) (lead t l h (b - base)) o)
-row low high base t l h b {o} few tail octet start rest = go (within low high b) refl
-  where
-    go : (p : Bool) → within low high b ≡ p → Fine (if′ p (lead t l h (b - base)) o)
-    go true e =
-        let k = inside low high b e .1 in
-        let m = ltb→lt high (base + 0x20) start in
-        let n : b - base < 0x20 = omega arith in
-        taken (record { few = leb→le _ _ few; tail = leb→le _ _ tail; octet = leb→le _ _ octet; start = n })
-    go false e = rest
-
-fine : (b : ℕ) → 0x80 ≤ b → Fine (leadOf b)
-unfolding leadOf
-fine b h =
-    rw (outside-test 0 0x7F b (omega arith))
-    (row 0xC2 0xDF 0xC0 1 0x80 0xBF b tt tt tt tt
-    (row 0xE0 0xE0 0xE0 2 0xA0 0xBF b tt tt tt tt
-    (row 0xE1 0xEC 0xE0 2 0x80 0xBF b tt tt tt tt
-    (row 0xED 0xED 0xE0 2 0x80 0x9F b tt tt tt tt
-    (row 0xEE 0xEF 0xE0 2 0x80 0xBF b tt tt tt tt
-    (row 0xF0 0xF0 0xF0 3 0x90 0xBF b tt tt tt tt
-    (row 0xF1 0xF3 0xF0 3 0x80 0xBF b tt tt tt tt
-    (row 0xF4 0xF4 0xF0 3 0x80 0x8F b tt tt tt tt refused))))))))
-
-said : {o : Option Lead} (t l h n : ℕ) → Fine o → Starts t l h n ≡ leading o → Small t l h n
-said t l h n refused e = never (cc)
-said t l h n (taken {t = t′} {l = l′} {h = h′} {n = n′} s) e =
-    let et : t ≡ t′ = cc in
-    let el : l ≡ l′ = cc in
-    let eh : h ≡ h′ = cc in
-    let en : n ≡ n′ = cc in
-    rw (et, el, eh, en) s
+few : All Few rows
+few = omega arith
 
 pub small : (b t l h n : ℕ) → 0x80 ≤ b → Starts t l h n ≡ leading (leadOf b) → Small t l h n
-small b t l h n k e = said t l h n (fine b k) e
+small b t l h n k = by-rows (λ o. Starts t l h n ≡ leading o → Small t l h n) b of-row (λ e. never (cc))
+  where
+    of-row : (r : Row) → At rows r → within (r .low) (r .high) b ≡ true
+        → Starts t l h n ≡ Starts (r .tails) (r .next) (r .last) (b - base (r .tails)) → Small t l h n
+    of-row r a i e =
+        let u = inside (r .low) (r .high) b i .1 in
+        let f = at Few few a in
+        let g = at Bounds bounds a in
+        let m = f .1 (omega arith) in
+        let et : t ≡ r .tails = cc in
+        let el : l ≡ r .next = cc in
+        let eh : h ≡ r .last = cc in
+        let en : n ≡ b - base (r .tails) = cc in
+        record { few = omega arith; tail = omega arith; octet = omega arith; start = omega arith }

@@ -21,7 +21,8 @@ use Rattle.utf8.specs.declared.Bad.the-variants.{At, Nowhere}
 use Rattle.utf8.specs.Decoding.{placed, badOf, Passed}
 use Rattle.utf8.specs.Blocks.{allFrom, isAscii}
 use Rattle.language.proofs.Tests.{both, inside, inside-test, never}
-use Rattle.utf8.proofs.Leads.{row-C2}
+use Rattle.language.proofs.Utf8Rows.{here, later}
+use Rattle.utf8.proofs.Leads.{row-in}
 use Rattle.utf8.proofs.Chars.{ascii-char, longer-char}
 
 -- ---- a character's octets are all there
@@ -136,7 +137,7 @@ two-passed s i h e =
     let a = inside 0xC2 0xDF (getD s i 0) (q .0) in
     let b = inside 0x80 0xBF (getD s (i + 1) 0) (q .1) in
     let l : i < length s = omega arith in
-    let d = longer-char s i l 1 0x80 0xBF (getD s i 0 - 0xC0) (row-C2 (getD s i 0) (getD s i 0) refl (a .0) (omega (arith, a .1))) in
+    let d = longer-char s i l 1 0x80 0xBF (getD s i 0 - 0xC0) (row-in (getD s i 0) (getD s i 0) refl (later here) (a .0) (omega (arith, a .1))) in
     let t = one-tail (getD s (i + 1) 0) (drop (suc (i + 1)) s) (getD s i 0 - 0xC0) (b .0) (b .1) in
     let o = over-char s i l (t .0) 2 (d ∙ ap (follow 2 1 0x80 0xBF (getD s i 0 - 0xC0)) (drop-cons s (i + 1) 0 h) ∙ t .1) in
     record { further = omega (arith, o .further); in-source = o .in-source; same = o .same }

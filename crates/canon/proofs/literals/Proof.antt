@@ -1,7 +1,8 @@
 use Prim.Native.Nat.{_-_}
 use mathlib.Core.Path.{sym, _∙_}
 use lib.ListN.{length}
-use Rattle.canon.proofs.Strings.{Telling, start, all-told, shrinks, passed, room, told}
+use Rattle.lex.proofs.Feeding.{shrinks}
+use Rattle.canon.proofs.Strings.{Telling, start, all-told, passed, room, told}
 use borrow.Author.Needs.{needs}
 use Rattle.canon.proofs.literals.Statement.{statement}
 use Rattle.canon.proofs.literals.Tie as tie
@@ -25,13 +26,13 @@ literal-text-requires : tie.Need-literal-text-requires Inv-loop μ-loop
 literal-text-requires c κs = room _ _ _ _ _ _ (c .before .before .before .before .before .before .before .before .loop .inv) _ _ (sym (c .before .before .before .before .before .step .given .1) ∙ c .before .before .before .before .before .before .before .next .ensures) (c .before .body .ensures) (search needs) (search needs)
 
 loop-less : tie.Need-loop-less Inv-loop μ-loop
-loop-less c = shrinks _ _ _ _ _ _ (c .before .before .before .before .before .before .before .before .before .before .before .loop .inv) _ _ (sym (c .before .before .before .before .before .before .before .before .step .given .1) ∙ c .before .before .before .before .before .before .before .before .before .before .next .ensures)
+loop-less c = shrinks _ _ _ _ (sym (c .before .before .before .before .before .before .before .before .step .given .1) ∙ c .before .before .before .before .before .before .before .before .before .before .next .ensures)
 
 loop-again : tie.Need-loop-again Inv-loop μ-loop
 loop-again c = told _ _ _ _ _ _ (c .before .before .before .before .before .before .before .before .before .before .before .loop .inv) _ _ (sym (c .before .before .before .before .before .before .before .before .step .given .1) ∙ c .before .before .before .before .before .before .before .before .before .before .next .ensures) (c .before .before .before .before .body .ensures) (c .before .before .before .before .before .enum-told2 .given .1) (c .before .before .literal-text .ensures)
 
 loop-less-2 : tie.Need-loop-less-2 Inv-loop μ-loop
-loop-less-2 c = shrinks _ _ _ _ _ _ (c .before .before .before .before .before .loop .inv) _ _ (sym (c .before .before .step .given .1) ∙ c .before .before .before .before .next .ensures)
+loop-less-2 c = shrinks _ _ _ _ (sym (c .before .before .step .given .1) ∙ c .before .before .before .before .next .ensures)
 
 loop-again-2 : tie.Need-loop-again-2 Inv-loop μ-loop
 loop-again-2 c = passed _ _ _ _ _ _ (c .before .before .before .before .before .loop .inv) _ _ (sym (c .before .before .step .given .1) ∙ c .before .before .before .before .next .ensures) (c .match2 .keys2)

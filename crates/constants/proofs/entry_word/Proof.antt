@@ -2,8 +2,6 @@ use Rattle.constants.proofs.Entries.{word-past, word-at}
 use borrow.Author.Needs.{needs}
 use Rattle.constants.proofs.entry_word.Statement.{statement}
 use Rattle.constants.proofs.entry_word.Tie as tie
-use Rattle.constants.proofs.entry_word.Reads as reads
-use Rattle.constants.proofs.entry_word.Lts as lts
 
 returns-2 : tie.Need-returns-2
 returns-2 c = word-past _ _ _ (c .if2 .taken)

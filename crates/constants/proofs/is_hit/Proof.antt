@@ -6,10 +6,6 @@ use Rattle.constants.proofs.Sames.{not-hit, hit-by}
 use borrow.Author.Needs.{needs}
 use Rattle.constants.proofs.is_hit.Statement.{statement}
 use Rattle.constants.proofs.is_hit.Tie as tie
-use Rattle.constants.proofs.is_hit.Reads as reads
-use Rattle.constants.proofs.is_hit.Lts as lts
-use Rattle.constants.proofs.part.Reads as part-reads
-use Rattle.constants.proofs.same.Reads as same-reads
 
 returns : tie.Need-returns
 returns c = let a = c .before .before .before .args in not-hit (a .rows .now) (a .text .now) (a .i) (a .inside) (a .name .now) (c .if1 .taken)

@@ -1,5 +1,4 @@
-use Prim.Native.Nat.{ℕ, _≤_, _-_, _+_}
-use native.Mathlib.Omega.{arith}
+use Prim.Native.Nat.{_≤_, _-_}
 use borrow.Author.Needs.{needs}
 use mathlib.Core.Path.{_≡_, _∙_, sym, refl}
 use Rattle.language.specs.Values.{lookup}
@@ -7,9 +6,6 @@ use Rattle.constants.specs.Constants.{orZero}
 use Rattle.constants.proofs.Entries.{from, found, missed, ended}
 use Rattle.constants.proofs.lookup.Statement.{statement}
 use Rattle.constants.proofs.lookup.Tie as tie
-use Rattle.constants.proofs.lookup.Reads as reads
-use Rattle.constants.proofs.lookup.Lts as lts
-use Rattle.constants.proofs.is_hit.Reads as is-hit-reads
 
 abbrev Inv-loop : tie.InvT-loop
 Inv-loop rows text inside name i₀ i = (i ≤ 9) × (orZero (from inside name i) ≡ orZero (lookup inside name))

@@ -1,10 +1,6 @@
-use mathlib.Core.Path.{_∙_, sym}
 use borrow.Author.Needs.{needs}
 use Rattle.constants.proofs.name_text.Statement.{statement}
 use Rattle.constants.proofs.name_text.Tie as tie
-use Rattle.constants.proofs.name_text.Reads as reads
-use Rattle.constants.proofs.name_text.Lts as lts
-use Rattle.constants.proofs.part.Reads as part-reads
 
 returns : tie.Need-returns
 returns c = rw (c .before .if1 .taken) (c .part .ensures)

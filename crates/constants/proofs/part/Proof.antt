@@ -3,8 +3,6 @@ use Rattle.constants.proofs.Parts.{part-none, part-past, part-rest}
 use borrow.Author.Needs.{needs}
 use Rattle.constants.proofs.part.Statement.{statement}
 use Rattle.constants.proofs.part.Tie as tie
-use Rattle.constants.proofs.part.Reads as reads
-use Rattle.constants.proofs.part.Lts as lts
 
 returns : tie.Need-returns
 returns c = part-none _ _ _ (c .before .if1 .taken)

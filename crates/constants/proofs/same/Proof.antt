@@ -1,5 +1,4 @@
-use Prim.Native.Nat.{ℕ, _≤_, _-_}
-use native.Mathlib.Omega.{arith}
+use Prim.Native.Nat.{_≤_, _-_}
 use mathlib.Core.Path.{_≡_, _∙_}
 use lib.ListN.{length, drop}
 use borrow.Author.Needs.{needs}
@@ -7,8 +6,6 @@ use Rattle.language.specs.Lexemes.{same}
 use Rattle.constants.proofs.Sames.{not-long, differs, agrees, all}
 use Rattle.constants.proofs.same.Statement.{statement}
 use Rattle.constants.proofs.same.Tie as tie
-use Rattle.constants.proofs.same.Reads as reads
-use Rattle.constants.proofs.same.Lts as lts
 
 abbrev Inv-loop : tie.InvT-loop
 Inv-loop x y i₀ i = (i ≤ length x) × (length x ≡ length y) × (same (drop i x) (drop i y) ≡ same x y)

@@ -1,12 +1,11 @@
 use native.Mathlib.Omega.{arith}
 use borrow.Author.Needs.{needs}
-use Prim.Native.Nat.{_+_, _*_}
-use mathlib.Core.Path.{refl, sym, ap, _∙_}
+use Prim.Native.Nat.{_+_, _*_, ℕ, _<_}
+use mathlib.Core.Path.{refl, sym, _∙_}
 use Rattle.judging.specs.Judging.{knownIn}
 use Rattle.language.specs.Sentences.{slash′}
 use Rattle.judging.proofs.TokenRows.{some-row}
 use Rattle.judging.proofs.Judging as law
-use Prim.Native.Nat.{ℕ, _<_}
 use borrow.Fn.Kinds.{In}
 use borrow.Fn.PlainCycle.{Measures, is, falls, and}
 use Rattle.judging.proofs.judge.Reads as judge

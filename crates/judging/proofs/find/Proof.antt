@@ -6,10 +6,6 @@ use borrow.Author.Needs.{needs}
 use native.Mathlib.Omega.{arith}
 use Rattle.judging.proofs.find.Statement.{statement}
 use Rattle.judging.proofs.find.Tie as tie
-use Rattle.judging.proofs.find.Reads as reads
-use Rattle.judging.proofs.find.Lts as lts
-use Rattle.judging.proofs.is_named.Reads as is-named-reads
-use Rattle.judging.proofs.key_of.Reads as key-of-reads
 
 abbrev Inv-loop : tie.InvT-loop
 Inv-loop source entries used name key i₀ i = (i ≤ used) × (i + place (namesIn source entries (used - i) i) name ≡ place (namesIn source entries used 0) name)

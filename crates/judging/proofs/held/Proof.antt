@@ -1,8 +1,6 @@
 use Rattle.judging.proofs.Values.{held-none, held-some}
 use Rattle.judging.proofs.held.Statement.{statement}
 use Rattle.judging.proofs.held.Tie as tie
-use Rattle.judging.proofs.held.Reads as reads
-use Rattle.judging.proofs.held.Lts as lts
 
 returns : tie.Need-returns
 returns c = held-none _ _ _ (c .if1 .taken)

@@ -2,9 +2,6 @@ use Rattle.judging.proofs.Judging.{integral-goes, integral-err, integra
 use borrow.Author.Needs.{needs}
 use Rattle.judging.proofs.integral.Statement.{statement}
 use Rattle.judging.proofs.integral.Tie as tie
-use Rattle.judging.proofs.integral.Reads as reads
-use Rattle.judging.proofs.integral.Lts as lts
-use Rattle.judging.proofs.narrow_to.Reads as narrow-to-reads
 
 returns : tie.Need-returns
 returns c = λ s o. integral-goes s (c .before .before .before .before .before .before .before .before .before .before .args .ip) (c .before .before .before .before .before .before .before .before .before .before .args .t) (c .before .before .before .before .before .before .out .given .1) (c .before .before .narrow-to .ensures s o)

@@ -6,10 +6,6 @@ use Rattle.judging.proofs.Names.{other-key}
 use borrow.Author.Needs.{needs}
 use Rattle.judging.proofs.is_named.Statement.{statement}
 use Rattle.judging.proofs.is_named.Tie as tie
-use Rattle.judging.proofs.is_named.Reads as reads
-use Rattle.judging.proofs.is_named.Lts as lts
-use Rattle.constants.proofs.part.Reads as part-reads
-use Rattle.constants.proofs.same.Reads as same-reads
 
 returns : tie.Need-returns
 returns c = λ p q. other-key _ _ p q (c .if1 .taken)

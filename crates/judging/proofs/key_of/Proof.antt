@@ -7,8 +7,6 @@ use native.Mathlib.Omega.{arith}
 use borrow.Author.Needs.{needs}
 use Rattle.judging.proofs.key_of.Statement.{statement}
 use Rattle.judging.proofs.key_of.Tie as tie
-use Rattle.judging.proofs.key_of.Reads as reads
-use Rattle.judging.proofs.key_of.Lts as lts
 
 abbrev Inv-loop : tie.InvT-loop
 Inv-loop name key₀ i₀ key i = (i ≤ length name) × (keyFrom key (drop i name) ≡ keyOf name)

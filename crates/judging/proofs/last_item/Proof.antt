@@ -1,4 +1,4 @@
-use mathlib.Core.Path.{refl, sym, ap, _∙_}
+use mathlib.Core.Path.{sym, ap, _∙_}
 use Rattle.judging.specs.declared.Judged.the-variants.{Err}
 use Rattle.judging.specs.Judging.{judgedAs}
 use Rattle.language.specs.Tokens.{tokens, contents}
@@ -7,10 +7,6 @@ use Rattle.judging.proofs.Names.{entry-kind, entry-low, entry-high, not
 use borrow.Author.Needs.{needs}
 use Rattle.judging.proofs.last_item.Statement.{statement}
 use Rattle.judging.proofs.last_item.Tie as tie
-use Rattle.judging.proofs.last_item.Reads as reads
-use Rattle.judging.proofs.last_item.Lts as lts
-use Rattle.constants.proofs.entry_word.Reads as entry-word-reads
-use Rattle.judging.proofs.named.Reads as named-reads
 
 returns : tie.Need-returns
 returns c = λ s t e. ap Err (c .named .ensures ∙ not-a-value s t e) ∙ sym (ap (judgedAs s) (item-module s (contents (tokens s)) t (entryAt (c .before .before .before .args .k) .value) (sym (entry-kind (c .before .before .before .args .k) (c .before .before .before .pre) (c .before .before .entry-word .ensures)) ∙ c .before .if1 .taken)))

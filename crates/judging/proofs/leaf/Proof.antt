@@ -1,17 +1,9 @@
-use mathlib.Core.Path.{refl, sym, _∙_}
+use mathlib.Core.Path.{sym, _∙_}
 use Rattle.judging.proofs.TokenRows.{some-row}
 use Rattle.judging.proofs.Judging.{leaf-literal, leaf-sock4, leaf-local, leaf-path}
 use borrow.Author.Needs.{needs}
 use Rattle.judging.proofs.leaf.Statement.{statement}
 use Rattle.judging.proofs.leaf.Tie as tie
-use Rattle.judging.proofs.leaf.Reads as reads
-use Rattle.judging.proofs.leaf.Lts as lts
-use Rattle.judging.proofs.literal.Reads as literal-reads
-use Rattle.judging.proofs.local.Reads as local-reads
-use Rattle.judging.proofs.path.Reads as path-reads
-use Rattle.judging.proofs.sock4.Reads as sock4-reads
-use Rattle.judging.proofs.token_at.Reads as token-at-reads
-use Rattle.judging.proofs.word.Reads as word-reads
 
 literal-requires : tie.Need-literal-requires
 literal-requires c κs = some-row (c .before .before .before .before .before .before .pre .0 .lexed)

@@ -1,11 +1,7 @@
-use mathlib.Core.Path.{refl, sym, ap, _∙_}
 use Rattle.judging.proofs.Values.{literal-bool, literal-ip4, literal-string, literal-other}
 use borrow.Author.Needs.{needs}
 use Rattle.judging.proofs.literal.Statement.{statement}
 use Rattle.judging.proofs.literal.Tie as tie
-use Rattle.judging.proofs.literal.Reads as reads
-use Rattle.judging.proofs.literal.Lts as lts
-use Rattle.judging.proofs.token_at.Reads as token-at-reads
 
 returns : tie.Need-returns
 returns c = λ s o. literal-bool (c .before .before .before .args .t) s (c .before .token-at .ensures s o) (c .match .keys1)

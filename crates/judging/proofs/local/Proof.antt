@@ -1,16 +1,10 @@
-use mathlib.Core.Path.{refl, ap, _∙_}
+use mathlib.Core.Path.{ap}
 use Rattle.language.specs.Tokens.{tokens, contents}
 use Rattle.judging.specs.declared.Judged.the-variants.{Err}
 use Rattle.judging.proofs.Names.{local-found, local-lost}
 use borrow.Author.Needs.{needs}
 use Rattle.judging.proofs.local.Statement.{statement}
 use Rattle.judging.proofs.local.Tie as tie
-use Rattle.judging.proofs.local.Reads as reads
-use Rattle.judging.proofs.local.Lts as lts
-use Rattle.judging.proofs.find.Reads as find-reads
-use Rattle.judging.proofs.held.Reads as held-reads
-use Rattle.judging.proofs.name_at.Reads as name-at-reads
-use Rattle.judging.proofs.named.Reads as named-reads
 
 returns : tie.Need-returns
 returns c = record { is = λ t e k. local-found _ (contents (tokens (c .before .before .before .before .before .before .before .before .args .source .now))) t _ _ _ _ _ (c .before .before .before .before .before .find .ensures) (c .before .before .before .before .before .before .name-at .ensures t e) (c .before .before .before .before .if1 .taken) k (c .held .ensures) }

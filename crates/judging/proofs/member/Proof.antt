@@ -3,10 +3,6 @@ use Rattle.judging.proofs.Judging.{no-members, members, members-err, me
 use borrow.Author.Needs.{needs}
 use Rattle.judging.proofs.member.Statement.{statement}
 use Rattle.judging.proofs.member.Tie as tie
-use Rattle.judging.proofs.member.Reads as reads
-use Rattle.judging.proofs.member.Lts as lts
-use Rattle.judging.proofs.token_at.Reads as token-at-reads
-use Rattle.judging.proofs.typed.Reads as typed-reads
 
 returns : tie.Need-returns
 returns c = λ s o. members s (c .before .before .before .before .before .before .before .args .t) (c .before .before .before .out .given .1) (λ u e. c .typed .ensures .is u e ∙ no-members s (c .before .before .before .before .before .before .before .args .t) (c .before .token-at .ensures s o) u) refl refl

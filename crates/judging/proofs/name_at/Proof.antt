@@ -2,9 +2,6 @@ use Rattle.judging.proofs.TokenRows.{is-named, not-named}
 use borrow.Author.Needs.{needs}
 use Rattle.judging.proofs.name_at.Statement.{statement}
 use Rattle.judging.proofs.name_at.Tie as tie
-use Rattle.judging.proofs.name_at.Reads as reads
-use Rattle.judging.proofs.name_at.Lts as lts
-use Rattle.constants.proofs.part.Reads as part-reads
 
 returns : tie.Need-returns
 returns c = λ t e. is-named _ t e (c .before .if1 .taken) (c .part .ensures)

@@ -5,15 +5,6 @@ use native.Mathlib.Omega.{arith}
 use borrow.Author.Needs.{needs}
 use Rattle.judging.proofs.narrow_to.Statement.{statement}
 use Rattle.judging.proofs.narrow_to.Tie as tie
-use Rattle.judging.proofs.narrow_to.Reads as reads
-use Rattle.judging.proofs.narrow_to.Lts as lts
-use Rattle.judging.proofs.is_integral.Reads as is-integral-reads
-use Rattle.judging.proofs.operand.Reads as operand-reads
-use Rattle.judging.proofs.put_diag.Reads as put-diag-reads
-use Rattle.judging.proofs.token_at.Reads as token-at-reads
-use Rattle.judging.proofs.truncated.Reads as truncated-reads
-use Rattle.judging.proofs.warned.Reads as warned-reads
-use Rattle.wide.proofs.Wide.low16.Reads as low16-reads
 
 returns : tie.Need-returns
 returns c = λ s o. not-integer s (c .before .before .before .before .before .args .ip) (c .before .before .before .before .before .args .t) (sym (c .before .before .is-integral .ensures) ∙ not-true _ (c .before .if1 .taken)) (c .operand .ensures s o) refl

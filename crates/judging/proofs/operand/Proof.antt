@@ -4,10 +4,6 @@ use Rattle.judging.proofs.Values.{operand-is}
 use borrow.Author.Needs.{needs}
 use Rattle.judging.proofs.operand.Statement.{statement}
 use Rattle.judging.proofs.operand.Tie as tie
-use Rattle.judging.proofs.operand.Reads as reads
-use Rattle.judging.proofs.operand.Lts as lts
-use Rattle.judging.proofs.token_at.Reads as token-at-reads
-use Rattle.judging.proofs.typed.Reads as typed-reads
 
 returns : tie.Need-returns
 returns c = λ s o. record { is = λ u d ty e p q. ap Err (c .typed .ensures .is u e ∙ operand-is s _ (c .before .token-at .ensures s o) u d ty p q) }

@@ -1,4 +1,4 @@
-use mathlib.Core.Path.{_≡_, refl, sym, ap, _∙_}
+use mathlib.Core.Path.{refl, ap, _∙_}
 use Rattle.judging.specs.declared.Judged.the-variants.{Err}
 use Rattle.judging.specs.Judging.{judgedAs}
 use Rattle.judging.proofs.TokenRows.{some-row}
@@ -6,13 +6,6 @@ use Rattle.judging.proofs.Names.{below-failed, below-found, below-lost,
 use borrow.Author.Needs.{needs}
 use Rattle.judging.proofs.path.Statement.{statement}
 use Rattle.judging.proofs.path.Tie as tie
-use Rattle.judging.proofs.path.Reads as reads
-use Rattle.judging.proofs.path.Lts as lts
-use Rattle.judging.proofs.find.Reads as find-reads
-use Rattle.judging.proofs.name_at.Reads as name-at-reads
-use Rattle.judging.proofs.named.Reads as named-reads
-use Rattle.judging.proofs.token_at.Reads as token-at-reads
-use Rattle.judging.proofs.walk.Reads as walk-reads
 
 token-at-requires : tie.Need-token-at-requires
 token-at-requires c κs = some-row (c .before .before .pre .0)

@@ -6,9 +6,6 @@ use native.Mathlib.Omega.{arith}
 use borrow.Author.Needs.{needs}
 use Rattle.judging.proofs.put_diag.Statement.{statement}
 use Rattle.judging.proofs.put_diag.Tie as tie
-use Rattle.judging.proofs.put_diag.Reads as reads
-use Rattle.judging.proofs.put_diag.Lts as lts
-use Rattle.table.proofs.put_row.Reads as put-row-reads
 
 returns : tie.Need-returns
 returns c = put-part (c .before .before .before .before .before .before .before .before .args .diags .now) (faultRow (c .before .before .before .before .before .before .before .before .args .f)) _ (c .before .before .before .before .before .before .before .before .args .row) 11 refl (omega (arith, c .before .before .before .before .before .if1 .taken)) (c .before .before .put-row .ensures)

@@ -4,10 +4,6 @@ use Rattle.judging.proofs.Values.{sock4-is}
 use borrow.Author.Needs.{needs}
 use Rattle.judging.proofs.sock4.Statement.{statement}
 use Rattle.judging.proofs.sock4.Tie as tie
-use Rattle.judging.proofs.sock4.Reads as reads
-use Rattle.judging.proofs.sock4.Lts as lts
-use Rattle.judging.proofs.token_at.Reads as token-at-reads
-use Rattle.judging.proofs.two_after.Reads as two-after-reads
 
 returns : tie.Need-returns
 returns c = λ s o. sock4-is (tokenOf s (c .before .before .before .args .t)) (tokenOf s (c .before .before .before .args .t + 2)) (c .before .token-at .ensures s o) (c .two-after .ensures s o)

@@ -2,9 +2,6 @@ use Rattle.judging.proofs.TokenRows.{token-in, token-past}
 use borrow.Author.Needs.{needs}
 use Rattle.judging.proofs.token_at.Statement.{statement}
 use Rattle.judging.proofs.token_at.Tie as tie
-use Rattle.judging.proofs.token_at.Reads as reads
-use Rattle.judging.proofs.token_at.Lts as lts
-use Rattle.judging.proofs.token_row.Reads as token-row-reads
 
 returns : tie.Need-returns
 returns c = λ s o. token-in o _ (c .token-row .ensures) (c .before .if1 .taken)

@@ -2,9 +2,6 @@ use Rattle.judging.proofs.TokenRows.{token-after}
 use borrow.Author.Needs.{needs}
 use Rattle.judging.proofs.two_after.Statement.{statement}
 use Rattle.judging.proofs.two_after.Tie as tie
-use Rattle.judging.proofs.two_after.Reads as reads
-use Rattle.judging.proofs.two_after.Lts as lts
-use Rattle.judging.proofs.token_at.Reads as token-at-reads
 
 returns : tie.Need-returns
 returns c = λ s o. c .token-at .ensures s o

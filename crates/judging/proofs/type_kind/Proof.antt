@@ -3,8 +3,6 @@ use Rattle.judging.specs.declared.Value.{Value}
 use Rattle.judging.proofs.Values.{kind-17, kind-type}
 use Rattle.judging.proofs.type_kind.Statement.{statement}
 use Rattle.judging.proofs.type_kind.Tie as tie
-use Rattle.judging.proofs.type_kind.Reads as reads
-use Rattle.judging.proofs.type_kind.Lts as lts
 
 returns : tie.Need-returns
 returns c = record { is = λ u e. kind-17 u (sym (ap (λ (v : Value). v .kind) e) ∙ c .if1 .taken) }

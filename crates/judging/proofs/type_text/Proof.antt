@@ -1,13 +1,9 @@
-use mathlib.Core.Path.{sym, ap, _∙_}
+use mathlib.Core.Path.{ap, _∙_}
 use Rattle.judging.specs.declared.Value.{Value}
 use Rattle.judging.proofs.Values.{plain-text, shown-text}
 use borrow.Author.Needs.{needs}
 use Rattle.judging.proofs.type_text.Statement.{statement}
 use Rattle.judging.proofs.type_text.Tie as tie
-use Rattle.judging.proofs.type_text.Reads as reads
-use Rattle.judging.proofs.type_text.Lts as lts
-use Rattle.constants.proofs.Constants.new.Reads as new-reads
-use Rattle.constants.proofs.entry_word.Reads as entry-word-reads
 
 returns : tie.Need-returns
 returns c = record { is = λ u e. plain-text u (λ q. c .if1 .taken (ap (λ (v : Value). v .kind) e ∙ q)) }

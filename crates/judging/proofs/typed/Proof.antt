@@ -2,10 +2,6 @@ use Rattle.judging.proofs.Values.{typed-is}
 use borrow.Author.Needs.{needs}
 use Rattle.judging.proofs.typed.Statement.{statement}
 use Rattle.judging.proofs.typed.Tie as tie
-use Rattle.judging.proofs.typed.Reads as reads
-use Rattle.judging.proofs.typed.Lts as lts
-use Rattle.judging.proofs.type_kind.Reads as type-kind-reads
-use Rattle.judging.proofs.type_text.Reads as type-text-reads
 
 returns : tie.Need-returns
 returns c = record { is = λ u e. typed-is (c .before .before .args .tok) u (c .before .type-text .ensures .is u e) (c .type-kind .ensures .is u e) }

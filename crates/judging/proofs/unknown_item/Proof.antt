@@ -4,10 +4,6 @@ use Rattle.judging.proofs.Names.{unknown-item}
 use borrow.Author.Needs.{needs}
 use Rattle.judging.proofs.unknown_item.Statement.{statement}
 use Rattle.judging.proofs.unknown_item.Tie as tie
-use Rattle.judging.proofs.unknown_item.Reads as reads
-use Rattle.judging.proofs.unknown_item.Lts as lts
-use Rattle.constants.proofs.entry_word.Reads as entry-word-reads
-use Rattle.judging.proofs.named.Reads as named-reads
 
 returns : tie.Need-returns
 returns c = λ s t e. ap Err (c .named .ensures ∙ unknown-item s t e (c .before .before .before .args .inside) (c .before .before .before .pre) (c .before .before .entry-word .ensures) (c .before .entry-word2 .ensures))

@@ -1,8 +1,7 @@
-use Prim.Native.Nat.{_+_, _-_, _≤_}
+use Prim.Native.Nat.{_+_}
 use mathlib.Core.Path.{_≡_, refl, sym, ap, _∙_}
 use Rattle.language.specs.Tokens.{tokens, contents}
 use Rattle.language.specs.Judgements.{walk}
-use Rattle.constants.specs.Constants.{orZero}
 use Rattle.language.specs.Values.{lookup}
 use Rattle.judging.specs.declared.Judged.the-variants.{Err}
 use Rattle.judging.specs.Judging.{judgedAs}
@@ -12,16 +11,6 @@ use borrow.Author.Needs.{needs}
 use native.Mathlib.Omega.{arith}
 use Rattle.judging.proofs.walk.Statement.{statement}
 use Rattle.judging.proofs.walk.Tie as tie
-use Rattle.judging.proofs.walk.Reads as reads
-use Rattle.judging.proofs.walk.Lts as lts
-use Rattle.constants.proofs.Constants.new.Reads as new-reads
-use Rattle.constants.proofs.entry_word.Reads as entry-word-reads
-use Rattle.constants.proofs.lookup.Reads as lookup-reads
-use Rattle.judging.proofs.last_item.Reads as last-item-reads
-use Rattle.judging.proofs.name_at.Reads as name-at-reads
-use Rattle.judging.proofs.named.Reads as named-reads
-use Rattle.judging.proofs.two_after.Reads as two-after-reads
-use Rattle.judging.proofs.unknown_item.Reads as unknown-item-reads
 
 abbrev Inv-loop : tie.InvT-loop
 Inv-loop source toks top t names rows text inside₀ at₀ left₀ inside at left = walk (contents (tokens source)) left inside at ≡ walk (contents (tokens source)) names top t

@@ -1,8 +1,6 @@
 use borrow.Author.Needs.{needs}
 use Rattle.lex.proofs.lexical.Statement.{statement}
 use Rattle.lex.proofs.lexical.Tie as tie
-use Rattle.lex.proofs.lexical.Reads as reads
-use Rattle.lex.proofs.lexical.Lts as lts
 
 returns : tie.Need-returns
 returns c = rw (c .before .kind .ensures, c .character .ensures)

@@ -1,7 +1,8 @@
 use Prim.Native.Nat.{_-_}
 use mathlib.Core.Path.{sym, _∙_}
 use lib.ListN.{length}
-use Rattle.lex.proofs.Bodies.{Looking, start, none-left, shrinks, is-it, not-it, passed}
+use Rattle.lex.proofs.Feeding.{shrinks}
+use Rattle.lex.proofs.Bodies.{Looking, start, none-left, is-it, not-it, passed}
 use borrow.Author.Needs.{needs}
 use Rattle.lex.proofs.nth_body.Statement.{statement}
 use Rattle.lex.proofs.nth_body.Tie as tie
@@ -22,13 +23,13 @@ returns-2 : tie.Need-returns-2 Inv-loop μ-loop
 returns-2 c = is-it _ _ _ _ (c .before .before .before .before .before .before .before .before .loop .inv) _ _ (sym (c .before .before .before .before .before .step .given .1) ∙ c .before .before .before .before .before .before .before .next .ensures) (c .before .before .enum-told2 .given .1) (c .before .if1 .taken) (c .body .ensures)
 
 loop-less : tie.Need-loop-less Inv-loop μ-loop
-loop-less c = shrinks _ _ _ _ (c .before .before .before .before .before .before .before .loop .inv) _ _ (sym (c .before .before .before .before .step .given .1) ∙ c .before .before .before .before .before .before .next .ensures)
+loop-less c = shrinks _ _ _ _ (sym (c .before .before .before .before .step .given .1) ∙ c .before .before .before .before .before .before .next .ensures)
 
 loop-again : tie.Need-loop-again Inv-loop μ-loop
 loop-again c = not-it _ _ _ _ (c .before .before .before .before .before .before .before .loop .inv) _ _ (sym (c .before .before .before .before .step .given .1) ∙ c .before .before .before .before .before .before .next .ensures) (c .before .enum-told2 .given .1) (c .if1 .left)
 
 loop-less-2 : tie.Need-loop-less-2 Inv-loop μ-loop
-loop-less-2 c = shrinks _ _ _ _ (c .before .before .before .before .before .loop .inv) _ _ (sym (c .before .before .step .given .1) ∙ c .before .before .before .before .next .ensures)
+loop-less-2 c = shrinks _ _ _ _ (sym (c .before .before .step .given .1) ∙ c .before .before .before .before .next .ensures)
 
 loop-again-2 : tie.Need-loop-again-2 Inv-loop μ-loop
 loop-again-2 c = passed _ _ _ _ (c .before .before .before .before .before .loop .inv) _ _ (sym (c .before .before .step .given .1) ∙ c .before .before .before .before .next .ensures) (c .match2 .keys2)

@@ -1,35 +1,25 @@
+use Prim.Native.Nat.{_-_}
 use native.Mathlib.Omega.{arith}
-use Rattle.table.proofs.Stores.{cleared}
-use Prim.Native.Nat.{ℕ, _≤_, _<_, _-_}
-use mathlib.Core.Path.{_≡_, refl, ap, _∙_}
-use mathlib.Core.List.{List, _++_}
-use lib.ListN.{length, drop, set, replicate}
+use lib.ListN.{length}
 use borrow.Author.Needs.{needs}
-use borrow.Author.Fill.{fill-none, fill-more}
+use Rattle.table.proofs.Stores.{Zeros, zeros-none, zeros-more, cleared}
 use Rattle.table.proofs.clear.Statement.{statement}
 use Rattle.table.proofs.clear.Tie as tie
-use Rattle.table.proofs.clear.Reads as reads
-use Rattle.table.proofs.clear.Lts as lts
 
 abbrev Inv-loop : tie.InvT-loop
-Inv-loop table₀ i₀ table i = (i ≤ length table₀) × (length table ≡ length table₀) × (table ≡ replicate i 0 ++ drop i table₀)
+Inv-loop table₀ i₀ table i = Zeros table₀ table i
 
 abbrev μ-loop : tie.MeasureT-loop
 μ-loop table₀ i₀ table i = length table₀ - i
 
 loop-holds : tie.Need-loop-holds Inv-loop μ-loop
-loop-holds c = (search needs, refl, refl)
+loop-holds c = zeros-none _
 
 loop-again : tie.Need-loop-again Inv-loop μ-loop
-loop-again c =
-    let l = c .before in
-    let h : l .loop .i < length (l .before .args .table .now) = omega arith in
-    (search needs, search needs, ap (λ (d : List ℕ). set d (l .loop .i) 0) (l .loop .inv .2) ∙ fill-more _ 0 _ h)
+loop-again c = zeros-more (c .before .loop .inv) (omega arith)
 
 returns : tie.Need-returns Inv-loop μ-loop
-returns c =
-    let h : c .before .loop .i ≡ length (c .before .before .args .table .now) = omega arith in
-    cleared _ _ _ (c .before .loop .inv .2) h
+returns c = cleared (c .before .loop .inv) (omega arith)
 
 pub clear-spec : {M : Type 1} → statement M
 clear-spec =

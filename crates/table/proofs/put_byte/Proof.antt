@@ -3,8 +3,6 @@ use lib.Seq.{set-out}
 use borrow.Author.Needs.{needs}
 use Rattle.table.proofs.put_byte.Statement.{statement}
 use Rattle.table.proofs.put_byte.Tie as tie
-use Rattle.table.proofs.put_byte.Reads as reads
-use Rattle.table.proofs.put_byte.Lts as lts
 
 returns-2 : tie.Need-returns-2
 returns-2 c = sym (set-out _ _ _ (c .if1 .left))

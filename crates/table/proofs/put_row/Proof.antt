@@ -8,8 +8,6 @@ use Rattle.table.proofs.Stores.{copy-more, copied, row-start}
 use Rattle.table.proofs.Laws.{put-full}
 use Rattle.table.proofs.put_row.Statement.{statement}
 use Rattle.table.proofs.put_row.Tie as tie
-use Rattle.table.proofs.put_row.Reads as reads
-use Rattle.table.proofs.put_row.Lts as lts
 
 abbrev Inv-loop : tie.InvT-loop
 Inv-loop table₀ row words width start i₀ table i = (i ≤ width) × (length table ≡ length table₀) × (table ≡ sets table₀ start (take i words))

@@ -3,8 +3,6 @@ use Rattle.language.specs.Values.{entries, tableText}
 use Rattle.constants.specs.Constants.{tableRows}
 use Rattle.constants.proofs.Constants.new.Statement.{statement}
 use Rattle.constants.proofs.Constants.new.Tie as tie
-use Rattle.constants.proofs.Constants.new.Reads as reads
-use Rattle.constants.proofs.Constants.new.Lts as lts
 
 returns : tie.Need-returns
 unfolding tableRows entries tableText

@@ -2,10 +2,6 @@ use Rattle.lex.proofs.States.{flush-none, flush-some}
 use borrow.Author.Needs.{needs}
 use Rattle.lex.proofs.Lexer.flush.Statement.{statement}
 use Rattle.lex.proofs.Lexer.flush.Tie as tie
-use Rattle.lex.proofs.Lexer.flush.Reads as reads
-use Rattle.lex.proofs.Lexer.flush.Lts as lts
-use Rattle.lex.proofs.PendingStr.none.Reads as none-reads
-use Rattle.table.proofs.put_row.Reads as put-row-reads
 
 returns : tie.Need-returns
 returns c = flush-none _ _ (c .if1 .taken)

@@ -1,18 +1,11 @@
 use Prim.Native.Nat.{_-_}
-use mathlib.Core.Path.{_≡_, refl, sym, _∙_}
+use mathlib.Core.Path.{refl, sym, _∙_}
 use lib.ListN.{length}
 use Rattle.lex.proofs.Feeding.{Feeding, begun, shrinks, room, more, stopped, finished}
 use borrow.Author.Needs.{needs}
 use native.Mathlib.Omega.{arith}
 use Rattle.lex.proofs.Lexer.lexemes.Statement.{statement}
 use Rattle.lex.proofs.Lexer.lexemes.Tie as tie
-use Rattle.lex.proofs.Lexer.lexemes.Reads as reads
-use Rattle.lex.proofs.Lexer.lexemes.Lts as lts
-use Rattle.lex.proofs.Lexer.string.Reads as string-reads
-use Rattle.lex.proofs.Lexer.token.Reads as token-reads
-use Rattle.lex.proofs.lexical.Reads as lexical-reads
-use Rattle.scan.proofs.Scanner.new.Reads as new-reads
-use Rattle.scan.proofs.Scanner.next.Reads as next-reads
 
 abbrev Inv-loop : tie.InvT-loop
 Inv-loop line start table₀ lexer₀ scanner₀ table lexer scanner = Feeding lexer₀ table₀ start line lexer table (scanner .pos)
@@ -30,7 +23,7 @@ returns : tie.Need-returns Inv-loop μ-loop
 returns c = finished _ _ _ _ _ _ _ (c .before .before .before .loop .inv) (sym (c .enum-told .given .1) ∙ c .before .before .next .ensures)
 
 loop-less : tie.Need-loop-less Inv-loop μ-loop
-loop-less c = shrinks _ _ _ _ _ _ _ (c .before .before .before .before .before .before .loop .inv) _ _ (sym (c .before .before .before .step .given .1) ∙ c .before .before .before .before .before .next .ensures)
+loop-less c = shrinks _ _ _ _ (sym (c .before .before .before .step .given .1) ∙ c .before .before .before .before .before .next .ensures)
 
 loop-again : tie.Need-loop-again Inv-loop μ-loop
 loop-again c = more _ _ _ _ _ _ _ (c .before .before .before .before .before .before .loop .inv) _ _ (sym (c .before .before .before .step .given .1) ∙ c .before .before .before .before .before .next .ensures) (c .enum-told2 .given .1) (refl, refl)
@@ -39,7 +32,7 @@ string-requires : tie.Need-string-requires Inv-loop μ-loop
 string-requires c κs = let r = room _ _ _ _ _ _ _ (c .before .before .before .before .before .before .loop .inv) _ _ (sym (c .before .before .before .step .given .1) ∙ c .before .before .before .before .before .next .ensures) (c .before .before .before .before .before .before .before .before .before .before .pre .1) in (r .0, r .1, omega arith)
 
 loop-less-2 : tie.Need-loop-less-2 Inv-loop μ-loop
-loop-less-2 c = shrinks _ _ _ _ _ _ _ (c .before .before .before .before .before .before .before .loop .inv) _ _ (sym (c .before .before .before .before .step .given .1) ∙ c .before .before .before .before .before .before .next .ensures)
+loop-less-2 c = shrinks _ _ _ _ (sym (c .before .before .before .before .step .given .1) ∙ c .before .before .before .before .before .before .next .ensures)
 
 loop-again-2 : tie.Need-loop-again-2 Inv-loop μ-loop
 loop-again-2 c = more _ _ _ _ _ _ _ (c .before .before .before .before .before .before .before .loop .inv) _ _ (sym (c .before .before .before .before .step .given .1) ∙ c .before .before .before .before .before .before .next .ensures) (c .before .enum-told3 .given .1) (c .string .ensures, refl)
@@ -48,7 +41,7 @@ token-requires : tie.Need-token-requires Inv-loop μ-loop
 token-requires c κs = room _ _ _ _ _ _ _ (c .before .before .before .before .before .before .before .before .loop .inv) _ _ (sym (c .before .before .before .before .before .step .given .1) ∙ c .before .before .before .before .before .before .before .next .ensures) (c .before .before .before .before .before .before .before .before .before .before .before .before .pre .1)
 
 loop-less-3 : tie.Need-loop-less-3 Inv-loop μ-loop
-loop-less-3 c = shrinks _ _ _ _ _ _ _ (c .before .before .before .before .before .before .before .before .before .before .before .loop .inv) _ _ (sym (c .before .before .before .before .before .before .before .before .step .given .1) ∙ c .before .before .before .before .before .before .before .before .before .before .next .ensures)
+loop-less-3 c = shrinks _ _ _ _ (sym (c .before .before .before .before .before .before .before .before .step .given .1) ∙ c .before .before .before .before .before .before .before .before .before .before .next .ensures)
 
 loop-again-3 : tie.Need-loop-again-3 Inv-loop μ-loop
 loop-again-3 c = more _ _ _ _ _ _ _ (c .before .before .before .before .before .before .before .before .before .before .before .loop .inv) _ _ (sym (c .before .before .before .before .before .before .before .before .step .given .1) ∙ c .before .before .before .before .before .before .before .before .before .before .next .ensures) (c .before .before .before .before .before .kind .given .1) (c .before .before .token .ensures)

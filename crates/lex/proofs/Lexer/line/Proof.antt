@@ -2,9 +2,6 @@ use Rattle.lex.proofs.Feeding.{part-fits, numbered}
 use borrow.Author.Needs.{needs}
 use Rattle.lex.proofs.Lexer.line.Statement.{statement}
 use Rattle.lex.proofs.Lexer.line.Tie as tie
-use Rattle.lex.proofs.Lexer.line.Reads as reads
-use Rattle.lex.proofs.Lexer.line.Lts as lts
-use Rattle.lex.proofs.Lexer.lexemes.Reads as lexemes-reads
 
 lexemes-requires : tie.Need-lexemes-requires
 lexemes-requires c κs = (search needs, part-fits _ _ _ (c .before .before .before .before .before .before .pre .1) (c .before .before .before .before .before .before .pre .2) (c .before .before .before .before .before .before .pre .3))

@@ -2,8 +2,6 @@ use Rattle.lex.proofs.States.{string-first, string-more}
 use borrow.Author.Needs.{needs}
 use Rattle.lex.proofs.Lexer.string.Statement.{statement}
 use Rattle.lex.proofs.Lexer.string.Tie as tie
-use Rattle.lex.proofs.Lexer.string.Reads as reads
-use Rattle.lex.proofs.Lexer.string.Lts as lts
 
 returns : tie.Need-returns
 returns c = string-first _ _ _ _ (c .if1 .taken)

@@ -3,11 +3,6 @@ use native.Mathlib.Omega.{arith}
 use borrow.Author.Needs.{needs}
 use Rattle.lex.proofs.Lexer.token.Statement.{statement}
 use Rattle.lex.proofs.Lexer.token.Tie as tie
-use Rattle.lex.proofs.Lexer.token.Reads as reads
-use Rattle.lex.proofs.Lexer.token.Lts as lts
-use Rattle.lex.proofs.Lexer.flush.Reads as flush-reads
-use Rattle.lex.proofs.PendingStr.none.Reads as none-reads
-use Rattle.table.proofs.put_row.Reads as put-row-reads
 
 put-row-requires : tie.Need-put-row-requires
 put-row-requires c κs = (omega (arith, c .before .before .before .before .before .before .flush .ensures .count), omega arith)
