@@ -1,6 +1,5 @@
 -- The entries leave no choice: two results that satisfy an entry's contract are equal.
 use Prim.Native.Nat.{ℕ}
-use mathlib.Core.Path.{_≡_}
 use mathlib.Core.Bool.{Bool}
 use mathlib.Core.List.{List}
 use Rattle.language.specs.Determined.{Determined, CallsDetermined}

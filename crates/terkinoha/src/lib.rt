@@ -1,7 +1,7 @@
 // The C face: what include/terkinoha.h declares and explains. Each entry is thin over the proved one, and promises the same
 // equations. Tables are lent as words; the header turns rows into words. Nothing here keeps anything between calls.
 ghost use mathlib.Core.Path.{_≡_};
-ghost use lib.ListN.{length, drop};
+ghost use lib.ListN.{length};
 ghost use Rattle.terkinoha.specs.Entry.{verdictOf, ScanLine, LexSource, ParseSource, CanonSource, CheckSource};
 ghost use Rattle.terkinoha.specs.Bodies.{none, FirstOf, NextBody, BodyAt};
 use lexemes::LexemeKind;

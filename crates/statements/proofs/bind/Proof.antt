@@ -1,15 +1,10 @@
-use mathlib.Core.Path.{refl, sym, ap, _∙_}
+use mathlib.Core.Path.{ap}
 use Rattle.judging.specs.declared.Counts.{Counts}
 use Rattle.statements.proofs.Lets.{binds-val, binds-none, binds-err}
 use native.Mathlib.Omega.{arith}
 use borrow.Author.Needs.{needs}
 use Rattle.statements.proofs.bind.Statement.{statement}
 use Rattle.statements.proofs.bind.Tie as tie
-use Rattle.statements.proofs.bind.Reads as reads
-use Rattle.statements.proofs.bind.Lts as lts
-use Rattle.statements.proofs.error.Reads as error-reads
-use Rattle.statements.proofs.named_one.Reads as named-one-reads
-use Rattle.statements.proofs.put_entry.Reads as put-entry-reads
 
 named-one-requires-2 : tie.Need-named-one-requires-2
 named-one-requires-2 c κs = omega (arith, c .before .before .before .before .before .before .before .before .before .before .before .before .pre .0 .0, ap (λ (l : Counts). l .used) (c .before .before .error .ensures .0))

@@ -1,4 +1,4 @@
-use mathlib.Core.Path.{refl, ap, _∙_}
+use mathlib.Core.Path.{refl, _∙_}
 use Rattle.judging.specs.Judging.{knownIn}
 use Rattle.judging.proofs.TokenRows.{some-row}
 use Rattle.judging.proofs.Judging.{row-in, first-at, at-row}
@@ -7,12 +7,6 @@ use native.Mathlib.Omega.{arith}
 use borrow.Author.Needs.{needs}
 use Rattle.statements.proofs.expr_stmt.Statement.{statement}
 use Rattle.statements.proofs.expr_stmt.Tie as tie
-use Rattle.statements.proofs.expr_stmt.Reads as reads
-use Rattle.statements.proofs.expr_stmt.Lts as lts
-use Rattle.statements.proofs.error.Reads as error-reads
-use Rattle.statements.proofs.tell.Reads as tell-reads
-use Rattle.judging.proofs.judge.Reads as judge-reads
-use Rattle.judging.proofs.word.Reads as word-reads
 
 word-requires : tie.Need-word-requires
 word-requires c κs = (c .before .before .before .before .before .pre .1 .1, omega arith)

@@ -1,4 +1,4 @@
-use mathlib.Core.Path.{refl, sym, ap, _∙_}
+use mathlib.Core.Path.{ap, _∙_}
 use Rattle.judging.specs.declared.Counts.{Counts}
 use Rattle.judging.specs.Judging.{faultRow}
 use Rattle.judging.proofs.TokenRows.{some-row}
@@ -10,19 +10,6 @@ use native.Mathlib.Omega.{arith}
 use borrow.Author.Needs.{needs}
 use Rattle.statements.proofs.import.Statement.{statement}
 use Rattle.statements.proofs.import.Tie as tie
-use Rattle.statements.proofs.import.Reads as reads
-use Rattle.statements.proofs.import.Lts as lts
-use Rattle.statements.proofs.error.Reads as error-reads
-use Rattle.statements.proofs.imported_one.Reads as imported-one-reads
-use Rattle.statements.proofs.key_at.Reads as key-at-reads
-use Rattle.statements.proofs.module_at.Reads as module-at-reads
-use Rattle.statements.proofs.name_span.Reads as name-span-reads
-use Rattle.statements.proofs.put_entry.Reads as put-entry-reads
-use Rattle.statements.proofs.warn.Reads as warn-reads
-use Rattle.judging.proofs.find.Reads as find-reads
-use Rattle.judging.proofs.name_at.Reads as name-at-reads
-use Rattle.judging.proofs.named.Reads as named-reads
-use Rattle.judging.proofs.token_at.Reads as token-at-reads
 
 token-at-requires : tie.Need-token-at-requires
 token-at-requires c κs = some-row (c .before .before .before .pre .0 .0)

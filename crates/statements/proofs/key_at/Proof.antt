@@ -3,10 +3,6 @@ use Rattle.judging.specs.Judging.{keyOf}
 use borrow.Author.Needs.{needs}
 use Rattle.statements.proofs.key_at.Statement.{statement}
 use Rattle.statements.proofs.key_at.Tie as tie
-use Rattle.statements.proofs.key_at.Reads as reads
-use Rattle.statements.proofs.key_at.Lts as lts
-use Rattle.judging.proofs.key_of.Reads as key-of-reads
-use Rattle.judging.proofs.name_at.Reads as name-at-reads
 
 returns : tie.Need-returns
 returns c = λ t e. c .key-of .ensures ∙ ap keyOf (c .before .name-at .ensures t e)

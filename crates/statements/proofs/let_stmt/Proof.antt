@@ -8,18 +8,6 @@ use Rattle.statements.proofs.LetStmts.{turn-again, turn-full, turn-boun
 use borrow.Author.Needs.{needs}
 use Rattle.statements.proofs.let_stmt.Statement.{statement}
 use Rattle.statements.proofs.let_stmt.Tie as tie
-use Rattle.statements.proofs.let_stmt.Reads as reads
-use Rattle.statements.proofs.let_stmt.Lts as lts
-use Rattle.statements.proofs.bind.Reads as bind-reads
-use Rattle.statements.proofs.error.Reads as error-reads
-use Rattle.statements.proofs.key_at.Reads as key-at-reads
-use Rattle.statements.proofs.name_span.Reads as name-span-reads
-use Rattle.judging.proofs.find.Reads as find-reads
-use Rattle.judging.proofs.judge.Reads as judge-reads
-use Rattle.judging.proofs.name_at.Reads as name-at-reads
-use Rattle.judging.proofs.named.Reads as named-reads
-use Rattle.judging.proofs.token_at.Reads as token-at-reads
-use Rattle.judging.proofs.word.Reads as word-reads
 
 token-at-requires : tie.Need-token-at-requires
 token-at-requires c κs = some-row (c .before .before .before .before .before .pre .0 .0 .lexed)

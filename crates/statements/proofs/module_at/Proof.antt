@@ -6,11 +6,6 @@ use Rattle.constants.specs.Constants.{orZero}
 use borrow.Author.Needs.{needs}
 use Rattle.statements.proofs.module_at.Statement.{statement}
 use Rattle.statements.proofs.module_at.Tie as tie
-use Rattle.statements.proofs.module_at.Reads as reads
-use Rattle.statements.proofs.module_at.Lts as lts
-use Rattle.constants.proofs.Constants.new.Reads as new-reads
-use Rattle.constants.proofs.lookup.Reads as lookup-reads
-use Rattle.judging.proofs.name_at.Reads as name-at-reads
 
 lookup-requires : tie.Need-lookup-requires
 lookup-requires c κs = c .before .before .before .before .before .new .ensures

@@ -2,8 +2,6 @@ use mathlib.Core.Path.{refl}
 use Rattle.judging.proofs.TokenRows.{is-named, not-named}
 use Rattle.statements.proofs.name_span.Statement.{statement}
 use Rattle.statements.proofs.name_span.Tie as tie
-use Rattle.statements.proofs.name_span.Reads as reads
-use Rattle.statements.proofs.name_span.Lts as lts
 
 returns : tie.Need-returns
 returns c = λ s t e. is-named s t e (c .if1 .taken) refl

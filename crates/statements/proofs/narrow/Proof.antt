@@ -2,9 +2,6 @@ use Rattle.statements.proofs.Statements.{narrow-same, narrow-u8, narrow
 use borrow.Author.Needs.{needs}
 use Rattle.statements.proofs.narrow.Statement.{statement}
 use Rattle.statements.proofs.narrow.Tie as tie
-use Rattle.statements.proofs.narrow.Reads as reads
-use Rattle.statements.proofs.narrow.Lts as lts
-use Rattle.wide.proofs.Wide.smallest.Reads as smallest-reads
 
 returns : tie.Need-returns
 returns c = record { is = λ u e. narrow-same u e (c .if1 .taken) }

@@ -1,4 +1,4 @@
-use mathlib.Core.Path.{refl, sym, ap, _∙_}
+use mathlib.Core.Path.{refl, sym, _∙_}
 use Rattle.table.proofs.Laws.{put-full}
 use Rattle.judging.proofs.Rows.{put-part}
 use Rattle.statements.specs.Checking.{heldRow}
@@ -7,11 +7,6 @@ use native.Mathlib.Omega.{arith}
 use borrow.Author.Needs.{needs}
 use Rattle.statements.proofs.put_stmt.Statement.{statement}
 use Rattle.statements.proofs.put_stmt.Tie as tie
-use Rattle.statements.proofs.put_stmt.Reads as reads
-use Rattle.statements.proofs.put_stmt.Lts as lts
-use Rattle.statements.proofs.shown.Reads as shown-reads
-use Rattle.judging.proofs.type_kind.Reads as type-kind-reads
-use Rattle.table.proofs.put_row.Reads as put-row-reads
 
 returns : tie.Need-returns
 returns c = record { is = λ u e. put-part (c .before .before .before .before .before .before .before .before .before .args .stmts .now) _ _ (c .before .before .before .before .before .before .before .before .before .args .row) 7 refl (omega (arith, c .before .before .before .before .before .if1 .taken)) (c .before .before .put-row .ensures) ∙ row-shown (c .before .before .before .before .before .before .before .before .before .args .stmts .now) (c .before .before .before .before .before .before .before .before .before .args .row) (c .before .before .before .before .before .before .before .before .before .args .tok) u (c .before .before .before .before .before .before .before .shown .ensures .is u e) (c .before .before .before .before .before .before .type-kind .ensures .is u e) }

@@ -2,9 +2,6 @@ use Rattle.statements.proofs.Statements.{shown-function, shown-table, s
 use borrow.Author.Needs.{needs}
 use Rattle.statements.proofs.shown.Statement.{statement}
 use Rattle.statements.proofs.shown.Tie as tie
-use Rattle.statements.proofs.shown.Reads as reads
-use Rattle.statements.proofs.shown.Lts as lts
-use Rattle.judging.proofs.type_text.Reads as type-text-reads
 
 returns : tie.Need-returns
 returns c = record { is = λ u e. shown-function u e (c .type-text .ensures .is u e) (c .before .match .keys1) }

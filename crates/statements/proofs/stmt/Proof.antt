@@ -4,12 +4,6 @@ use Rattle.statements.proofs.StmtRows.{import-room, stmt-fits, row-impo
 use borrow.Author.Needs.{needs}
 use Rattle.statements.proofs.stmt.Statement.{statement}
 use Rattle.statements.proofs.stmt.Tie as tie
-use Rattle.statements.proofs.stmt.Reads as reads
-use Rattle.statements.proofs.stmt.Lts as lts
-use Rattle.statements.proofs.expr_stmt.Reads as expr-stmt-reads
-use Rattle.statements.proofs.import.Reads as import-reads
-use Rattle.statements.proofs.let_stmt.Reads as let-stmt-reads
-use Rattle.judging.proofs.word.Reads as word-reads
 
 import-requires : tie.Need-import-requires
 import-requires c κs =

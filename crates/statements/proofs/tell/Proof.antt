@@ -5,16 +5,6 @@ use Rattle.statements.proofs.Statements.{tells-fits, tells-large}
 use borrow.Author.Needs.{needs}
 use Rattle.statements.proofs.tell.Statement.{statement}
 use Rattle.statements.proofs.tell.Tie as tie
-use Rattle.statements.proofs.tell.Reads as reads
-use Rattle.statements.proofs.tell.Lts as lts
-use Rattle.statements.proofs.bare.Reads as bare-reads
-use Rattle.statements.proofs.error.Reads as error-reads
-use Rattle.statements.proofs.held_one.Reads as held-one-reads
-use Rattle.statements.proofs.narrow.Reads as narrow-reads
-use Rattle.statements.proofs.put_stmt.Reads as put-stmt-reads
-use Rattle.statements.proofs.warn.Reads as warn-reads
-use Rattle.judging.proofs.token_at.Reads as token-at-reads
-use Rattle.judging.proofs.typed.Reads as typed-reads
 
 warn-requires : tie.Need-warn-requires
 warn-requires c κs = c .before .before .before .before .before .before .before .before .before .before .before .before .before .before .pre .1 .findings
