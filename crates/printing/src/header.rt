@@ -2,6 +2,7 @@
 ghost use Prim.Native.Nat.{_≤_};
 ghost use lib.ListN.{length};
 use crate::input::digit;
+use crate::words::find;
 
 pub enum Mode {
     // rows
@@ -34,21 +35,6 @@ pub struct Header {
 enum Number {
     Is(u64),
     Not,
-}
-
-// The place of the first byte `b` from `from` on, or the text's length.
-fn find(text: &[u8], from: usize, b: u8) -> usize
-    requires { ⌜ from ≤ length (now text) ⌝ }
-    ensures { λ r. ⌜ (from ≤ r) × (r ≤ length (now (text .entry))) ⌝ }
-{
-    let mut i = from;
-    while i < text.len() {
-        if text[i] == b {
-            return i;
-        }
-        i += 1;
-    }
-    i
 }
 
 fn same(text: &[u8], key: &[u8]) -> bool {

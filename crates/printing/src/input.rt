@@ -1,6 +1,7 @@
 // The sources of standard input, a line of hex each. They are decoded from one chunk after another, so a line may be
 // longer than a chunk.
 ghost use Prim.Native.Nat.{_≤_};
+ghost use lib.ListN.{length};
 
 // What is not yet read of a chunk.
 pub struct Unread {
@@ -12,6 +13,8 @@ pub struct Unread {
 pub enum Line {
     // how many bytes the source has, and what is read after it
     Source(usize, Unread),
+    // the mark of a further part, and what is read after it
+    Part(Unread),
     End,
     // not hex
     Bad,
@@ -21,6 +24,8 @@ pub enum Line {
 enum Stop {
     // a newline
     Line,
+    // the mark of a further part
+    Part,
     // the chunk's end
     Chunk,
     // a byte that is no digit, or a digit with none to pair it
@@ -65,7 +70,12 @@ fn decode(text: &[u8], from: usize, source: &mut [u8], size: usize, upper: u8) -
     while at < text.len() {
         let d = digit(text[at]);
         if 15 < d {
-            return stopped(text[at], at + 1, n, up);
+            return Decoded {
+                at: at + 1,
+                size: n,
+                upper: up,
+                stop: stop_at(text[at], n, up),
+            };
         }
         if up < 16 {
             n = keep(source, n, up * 16 + d);
@@ -84,22 +94,18 @@ fn decode(text: &[u8], from: usize, source: &mut [u8], size: usize, upper: u8) -
     }
 }
 
-// What a byte that is no digit comes to.
-fn stopped(b: u8, at: usize, size: usize, upper: u8) -> Decoded {
-    if b == b'\n' && upper == 16 {
-        return Decoded {
-            at: at,
-            size: size,
-            upper: upper,
-            stop: Stop::Line,
-        };
+// What a byte that is no digit comes to. The mark of a further part is one at the start of a line.
+fn stop_at(b: u8, size: usize, upper: u8) -> Stop {
+    if upper != 16 {
+        return Stop::Bad;
     }
-    Decoded {
-        at: at,
-        size: size,
-        upper: upper,
-        stop: Stop::Bad,
+    if b == b'\n' {
+        return Stop::Line;
     }
+    if b == b'+' && size == 0 {
+        return Stop::Part;
+    }
+    Stop::Bad
 }
 
 // The first bytes of a text.
@@ -114,6 +120,30 @@ pub fn first(text: &[u8], size: usize) -> &[u8] {
 fn refill(chunk: &mut [u8]) -> usize {
     let got = libc::read(libc::STDIN_FILENO, chunk);
     io::count(got, chunk)
+}
+
+// Moves what is not yet read to the chunk's start, and answers how many bytes that is.
+fn moved(chunk: &mut [u8], unread: Unread) -> usize
+    ensures { λ r. ⌜ r ≤ length (now (chunk .exit)) ⌝ }
+{
+    let mut from = unread.at;
+    let mut to = 0;
+    while from < chunk.len() {
+        if unread.end <= from {
+            return to;
+        }
+        chunk[to] = chunk[from];
+        from += 1;
+        to += 1;
+    }
+    to
+}
+
+// Reads until the chunk is full or the input ends, what is not yet read being the first of it. Answers how many bytes it
+// has.
+pub fn fill(chunk: &mut [u8], unread: Unread) -> usize {
+    let kept = moved(chunk, unread);
+    kept + io::read_full(libc::STDIN_FILENO, &mut chunk[kept..])
 }
 
 // What the end of the input comes to: a last line may lack its newline.
@@ -141,6 +171,9 @@ pub fn next(chunk: &mut [u8], unread: Unread, source: &mut [u8]) -> Line {
         match stop {
             Stop::Line => {
                 return Line::Source(d.size, Unread { at: d.at, end: end });
+            }
+            Stop::Part => {
+                return Line::Part(Unread { at: d.at, end: end });
             }
             Stop::Bad => {
                 return Line::Bad;

@@ -1,6 +1,7 @@
 // Text for standard output, gathered in a buffer. Each function takes the place in the buffer where text goes next, and
 // answers the place after it. A buffer that is full is written.
 ghost use Prim.Native.Nat.{_<_};
+use crate::words;
 use libc::STDOUT_FILENO;
 use wide::Wide;
 
@@ -40,13 +41,7 @@ pub fn bad_input(out: &mut [u8], at: usize) {
 }
 
 fn last_digits(out: &mut [u8], at: usize, digits: &[u8; 39], start: usize) -> usize {
-    let mut p = at;
-    let mut i = start;
-    while i < 39 {
-        p = byte(out, p, digits[i]);
-        i += 1;
-    }
-    p
+    text(out, at, words::part(digits, start, 39))
 }
 
 // A number in decimal.
@@ -108,18 +103,9 @@ pub fn pair(out: &mut [u8], at: usize, a: u64, b: u64) -> usize {
     byte(out, q, b' ')
 }
 
-// The word that starts at place `from` of a list of words with blanks between.
-pub fn word(out: &mut [u8], at: usize, words: &[u8], from: usize) -> usize {
-    let mut p = at;
-    let mut i = from;
-    while i < words.len() {
-        if words[i] == b' ' {
-            return p;
-        }
-        p = byte(out, p, words[i]);
-        i += 1;
-    }
-    p
+// Word `n`, from 0 on, of a list of words with a blank between: nothing where there is none.
+pub fn word(out: &mut [u8], at: usize, list: &[u8], n: u64) -> usize {
+    text(out, at, words::word(list, n))
 }
 
 // `refused`, a number and a place.

@@ -2,6 +2,7 @@
 ghost use Prim.Native.Nat.{_+_, _≤_};
 ghost use lib.ListN.{length};
 use crate::output;
+use crate::words::part;
 use lexemes::LexErrorKind;
 use rows::TokKind;
 use rows::TokenRow;
@@ -62,32 +63,19 @@ pub fn row_at(tokens: &[u64], i: usize) -> Placed {
     no_row()
 }
 
-// The bytes of a span.
-fn span(source: &[u8], start: usize, end: usize) -> &[u8] {
-    if start <= end && end <= source.len() {
-        return &source[start..end];
-    }
-    &source[0..0]
-}
-
-// The names of the kinds of token, 15 bytes for each number from 0 on.
+// The name of a kind of token.
 fn name(out: &mut [u8], at: usize, kind: u64) -> usize {
-    let names =
-        b"-              Eof            LParen         RParen         Dot            DoubleColon    Colon          SemiColon      Equals         Comma          Slash          ImportKeyword  LetKeyword     Identifier     BooleanLiteral IPv4Literal    StringLiteral  HexLiteral     DecLiteral     ";
-    if kind <= TokKind::DEC_LITERAL {
-        return output::word(out, at, names, kind as usize * 15);
-    }
-    at
+    let names = b"\
+        - Eof LParen RParen Dot DoubleColon Colon SemiColon Equals Comma Slash ImportKeyword LetKeyword Identifier \
+        BooleanLiteral IPv4Literal StringLiteral HexLiteral DecLiteral";
+    output::word(out, at, names, kind)
 }
 
-// The names of the kinds of error, 19 bytes for each number from 0 on.
+// The name of a kind of error.
 fn error_name(out: &mut [u8], at: usize, kind: u64) -> usize {
-    let names =
-        b"-                  UnexpectedChar     UnterminatedString IntOutOfRange      IntLeadingZero     IntInvalidSuffix   IPv4Literal        ";
-    if kind <= LexErrorKind::IPV4_LITERAL {
-        return output::word(out, at, names, kind as usize * 19);
-    }
-    at
+    let names = b"\
+        - UnexpectedChar UnterminatedString IntOutOfRange IntLeadingZero IntInvalidSuffix IPv4Literal";
+    output::word(out, at, names, kind)
 }
 
 pub fn boolean(out: &mut [u8], at: usize, n: u64) -> usize {
@@ -102,7 +90,7 @@ pub fn show_value(source: &[u8], token: Token, out: &mut [u8], at: usize) -> usi
     let value = token.value;
     let kind = token.kind;
     match kind {
-        TokKind::IDENTIFIER => output::text(out, at, span(source, token.start, token.end)),
+        TokKind::IDENTIFIER => output::text(out, at, part(source, token.start, token.end)),
         TokKind::BOOLEAN_LITERAL => boolean(out, at, value.lo),
         TokKind::IPV4_LITERAL => output::quad(out, at, value.lo),
         TokKind::HEX_LITERAL | TokKind::DEC_LITERAL => output::wide(out, at, value),

@@ -1,9 +1,10 @@
-// The tables that are lent, all on the stack. The first line of the input says how much of each; a mode looks at none but
-// its own.
+// The tables that are lent, all on the stack. The first line of a part says how much of each; a mode looks at none but its
+// own.
 ghost use Prim.Native.Nat.{_≤_};
 use crate::sources;
 use lexemes::Lexeme;
 use printing::header::Mode;
+use printing::input::Line;
 use printing::input::Unread;
 use rows::NodeRow;
 use rows::TokenRow;
@@ -71,7 +72,14 @@ fn stmt_words(rows: u64) -> usize
 }
 
 // Runs a mode, given the numbers of the first line. The second is for the nodes or, in the mode `canon`, for the text.
-pub fn run(mode: Mode, numbers: [u64; 4], chunk: &mut [u8], unread: Unread, out: &mut [u8]) {
+// Answers what ended the sources.
+pub fn run(
+    mode: Mode,
+    numbers: [u64; 4],
+    chunk: &mut [u8],
+    unread: Unread,
+    out: &mut [u8],
+) -> Line {
     let token_end = token_words(mode, numbers[0]);
     let node_end = node_words(numbers[1]);
     let text_end = at_most(numbers[1], Lent::BYTES);
@@ -94,5 +102,5 @@ pub fn run(mode: Mode, numbers: [u64; 4], chunk: &mut [u8], unread: Unread, out:
         &mut stmts[0..stmt_end],
         &mut text[0..text_end],
         out,
-    );
+    )
 }

@@ -1,13 +1,16 @@
 // Runs a proved library on the sources of standard input and prints its answers in the oracle's format.
 //
-// The first line says what to run and the room of each lent table: `scan ROWS`, `lex ROWS`, `canon TOKENS BYTES`, `parse
-// TOKENS NODES` or `check TOKENS NODES DIAGNOSTICS STATEMENTS`. Each line after it is a source in hex. An answer ends with a
-// line `--`. Where the input is none of this, one line says `bad input` and nothing follows.
+// The input has parts. The first line of a part says what to run and the room of each lent table: `scan ROWS`, `lex ROWS`,
+// `canon TOKENS BYTES`, `parse TOKENS NODES` or `check TOKENS NODES DIAGNOSTICS STATEMENTS`. Each line after it is a source in
+// hex, up to one that starts with `+`: what stands after that is the first line of a further part. An answer ends with a line
+// `--`. Where the input is none of this, one line says `bad input` and nothing follows.
 mod lent;
 mod sources;
 
 use printing::header;
 use printing::header::Mode;
+use printing::input;
+use printing::input::Line;
 use printing::input::Unread;
 use printing::output;
 
@@ -17,20 +20,42 @@ pub fn run() {
     run_in(&mut chunk, &mut out);
 }
 
-fn run_in(chunk: &mut [u8], out: &mut [u8]) {
-    // the first line is looked for in what is read first, so that is read whole
-    let end = io::read_full(0, chunk);
-    let head = header::read(&chunk[..end]);
-    let unread = Unread {
-        at: head.next,
-        end: end,
-    };
+// Runs one part. Answers what ended it.
+fn part(chunk: &mut [u8], unread: Unread, out: &mut [u8]) -> Line {
+    // the first line is looked for in one chunk, so that is read whole
+    let end = input::fill(chunk, unread);
+    let head = header::read(input::first(chunk, end));
     let mode = head.mode;
     if let Mode::Unknown = mode {
-        output::bad_input(out, 0);
-        return;
+        return Line::Bad;
     }
     let rooms = head.rooms;
     let numbers = rooms.numbers;
-    lent::run(mode, numbers, chunk, unread, out);
+    let sources = Unread {
+        at: head.next,
+        end: end,
+    };
+    lent::run(mode, numbers, chunk, sources, out)
+}
+
+// What is written where no part follows: nothing, if that is the end of the input.
+fn last(line: Line, out: &mut [u8]) {
+    if let Line::Bad = line {
+        output::bad_input(out, 0);
+    }
+}
+
+fn run_in(chunk: &mut [u8], out: &mut [u8]) {
+    let mut unread = Unread { at: 0, end: 0 };
+    // nothing says that the input ends, so the parts are counted
+    let mut parts: u64 = 1000000000000;
+    while 0 < parts {
+        let line = part(chunk, unread, out);
+        let Line::Part(rest) = line else {
+            last(line, out);
+            return;
+        };
+        unread = rest;
+        parts -= 1;
+    }
 }

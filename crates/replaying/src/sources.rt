@@ -48,16 +48,7 @@ fn closed(
     output::close(out, p)
 }
 
-// What is written after the last source: where that is not the end of the input, that the rest is bad.
-fn last(line: Line, out: &mut [u8], at: usize) {
-    if let Line::Bad = line {
-        output::bad_input(out, at);
-        return;
-    }
-    output::flush(out, at);
-}
-
-// The answers for the sources that are not yet read, one after the other.
+// The answers for the sources that are not yet read, one after the other. Answers what ended them.
 pub fn answers(
     mode: Mode,
     chunk: &mut [u8],
@@ -69,7 +60,7 @@ pub fn answers(
     stmts: &mut [u64],
     text: &mut [u8],
     out: &mut [u8],
-) {
+) -> Line {
     let mut unread = start;
     let mut at = 0;
     // nothing says that the input ends, so the sources are counted
@@ -77,8 +68,8 @@ pub fn answers(
     while 0 < sources {
         let line = input::next(chunk, unread, source);
         let Line::Source(size, rest) = line else {
-            last(line, out, at);
-            return;
+            output::flush(out, at);
+            return line;
         };
         at = closed(
             mode,
@@ -95,4 +86,5 @@ pub fn answers(
         unread = rest;
         sources -= 1;
     }
+    Line::Bad
 }

@@ -1,6 +1,4 @@
 // The check program: checks the source on standard input and prints what was found, or one line for a refusal.
-use checker::CheckAnswer;
-use constants::Constants;
 use libc::STDIN_FILENO;
 use printing::output;
 use rows::NodeRow;
@@ -22,38 +20,17 @@ impl Program {
     const STATEMENTS: usize = 512;
 }
 
-fn check(
-    source: &[u8],
-    tokens: &mut [u64],
-    nodes: &mut [u64],
-    diags: &mut [u64],
-    stmts: &mut [u64],
-) -> CheckAnswer {
-    checker::check_source(source, tokens, nodes, diags, stmts)
-}
-
 // Checks a source and puts the answer at the start of `out`.
-fn answer<'a>(
-    source: &'a [u8],
-    text: &'a [u8],
+fn answer(
+    source: &[u8],
     tokens: &mut [u64],
     nodes: &mut [u64],
     diags: &mut [u64],
     stmts: &mut [u64],
     out: &mut [u8],
 ) -> usize {
-    let checked = check(source, tokens, nodes, diags, stmts);
-    let verdict = checked.verdict;
-    showing_check::report(
-        source,
-        text,
-        verdict,
-        diags,
-        checked.errors,
-        checked.warnings,
-        out,
-        0,
-    )
+    let checked = checker::check_source(source, tokens, nodes, diags, stmts);
+    showing_check::report(source, diags, checked, out, 0)
 }
 
 // Reads standard input into `source`, as much as fits, and writes the answer.
@@ -62,12 +39,9 @@ fn run(source: &mut [u8], out: &mut [u8]) {
     let mut nodes = [0u64; Program::NODES * NodeRow::WORDS];
     let mut diags = [0u64; Program::DIAGNOSTICS * Diagnostic::ROW_WORDS];
     let mut stmts = [0u64; Program::STATEMENTS * Statement::ROW_WORDS];
-    let table = Constants::new();
-    let text = table.text;
     let end = io::read_full(STDIN_FILENO, source);
     let at = answer(
         &source[..end],
-        &text,
         &mut tokens,
         &mut nodes,
         &mut diags,

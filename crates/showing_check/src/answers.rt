@@ -2,7 +2,6 @@
 use crate::diagnostic;
 use crate::statement;
 use checker::CheckAnswer;
-use constants::Constants;
 use printing::output;
 use printing::verdict;
 use scan::Verdict;
@@ -16,17 +15,15 @@ fn sum(a: u64, b: u64) -> u64 {
 }
 
 // The diagnostics that the table holds, and the counts of all there were.
-pub fn findings<'a>(
-    source: &'a [u8],
-    text: &'a [u8],
+fn findings(
+    source: &[u8],
     diags: &[u64],
     errors: u64,
     warnings: u64,
     out: &mut [u8],
     at: usize,
 ) -> usize {
-    let count = sum(errors, warnings);
-    let p = diagnostic::diagnostics(source, text, diags, count, out, at);
+    let p = diagnostic::diagnostics(source, diags, sum(errors, warnings), out, at);
     diagnostic::counts(errors, warnings, out, p)
 }
 
@@ -36,26 +33,23 @@ fn refused(verdict: Verdict, out: &mut [u8], at: usize) -> usize {
 }
 
 // What the check program prints: the findings, or one line with the number and the place of a refusal.
-pub fn report<'a>(
-    source: &'a [u8],
-    text: &'a [u8],
-    verdict: Verdict,
+pub fn report(
+    source: &[u8],
     diags: &[u64],
-    errors: u64,
-    warnings: u64,
+    checked: CheckAnswer,
     out: &mut [u8],
     at: usize,
 ) -> usize {
+    let verdict = checked.verdict;
     if verdict.number != Verdict::DONE {
         return refused(verdict, out, at);
     }
-    findings(source, text, diags, errors, warnings, out, at)
+    findings(source, diags, checked.errors, checked.warnings, out, at)
 }
 
 // The findings, and the statements after them.
-fn judged<'a>(
-    source: &'a [u8],
-    text: &'a [u8],
+fn judged(
+    source: &[u8],
     tokens: &[u64],
     diags: &[u64],
     stmts: &[u64],
@@ -63,16 +57,12 @@ fn judged<'a>(
     out: &mut [u8],
     at: usize,
 ) -> usize {
-    let p = findings(
-        source,
-        text,
-        diags,
-        checked.errors,
-        checked.warnings,
-        out,
-        at,
-    );
-    statement::statements(source, text, tokens, stmts, checked.statements, out, p)
+    let v = checked.verdict;
+    if v.number != Verdict::DONE {
+        return verdict::refused(v, out, at);
+    }
+    let p = findings(source, diags, checked.errors, checked.warnings, out, at);
+    statement::statements(source, tokens, stmts, checked.statements, out, p)
 }
 
 // The mode `check`.
@@ -86,11 +76,5 @@ pub fn answer(
     at: usize,
 ) -> usize {
     let checked = checker::check_source(source, tokens, nodes, diags, stmts);
-    let v = checked.verdict;
-    if v.number != Verdict::DONE {
-        return verdict::refused(v, out, at);
-    }
-    let table = Constants::new();
-    let text = table.text;
-    judged(source, &text, tokens, diags, stmts, checked, out, at)
+    judged(source, tokens, diags, stmts, checked, out, at)
 }

@@ -3,6 +3,7 @@
 mod answers;
 mod diagnostic;
 mod statement;
+mod texts;
 mod types;
 
 pub use answers::answer;

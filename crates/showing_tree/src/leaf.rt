@@ -23,15 +23,12 @@ fn open(tokens: &[u64], n: Node, out: &mut [u8], at: usize) -> usize {
     }
 }
 
-// The words, 7 bytes for each number from 0 on: up to 13 for a node's kind, then for a token's.
+// The words, up to 13 for a node's kind, then for a token's.
 fn opened(out: &mut [u8], at: usize, bracket: &[u8], kind: u64) -> usize {
-    let words =
-        b"-      -      -      sock4  local  path   member slash  call   arg    named  import let    expr   bool   ip4    str    int    int    ";
+    let words = b"\
+        - - - sock4 local path member slash call arg named import let expr bool ip4 str int int";
     let p = output::text(out, at, bracket);
-    if kind <= TokKind::DEC_LITERAL {
-        return output::word(out, p, words, kind as usize * 7);
-    }
-    p
+    output::word(out, p, words, kind)
 }
 
 fn place(t: Placed, out: &mut [u8], at: usize) -> usize {

@@ -70,9 +70,6 @@ judge-word-requires-3 t c κs = (law.row-in (c .before .before .before .before .
 judge-member-requires : (t : ℕ) → judge-lts.Need-member-requires (judge-cs t) (judge-at t) judge.Post
 judge-member-requires t c κs = some-row (c .before .before .before .before .before .before .before .before .before .before .before .before .before .before .pre .1 .0 .lexed)
 
-judge-same-length : (t : ℕ) → judge-lts.Need-same-length (judge-cs t) (judge-at t) judge.Post
-judge-same-length t c = search needs
-
 judge-returns-3 : (t : ℕ) → judge-lts.Need-returns-3 (judge-cs t) (judge-at t) judge.Post
 judge-returns-3 t c = λ n k e kn rep. let p = law.member-at rep (sym (c .before .before .before .before .before .before .before .before .before .before .word .ensures) ∙ c .before .before .if3 .taken) in law.of-member (c .before .before .before .before .before .before .before .before .before .before .before .before .before .before .before .args .source .now) n k p (c .before .word3 .ensures) (c .member .ensures _ (c .before .before .before .before .before .before .before .before .before .before .before .before .before .before .before .pre .1 .0 .lexed)) (c .before .before .before .before .before .judge .ensures n k (p .inner) kn (law.at-row (c .before .before .before .before .before .before .before .word2 .ensures) (p .rep)))
 
@@ -82,16 +79,10 @@ judge-slash-requires t c κs = let p = law.slash-at (c .before .before .before .
     let a = c .before .before .before .before .judge .ensures 0 k (p .left) (record { is = refl }) (law.at-row (c .before .before .before .before .before .before .word2 .ensures) (p .left-rep)) in
     (omega (arith, c .before .before .before .before .before .before .before .before .before .before .before .before .before .before .pre .0), (law.ready-on a (c .before .before .before .before .before .before .before .before .before .before .before .before .before .before .pre .1 .0), law.fits-slash (c .before .before .before .before .before .before .before .before .before .before .before .before .before .before .args .source .now) 0 k (c .before .before .before .before .before .before .before .before .before .before .before .before .before .before .args .counts) (c .before .before .before .before .before .before .before .before .before .before .before .before .before .before .pre .1 .1) p a))
 
-judge-same-length-2 : (t : ℕ) → judge-lts.Need-same-length-2 (judge-cs t) (judge-at t) judge.Post
-judge-same-length-2 t c = search needs
-
 judge-returns-4 : (t : ℕ) → judge-lts.Need-returns-4 (judge-cs t) (judge-at t) judge.Post
 judge-returns-4 t c = λ n k e kn rep. let p = law.slash-at rep (omega (arith, (c .before .before .before .before .before .before .before .before .before .before .before .before .word .ensures), c .before .before .before .before .before .before .before .before .before .before .before .if1 .left)) (λ q. c .before .before .before .before .before .before .before .before .before .before .if2 .left ((c .before .before .before .before .before .before .before .before .before .before .before .before .word .ensures) ∙ q)) (λ q. c .before .before .before .before .if3 .left ((c .before .before .before .before .before .before .before .before .before .before .before .before .word .ensures) ∙ q)) in
     let a = c .before .before .before .before .before .before .before .judge .ensures n k (p .left) kn (law.at-row (c .before .before .before .before .before .before .before .before .before .word2 .ensures) (p .left-rep)) in
     law.of-slash (c .before .before .before .before .before .before .before .before .before .before .before .before .before .before .before .before .before .args .source .now) n k p (c .before .before .slash .ensures n k (p .left) (p .right) _ _ (law.knows-on a kn) (law.same-tree {d = slash′ (p .left) (p .right)} (p .is) rep) a)
-
-slash-enum-known-out : (t : ℕ) → slash-lts.Need-enum-known-out (slash-cs t) (slash-at t) slash.Post
-slash-enum-known-out t c = search needs
 
 slash-word-requires : (t : ℕ) → slash-lts.Need-word-requires (slash-cs t) (slash-at t) slash.Post
 slash-word-requires t c κs = (law.row-in (c .before .before .before .before .before .before .before .before .before .before .pre .1 .1 .rep), omega arith)
@@ -115,15 +106,6 @@ slash-integral-requires : (t : ℕ) → slash-lts.Need-integral-requires (slash-
 slash-integral-requires t c κs = let k = knownIn (c .before .before .before .before .before .before .before .before .before .before .before .before .before .before .before .before .before .args .source .now) (c .before .before .before .before .before .before .before .before .before .before .before .before .before .before .before .before .before .args .bindings .now) (c .before .before .before .before .before .before .before .before .before .before .before .before .before .before .before .before .before .args .imports .now) (c .before .before .before .before .before .before .before .before .before .before .before .before .before .before .before .before .before .args .left .counts) in
     (some-row (c .before .before .before .before .before .before .before .before .before .before .before .before .before .before .before .before .before .pre .1 .0 .lexed), law.fits-more (c .before .before .before .before .before .before .before .before .before .before .before .before .before .before .before .before .before .args .source .now) 0 k (c .before .before .before .before .before .before .before .before .before .before .before .before .before .before .before .before .before .args .left .counts) (c .before .before .before .before .before .before .before .before .before .before .before .before .before .before .before .before .before .pre .1 .1) (c .before .before .before .before .judge .ensures 0 k (c .before .before .before .before .before .before .before .before .before .before .before .before .before .before .before .before .before .pre .1 .1 .right) (record { is = refl }) (law.at-row (c .before .before .before .before .before .before .word2 .ensures) (law.slash-parts (c .before .before .before .before .before .before .before .before .before .before .before .before .before .before .before .before .before .pre .1 .1 .rep) .2))))
 
-slash-enum-told : (t : ℕ) → slash-lts.Need-enum-told (slash-cs t) (slash-at t) slash.Post
-slash-enum-told t c = search needs
-
-slash-enum-told-2 : (t : ℕ) → slash-lts.Need-enum-told-2 (slash-cs t) (slash-at t) slash.Post
-slash-enum-told-2 t c = search needs
-
-slash-same-length : (t : ℕ) → slash-lts.Need-same-length (slash-cs t) (slash-at t) slash.Post
-slash-same-length t c = search needs
-
 slash-returns-2 : (t : ℕ) → slash-lts.Need-returns-2 (slash-cs t) (slash-at t) slash.Post
 slash-returns-2 t c = λ n k a b x d kn rep h. let q = law.at-row (c .before .before .before .before .before .before .before .before .before .word2 .ensures) (law.slash-parts rep .2) in
     law.slash-good (c .before .before .before .before .before .before .before .before .before .before .before .before .before .before .before .before .before .before .before .before .args .source .now) n k a b h (c .before .before .before .before .before .before .before .before .before .before .before .before .before .before .out .given .1) (c .before .before .before .before .before .before .before .before .before .before .if1 .left) (c .before .before .before .word3 .ensures ∙ law.first-at q) (c .before .before .before .before .before .before .before .judge .ensures n k b kn q) (c .before .before .integral .ensures _ (c .before .before .before .before .before .before .before .before .before .before .before .before .before .before .before .before .before .before .before .before .pre .1 .0 .lexed))
@@ -135,4 +117,13 @@ slash-returns-4 : (t : ℕ) → slash-lts.Need-returns-4 (slash-cs t) (slash-at 
 slash-returns-4 t c = λ n k a b x d kn rep h. law.slash-none (c .before .before .before .before .before .before .args .source .now) n k a b h (c .enum-told2 .given .1)
 
 pub +judge+slash-spec : {M : Type 1} → statement M
-+judge+slash-spec = close μ-judge μ-slash (λ t. judge-lts.spec (judge-cs t) (judge-at t) judge.Post (judge-word-requires t) (judge-leaf-requires t) (judge-returns t) (judge-returns-2 t) (judge-word-requires-2 t) (judge-judge-requires t) (judge-word-requires-3 t) (judge-member-requires t) (judge-same-length t) (judge-returns-3 t) (judge-slash-requires t) (judge-same-length-2 t) (judge-returns-4 t)) λ t. slash-lts.spec (slash-cs t) (slash-at t) slash.Post (slash-enum-known-out t) (slash-word-requires t) (slash-operand-requires t) (slash-returns t) (slash-word-requires-2 t) (slash-judge-requires t) (slash-word-requires-3 t) (slash-integral-requires t) (slash-enum-told t) (slash-enum-told-2 t) (slash-same-length t) (slash-returns-2 t) (slash-returns-3 t) (slash-returns-4 t)
++judge+slash-spec =
+    close μ-judge μ-slash
+    (λ t. judge-lts.spec (judge-cs t) (judge-at t) judge.Post (judge-word-requires t) (judge-leaf-requires t)
+    (judge-returns t) (judge-returns-2 t) (judge-word-requires-2 t) (judge-judge-requires t) (judge-word-requires-3 t)
+    (judge-member-requires t) (λ c. search needs) (judge-returns-3 t) (judge-slash-requires t) (λ c. search needs)
+    (judge-returns-4 t))
+    λ t. slash-lts.spec (slash-cs t) (slash-at t) slash.Post (λ c. search needs) (slash-word-requires t)
+    (slash-operand-requires t) (slash-returns t) (slash-word-requires-2 t) (slash-judge-requires t)
+    (slash-word-requires-3 t) (slash-integral-requires t) (λ c. search needs) (λ c. search needs) (λ c. search needs)
+    (slash-returns-2 t) (slash-returns-3 t) (slash-returns-4 t)

@@ -122,9 +122,6 @@ arg-arg-head-requires t c κs = omega arith
 arg-expr-requires : (t : ℕ) → arg-lts.Need-expr-requires (arg-cs t) (arg-at t) arg.Post
 arg-expr-requires t c κs = omega arith
 
-arg-enum-known-next : (t : ℕ) → arg-lts.Need-enum-known-next (arg-cs t) (arg-at t) arg.Post
-arg-enum-known-next t c = search needs
-
 arg-sub-push : (t : ℕ) → arg-lts.Need-sub-push (arg-cs t) (arg-at t) arg.Post
 arg-sub-push t c = omega (arith, ahead (c .before .before .next .given .1) (c .before .before .before .before .before .before .expr .ensures .0))
 
@@ -133,9 +130,6 @@ arg-push-requires t c κs = omega (arith, ahead (c .before .before .next .given 
 
 arg-add-t20 : (t : ℕ) → arg-lts.Need-add-t20 (arg-cs t) (arg-at t) arg.Post
 arg-add-t20 t c = omega (arith, ahead (c .before .before .before .before .before .next .given .1) (c .before .before .before .before .before .before .before .before .before .expr .ensures .0))
-
-arg-enum-known-number : (t : ℕ) → arg-lts.Need-enum-known-number (arg-cs t) (arg-at t) arg.Post
-arg-enum-known-number t c = search needs
 
 arg-same-length : (t : ℕ) → arg-lts.Need-same-length (arg-cs t) (arg-at t) arg.Post
 arg-same-length t c = omega (arith, c .before .before .push .kept .0, c .before .before .before .before .before .before .before .before .before .expr .kept .1 .0)
@@ -152,9 +146,6 @@ arg-returns t c =
           met-arg (arg-go rep _ g _ _ (hd .0 .1) (d .0) _ _ (d .1)) (arg-pushed (isNamed (a .toks .now) (a .at)) (a .at) s (d .2) (hd .0 .1) (hd .0 .0) (c .before .before .push .ensures)),
     )
 
-arg-same-length-2 : (t : ℕ) → arg-lts.Need-same-length-2 (arg-cs t) (arg-at t) arg.Post
-arg-same-length-2 t c = search needs
-
 arg-returns-2 : (t : ℕ) → arg-lts.Need-returns-2 (arg-cs t) (arg-at t) arg.Post
 arg-returns-2 t c =
     let e = c .before .number .given .1 in
@@ -164,17 +155,8 @@ arg-returns-2 t c =
 chain-primary-requires : (t : ℕ) → chain-lts.Need-primary-requires (chain-cs t) (chain-at t) chain.Post
 chain-primary-requires t c κs = omega arith
 
-chain-enum-known-next : (t : ℕ) → chain-lts.Need-enum-known-next (chain-cs t) (chain-at t) chain.Post
-chain-enum-known-next t c = search needs
-
 chain-links-requires : (t : ℕ) → chain-lts.Need-links-requires (chain-cs t) (chain-at t) chain.Post
 chain-links-requires t c κs = omega (arith, ahead (c .before .before .next .given .1) (c .before .before .before .before .before .before .primary .ensures .0))
-
-chain-enum-known-number : (t : ℕ) → chain-lts.Need-enum-known-number (chain-cs t) (chain-at t) chain.Post
-chain-enum-known-number t c = search needs
-
-chain-same-length : (t : ℕ) → chain-lts.Need-same-length (chain-cs t) (chain-at t) chain.Post
-chain-same-length t c = search needs
 
 chain-returns : (t : ℕ) → chain-lts.Need-returns (chain-cs t) (chain-at t) chain.Post
 chain-returns t c =
@@ -185,9 +167,6 @@ chain-returns t c =
       λ ts ns rep l h. let d = done e (o .1 ts ns rep l h) in met-by (chain-go ts _ _ _ _ _ (d .0) (d .1)) (c .before .before .links .ensures .1 ts ns (d .0) rep (d .2)),
     )
 
-chain-same-length-2 : (t : ℕ) → chain-lts.Need-same-length-2 (chain-cs t) (chain-at t) chain.Post
-chain-same-length-2 t c = search needs
-
 chain-returns-2 : (t : ℕ) → chain-lts.Need-returns-2 (chain-cs t) (chain-at t) chain.Post
 chain-returns-2 t c =
     let e = c .before .number .given .1 in
@@ -196,17 +175,8 @@ chain-returns-2 t c =
 expr-chain-requires : (t : ℕ) → expr-lts.Need-chain-requires (expr-cs t) (expr-at t) expr.Post
 expr-chain-requires t c κs = omega arith
 
-expr-enum-known-next : (t : ℕ) → expr-lts.Need-enum-known-next (expr-cs t) (expr-at t) expr.Post
-expr-enum-known-next t c = search needs
-
 expr-slashes-requires : (t : ℕ) → expr-lts.Need-slashes-requires (expr-cs t) (expr-at t) expr.Post
 expr-slashes-requires t c κs = omega (arith, ahead (c .before .before .next .given .1) (c .before .before .before .before .before .before .chain .ensures .0))
-
-expr-enum-known-number : (t : ℕ) → expr-lts.Need-enum-known-number (expr-cs t) (expr-at t) expr.Post
-expr-enum-known-number t c = search needs
-
-expr-same-length : (t : ℕ) → expr-lts.Need-same-length (expr-cs t) (expr-at t) expr.Post
-expr-same-length t c = search needs
 
 expr-returns : (t : ℕ) → expr-lts.Need-returns (expr-cs t) (expr-at t) expr.Post
 expr-returns t c =
@@ -216,9 +186,6 @@ expr-returns t c =
       ahead-more (f .0) (omega arith) (f .3) (f .4) (c .before .before .slashes .ensures .0),
       λ ts ns rep l h. let d = done e (o .1 ts ns rep l h) in met-by (expr-go ts _ _ _ _ (d .0) (d .1)) (c .before .before .slashes .ensures .1 ts ns (d .0) rep (d .2) 65 (omega arith)),
     )
-
-expr-same-length-2 : (t : ℕ) → expr-lts.Need-same-length-2 (expr-cs t) (expr-at t) expr.Post
-expr-same-length-2 t c = search needs
 
 expr-returns-2 : (t : ℕ) → expr-lts.Need-returns-2 (expr-cs t) (expr-at t) expr.Post
 expr-returns-2 t c =
@@ -240,9 +207,6 @@ links-loop-holds t c = (omega arith, omega arith, omega arith, omega arith, omeg
 links-kind-at-requires : (t : ℕ) → links-lts.Need-kind-at-requires (links-cs t) (links-at t) links.Post links-Inv-loop links-μ-loop
 links-kind-at-requires t c κs = omega arith
 
-links-too-deep-requires : (t : ℕ) → links-lts.Need-too-deep-requires (links-cs t) (links-at t) links.Post links-Inv-loop links-μ-loop
-links-too-deep-requires t c κs = search needs
-
 links-same-length : (t : ℕ) → links-lts.Need-same-length (links-cs t) (links-at t) links.Post links-Inv-loop links-μ-loop
 links-same-length t c = c .before .before .before .before .loop .inv .5
 
@@ -255,9 +219,6 @@ links-returns t c = (
 
 links-list-requires : (t : ℕ) → links-lts.Need-list-requires (links-cs t) (links-at t) links.Post links-Inv-loop links-μ-loop
 links-list-requires t c κs = omega (arith, seen (c .before .before .before .kind-at .ensures) (c .before .before .if1 .taken))
-
-links-enum-known-next : (t : ℕ) → links-lts.Need-enum-known-next (links-cs t) (links-at t) links.Post links-Inv-loop links-μ-loop
-links-enum-known-next t c = search needs
 
 links-sub-push : (t : ℕ) → links-lts.Need-sub-push (links-cs t) (links-at t) links.Post links-Inv-loop links-μ-loop
 links-sub-push t c = omega arith
@@ -291,9 +252,6 @@ links-loop-again t c =
           (grammar.call (g .0) (v .at) (d .0), call-pushed (g .1) (d .3) (c .before .before .push .ensures), g .2 ∙ links-call rep _ (g .0) _ _ (d .1) _ (d .0) (c .before .before .before .before .before .before .before .before .before .before .before .if2 .left) (seen (c .before .before .before .before .before .before .before .before .before .before .before .before .before .kind-at .ensures) (c .before .before .before .before .before .before .before .before .before .before .before .before .if1 .taken)) (d .2)),
     )
 
-links-enum-known-number : (t : ℕ) → links-lts.Need-enum-known-number (links-cs t) (links-at t) links.Post links-Inv-loop links-μ-loop
-links-enum-known-number t c = search needs
-
 links-same-length-2 : (t : ℕ) → links-lts.Need-same-length-2 (links-cs t) (links-at t) links.Post links-Inv-loop links-μ-loop
 links-same-length-2 t c = omega (arith, c .before .before .before .before .before .list .kept .1 .0, c .before .before .before .before .before .before .before .before .before .before .loop .inv .5)
 
@@ -304,9 +262,6 @@ links-returns-2 t c =
       λ ts ns e₀ rep s. let g = c .before .before .before .before .before .before .before .before .before .before .loop .inv .6 ts ns e₀ rep s in
           met-no refl (g .2 ∙ links-no rep _ (g .0) _ _ _ _ _ (c .before .before .before .before .before .before .before .if2 .left) (seen (c .before .before .before .before .before .before .before .before .before .kind-at .ensures) (c .before .before .before .before .before .before .before .before .if1 .taken)) (list-refused e (c .before .before .before .before .before .list .ensures .1 ts (withExpr ns (g .0)) rep (g .1 .long) (g .1 .held)))),
     )
-
-links-too-deep-requires-2 : (t : ℕ) → links-lts.Need-too-deep-requires-2 (links-cs t) (links-at t) links.Post links-Inv-loop links-μ-loop
-links-too-deep-requires-2 t c κs = search needs
 
 links-same-length-3 : (t : ℕ) → links-lts.Need-same-length-3 (links-cs t) (links-at t) links.Post links-Inv-loop links-μ-loop
 links-same-length-3 t c = c .before .before .before .before .before .loop .inv .5
@@ -326,9 +281,6 @@ links-kind-at-requires-2 t c κs = omega arith
 
 links-add-unexpected : (t : ℕ) → links-lts.Need-add-unexpected (links-cs t) (links-at t) links.Post links-Inv-loop links-μ-loop
 links-add-unexpected t c = omega arith
-
-links-unexpected-requires : (t : ℕ) → links-lts.Need-unexpected-requires (links-cs t) (links-at t) links.Post links-Inv-loop links-μ-loop
-links-unexpected-requires t c κs = search needs
 
 links-same-length-4 : (t : ℕ) → links-lts.Need-same-length-4 (links-cs t) (links-at t) links.Post links-Inv-loop links-μ-loop
 links-same-length-4 t c = c .before .before .before .before .before .before .before .loop .inv .5
@@ -424,9 +376,6 @@ list-sub-arg t c = omega arith
 list-arg-requires : (t : ℕ) → list-lts.Need-arg-requires (list-cs t) (list-at t) list.Post list-Inv-loop list-μ-loop
 list-arg-requires t c κs = omega arith
 
-list-enum-known-next : (t : ℕ) → list-lts.Need-enum-known-next (list-cs t) (list-at t) list.Post list-Inv-loop list-μ-loop
-list-enum-known-next t c = search needs
-
 list-kind-at-requires-2 : (t : ℕ) → list-lts.Need-kind-at-requires-2 (list-cs t) (list-at t) list.Post list-Inv-loop list-μ-loop
 list-kind-at-requires-2 t c κs = omega (arith, ahead (c .before .next .given .1) (c .before .before .before .before .before .arg .ensures .0))
 
@@ -494,9 +443,6 @@ list-returns-3 t c =
           list-no (g .4 ∙ args-bad rep _ (g .0) _ (g .1) (v .inv .1) (g .3) (unseen (c .before .before .before .before .before .before .before .before .before .before .before .kind-at .ensures) (c .before .before .before .before .before .before .before .before .before .before .if2 .taken)) (d .0) _ _ (d .1) (unseen (k2 .ensures) (c .before .if3 .left)) (unseen (k2 .ensures) (c .if4 .left))),
     )
 
-list-enum-known-number : (t : ℕ) → list-lts.Need-enum-known-number (list-cs t) (list-at t) list.Post list-Inv-loop list-μ-loop
-list-enum-known-number t c = search needs
-
 list-same-length-3 : (t : ℕ) → list-lts.Need-same-length-3 (list-cs t) (list-at t) list.Post list-Inv-loop list-μ-loop
 list-same-length-3 t c = omega (arith, c .before .before .before .before .before .arg .kept .1 .0, c .before .before .before .before .before .before .before .before .before .loop .inv .5)
 
@@ -541,9 +487,6 @@ slashes-loop-holds t c = (omega arith, omega arith, omega arith, omega arith, om
 slashes-kind-at-requires : (t : ℕ) → slashes-lts.Need-kind-at-requires (slashes-cs t) (slashes-at t) slashes.Post slashes-Inv-loop slashes-μ-loop
 slashes-kind-at-requires t c κs = omega arith
 
-slashes-too-deep-requires : (t : ℕ) → slashes-lts.Need-too-deep-requires (slashes-cs t) (slashes-at t) slashes.Post slashes-Inv-loop slashes-μ-loop
-slashes-too-deep-requires t c κs = search needs
-
 slashes-same-length : (t : ℕ) → slashes-lts.Need-same-length (slashes-cs t) (slashes-at t) slashes.Post slashes-Inv-loop slashes-μ-loop
 slashes-same-length t c = c .before .before .before .before .loop .inv .5
 
@@ -562,9 +505,6 @@ slashes-sub-chain t c = omega arith
 
 slashes-chain-requires : (t : ℕ) → slashes-lts.Need-chain-requires (slashes-cs t) (slashes-at t) slashes.Post slashes-Inv-loop slashes-μ-loop
 slashes-chain-requires t c κs = omega (arith, inside (c .before .before .before .before .before .before .before .args .toks .now) (c .before .before .before .before .loop .at) 8 (seen (c .before .before .before .kind-at .ensures) (c .before .before .if1 .taken)))
-
-slashes-enum-known-next : (t : ℕ) → slashes-lts.Need-enum-known-next (slashes-cs t) (slashes-at t) slashes.Post slashes-Inv-loop slashes-μ-loop
-slashes-enum-known-next t c = search needs
 
 slashes-sub-push : (t : ℕ) → slashes-lts.Need-sub-push (slashes-cs t) (slashes-at t) slashes.Post slashes-Inv-loop slashes-μ-loop
 slashes-sub-push t c = omega arith
@@ -599,9 +539,6 @@ slashes-loop-again t c =
           (grammar.slash′ (g .0) (d .0), m .0, slash-pushed (g .2) (d .2) (c .before .before .push .ensures), m .1, g .4 ∙ m .2),
     )
 
-slashes-enum-known-number : (t : ℕ) → slashes-lts.Need-enum-known-number (slashes-cs t) (slashes-at t) slashes.Post slashes-Inv-loop slashes-μ-loop
-slashes-enum-known-number t c = search needs
-
 slashes-same-length-2 : (t : ℕ) → slashes-lts.Need-same-length-2 (slashes-cs t) (slashes-at t) slashes.Post slashes-Inv-loop slashes-μ-loop
 slashes-same-length-2 t c = omega (arith, c .before .before .before .before .before .chain .kept .1 .0, c .before .before .before .before .before .before .before .before .before .before .loop .inv .5)
 
@@ -626,9 +563,30 @@ slashes-returns-3 t c = (
 pub +arg+chain+expr+links+list+slashes-spec : {M : Type 1} → statement M
 +arg+chain+expr+links+list+slashes-spec =
     close μ-arg μ-chain μ-expr μ-links μ-list μ-slashes
-    (λ t. arg-lts.spec (arg-cs t) (arg-at t) arg.Post (arg-arg-head-requires t) (arg-expr-requires t) (arg-enum-known-next t) (arg-sub-push t) (arg-push-requires t) (arg-add-t20 t) (arg-enum-known-number t) (arg-same-length t) (arg-returns t) (arg-same-length-2 t) (arg-returns-2 t))
-    (λ t. chain-lts.spec (chain-cs t) (chain-at t) chain.Post (chain-primary-requires t) (chain-enum-known-next t) (chain-links-requires t) (chain-enum-known-number t) (chain-same-length t) (chain-returns t) (chain-same-length-2 t) (chain-returns-2 t))
-    (λ t. expr-lts.spec (expr-cs t) (expr-at t) expr.Post (expr-chain-requires t) (expr-enum-known-next t) (expr-slashes-requires t) (expr-enum-known-number t) (expr-same-length t) (expr-returns t) (expr-same-length-2 t) (expr-returns-2 t))
-    (λ t. links-lts.spec (links-cs t) (links-at t) links.Post links-Inv-loop links-μ-loop (links-loop-holds t) (links-kind-at-requires t) (links-too-deep-requires t) (links-same-length t) (links-returns t) (links-list-requires t) (links-enum-known-next t) (links-sub-push t) (links-push-requires t) (links-add-have t) (links-sub-more t) (links-loop-less t) (links-loop-again t) (links-enum-known-number t) (links-same-length-2 t) (links-returns-2 t) (links-too-deep-requires-2 t) (links-same-length-3 t) (links-returns-3 t) (links-add-kind-at t) (links-kind-at-requires-2 t) (links-add-unexpected t) (links-unexpected-requires t) (links-same-length-4 t) (links-returns-4 t) (links-sub-push-2 t) (links-add-push t) (links-push-requires-2 t) (links-add-at t) (links-add-have-2 t) (links-sub-more-2 t) (links-loop-less-2 t) (links-loop-again-2 t) (links-same-length-5 t) (links-returns-5 t))
-    (λ t. list-lts.spec (list-cs t) (list-at t) list.Post list-Inv-loop list-μ-loop (list-returns t) (list-add-at t) (list-loop-holds t) (list-kind-at-requires t) (list-sub-arg t) (list-arg-requires t) (list-enum-known-next t) (list-kind-at-requires-2 t) (list-add-at-2 t) (list-loop-less t) (list-loop-again t) (list-add-t24 t) (list-same-length t) (list-returns-2 t) (list-same-length-2 t) (list-returns-3 t) (list-enum-known-number t) (list-same-length-3 t) (list-returns-4 t) (list-add-t25 t) (list-same-length-4 t) (list-returns-5 t))
-    λ t. slashes-lts.spec (slashes-cs t) (slashes-at t) slashes.Post slashes-Inv-loop slashes-μ-loop (slashes-loop-holds t) (slashes-kind-at-requires t) (slashes-too-deep-requires t) (slashes-same-length t) (slashes-returns t) (slashes-add-chain t) (slashes-sub-chain t) (slashes-chain-requires t) (slashes-enum-known-next t) (slashes-sub-push t) (slashes-sub-push-2 t) (slashes-push-requires t) (slashes-add-have t) (slashes-loop-less t) (slashes-loop-again t) (slashes-enum-known-number t) (slashes-same-length-2 t) (slashes-returns-2 t) (slashes-same-length-3 t) (slashes-returns-3 t)
+    (λ t. arg-lts.spec (arg-cs t) (arg-at t) arg.Post (arg-arg-head-requires t) (arg-expr-requires t)
+    (λ c. search needs) (arg-sub-push t) (arg-push-requires t) (arg-add-t20 t) (λ c. search needs) (arg-same-length t)
+    (arg-returns t) (λ c. search needs) (arg-returns-2 t))
+    (λ t. chain-lts.spec (chain-cs t) (chain-at t) chain.Post (chain-primary-requires t) (λ c. search needs)
+    (chain-links-requires t) (λ c. search needs) (λ c. search needs) (chain-returns t) (λ c. search needs)
+    (chain-returns-2 t))
+    (λ t. expr-lts.spec (expr-cs t) (expr-at t) expr.Post (expr-chain-requires t) (λ c. search needs)
+    (expr-slashes-requires t) (λ c. search needs) (λ c. search needs) (expr-returns t) (λ c. search needs)
+    (expr-returns-2 t))
+    (λ t. links-lts.spec (links-cs t) (links-at t) links.Post links-Inv-loop links-μ-loop (links-loop-holds t)
+    (links-kind-at-requires t) (λ c. search needs) (links-same-length t) (links-returns t) (links-list-requires t)
+    (λ c. search needs) (links-sub-push t) (links-push-requires t) (links-add-have t) (links-sub-more t)
+    (links-loop-less t) (links-loop-again t) (λ c. search needs) (links-same-length-2 t) (links-returns-2 t)
+    (λ c. search needs) (links-same-length-3 t) (links-returns-3 t) (links-add-kind-at t) (links-kind-at-requires-2 t)
+    (links-add-unexpected t) (λ c. search needs) (links-same-length-4 t) (links-returns-4 t) (links-sub-push-2 t)
+    (links-add-push t) (links-push-requires-2 t) (links-add-at t) (links-add-have-2 t) (links-sub-more-2 t)
+    (links-loop-less-2 t) (links-loop-again-2 t) (links-same-length-5 t) (links-returns-5 t))
+    (λ t. list-lts.spec (list-cs t) (list-at t) list.Post list-Inv-loop list-μ-loop (list-returns t) (list-add-at t)
+    (list-loop-holds t) (list-kind-at-requires t) (list-sub-arg t) (list-arg-requires t) (λ c. search needs)
+    (list-kind-at-requires-2 t) (list-add-at-2 t) (list-loop-less t) (list-loop-again t) (list-add-t24 t)
+    (list-same-length t) (list-returns-2 t) (list-same-length-2 t) (list-returns-3 t) (λ c. search needs)
+    (list-same-length-3 t) (list-returns-4 t) (list-add-t25 t) (list-same-length-4 t) (list-returns-5 t))
+    λ t. slashes-lts.spec (slashes-cs t) (slashes-at t) slashes.Post slashes-Inv-loop slashes-μ-loop
+    (slashes-loop-holds t) (slashes-kind-at-requires t) (λ c. search needs) (slashes-same-length t) (slashes-returns t)
+    (slashes-add-chain t) (slashes-sub-chain t) (slashes-chain-requires t) (λ c. search needs) (slashes-sub-push t)
+    (slashes-sub-push-2 t) (slashes-push-requires t) (slashes-add-have t) (slashes-loop-less t) (slashes-loop-again t)
+    (λ c. search needs) (slashes-same-length-2 t) (slashes-returns-2 t) (slashes-same-length-3 t) (slashes-returns-3 t)

@@ -2,8 +2,8 @@
 use Prim.Native.Nat.{_≤_, _-_}
 use lib.ListN.{length}
 use borrow.Author.Needs.{needs}
-use Rattle.printing.proofs.header.find.Statement.{statement}
-use Rattle.printing.proofs.header.find.Tie as tie
+use Rattle.printing.proofs.words.find.Statement.{statement}
+use Rattle.printing.proofs.words.find.Tie as tie
 
 abbrev Inv-loop : tie.InvT-loop
 Inv-loop text from b i₀ i = (from ≤ i) × (i ≤ length text)
