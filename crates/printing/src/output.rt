@@ -40,13 +40,13 @@ pub fn bad_input(out: &mut [u8], at: usize) {
     flush(out, p);
 }
 
-fn last_digits(out: &mut [u8], at: usize, digits: &[u8; 39], start: usize) -> usize {
-    text(out, at, words::part(digits, start, 39))
+fn last_digits(out: &mut [u8], at: usize, digits: &[u8; Wide::MOST_DIGITS], start: usize) -> usize {
+    text(out, at, words::part(digits, start, Wide::MOST_DIGITS))
 }
 
 // A number in decimal.
 pub fn wide(out: &mut [u8], at: usize, n: Wide) -> usize {
-    let mut digits = [0u8; 39];
+    let mut digits = [0u8; Wide::MOST_DIGITS];
     let start = n.decimal(&mut digits);
     last_digits(out, at, &digits, start)
 }

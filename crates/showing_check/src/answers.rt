@@ -2,28 +2,31 @@
 use crate::diagnostic;
 use crate::statement;
 use checker::CheckAnswer;
+use constants::Constants;
 use printing::output;
 use printing::verdict;
 use scan::Verdict;
 
 // A sum, or the largest number there is.
 fn sum(a: u64, b: u64) -> u64 {
-    if b <= 18446744073709551615 - a {
+    let most: u64 = 18446744073709551615;
+    if b <= most - a {
         return a + b;
     }
-    18446744073709551615
+    most
 }
 
 // The diagnostics that the table holds, and the counts of all there were.
-fn findings(
-    source: &[u8],
+fn findings<'a>(
+    source: &'a [u8],
+    text: &'a [u8],
     diags: &[u64],
     errors: u64,
     warnings: u64,
     out: &mut [u8],
     at: usize,
 ) -> usize {
-    let p = diagnostic::diagnostics(source, diags, sum(errors, warnings), out, at);
+    let p = diagnostic::diagnostics(source, text, diags, sum(errors, warnings), out, at);
     diagnostic::counts(errors, warnings, out, p)
 }
 
@@ -44,7 +47,18 @@ pub fn report(
     if verdict.number != Verdict::DONE {
         return refused(verdict, out, at);
     }
-    findings(source, diags, checked.errors, checked.warnings, out, at)
+    // lent from here: a constant array is made anew wherever it is named
+    let table = Constants::new();
+    let text = table.text;
+    findings(
+        source,
+        &text,
+        diags,
+        checked.errors,
+        checked.warnings,
+        out,
+        at,
+    )
 }
 
 // The findings, and the statements after them.
@@ -61,8 +75,18 @@ fn judged(
     if v.number != Verdict::DONE {
         return verdict::refused(v, out, at);
     }
-    let p = findings(source, diags, checked.errors, checked.warnings, out, at);
-    statement::statements(source, tokens, stmts, checked.statements, out, p)
+    let table = Constants::new();
+    let text = table.text;
+    let p = findings(
+        source,
+        &text,
+        diags,
+        checked.errors,
+        checked.warnings,
+        out,
+        at,
+    );
+    statement::statements(source, &text, tokens, stmts, checked.statements, out, p)
 }
 
 // The mode `check`.

@@ -53,42 +53,30 @@ fn start(row: &[u64], out: &mut [u8], at: usize) -> usize
     output::word(out, c, kinds, row[Diagnostic::KIND])
 }
 
-// The name, which is a part of the source or of the constant table's text.
-fn named(source: &[u8], row: &[u64], out: &mut [u8], at: usize) -> usize
-    requires { ⌜ 11 ≤ length (now row) ⌝ }
-{
-    let start = row[Diagnostic::START];
-    let end = row[Diagnostic::END];
-    if row[Diagnostic::TEXT] == Text::TABLE {
-        return texts::plain(out, at, start, end);
-    }
-    output::text(out, at, constants::part(source, start as usize, end as usize))
-}
-
 // The type: a function is shown with its name.
-fn typed(source: &[u8], row: &[u64], out: &mut [u8], at: usize) -> usize
+fn typed(name: &[u8], row: &[u64], out: &mut [u8], at: usize) -> usize
     requires { ⌜ 11 ≤ length (now row) ⌝ }
 {
     let ty = row[Diagnostic::TYPE];
     let p = types::word(out, at, ty);
     if ty == Ty::FUNCTION {
         let q = output::byte(out, p, b' ');
-        return named(source, row, out, q);
+        return output::text(out, q, name);
     }
     p
 }
 
 // A blank, and the field that a letter stands for.
-fn field(source: &[u8], row: &[u64], letter: u8, out: &mut [u8], at: usize) -> usize
+fn field(name: &[u8], text: &[u8], row: &[u64], letter: u8, out: &mut [u8], at: usize) -> usize
     requires { ⌜ 11 ≤ length (now row) ⌝ }
 {
     let first = row[Diagnostic::FIRST];
     let second = row[Diagnostic::SECOND];
     let p = output::byte(out, at, b' ');
     match letter {
-        b'n' => named(source, row, out, p),
+        b'n' => output::text(out, p, name),
         // the name of a module, in the constant table's text
-        b'm' => texts::plain(out, p, first, second),
+        b'm' => texts::plain(text, out, p, first, second),
         // the line and the column where a name was bound first
         b'l' => output::number(out, p, first),
         b'c' => output::number(out, p, second),
@@ -97,13 +85,20 @@ fn field(source: &[u8], row: &[u64], letter: u8, out: &mut [u8], at: usize) -> u
         b's' => output::word(out, p, b"- left right", first),
         b'w' => types::word(out, p, second),
         // a value that was cut
-        b'v' => output::wide(out, p, Wide { hi: second, lo: first }),
-        _ => typed(source, row, out, p),
+        b'v' => output::wide(
+            out,
+            p,
+            Wide {
+                hi: second,
+                lo: first,
+            },
+        ),
+        _ => typed(name, row, out, p),
     }
 }
 
 // The fields of each kind, a letter for each: `-` for none.
-fn fields(source: &[u8], row: &[u64], out: &mut [u8], at: usize) -> usize
+fn fields(name: &[u8], text: &[u8], row: &[u64], out: &mut [u8], at: usize) -> usize
     requires { ⌜ 11 ≤ length (now row) ⌝ }
 {
     let kinds = b"- n nm - n n n n nlc t oswt - - - - - - - - - - - - n t vt";
@@ -114,23 +109,29 @@ fn fields(source: &[u8], row: &[u64], out: &mut [u8], at: usize) -> usize
         if letters[i] == b'-' {
             return p;
         }
-        p = field(source, row, letters[i], out, p);
+        p = field(name, text, row, letters[i], out, p);
         i += 1;
     }
     p
 }
 
-fn line_of(source: &[u8], row: &[u64], out: &mut [u8], at: usize) -> usize
+// A name is a part of the source or of the constant table's text.
+fn line_of<'a>(source: &'a [u8], text: &'a [u8], row: &[u64], out: &mut [u8], at: usize) -> usize
     requires { ⌜ 11 ≤ length (now row) ⌝ }
 {
+    let from_table = row[Diagnostic::TEXT] == Text::TABLE;
+    let start_of = row[Diagnostic::START] as usize;
+    let end_of = row[Diagnostic::END] as usize;
+    let name = constants::name_text(from_table, source, text, start_of, end_of);
     let p = start(row, out, at);
-    let q = fields(source, row, out, p);
+    let q = fields(name, text, row, out, p);
     output::byte(out, q, b'\n')
 }
 
 // The first `count` rows of the table, or as many as it has.
-pub fn diagnostics(
-    source: &[u8],
+pub fn diagnostics<'a>(
+    source: &'a [u8],
+    text: &'a [u8],
     diags: &[u64],
     count: u64,
     out: &mut [u8],
@@ -144,7 +145,7 @@ pub fn diagnostics(
             return p;
         }
         let next = word + Diagnostic::ROW_WORDS;
-        p = line_of(source, &diags[word..next], out, p);
+        p = line_of(source, text, &diags[word..next], out, p);
         word = next;
         left -= 1;
     }

@@ -40,20 +40,27 @@ fn sock4(out: &mut [u8], at: usize, address: u64, port: u64) -> usize {
 }
 
 // A value that is no string of the source.
-fn plain(out: &mut [u8], at: usize, ty: u64, value: u64, second: u64) -> usize {
+fn plain(text: &[u8], out: &mut [u8], at: usize, ty: u64, value: u64, second: u64) -> usize {
     match ty {
         Ty::BOOL => token::boolean(out, at, value),
         Ty::U8 | Ty::U16 | Ty::U32 | Ty::U64 => output::number(out, at, value),
         Ty::IP4 => output::quad(out, at, value),
         Ty::SOCK4 => sock4(out, at, value, second),
-        Ty::BYTES => texts::hex(out, at, value, second),
-        Ty::FUNCTION => texts::plain(out, at, value, second),
+        Ty::BYTES => texts::hex(text, out, at, value, second),
+        Ty::FUNCTION => texts::plain(text, out, at, value, second),
         _ => at,
     }
 }
 
 // A blank and the value.
-fn value(source: &[u8], tokens: &[u64], row: &[u64], out: &mut [u8], at: usize) -> usize
+fn value(
+    source: &[u8],
+    text: &[u8],
+    tokens: &[u64],
+    row: &[u64],
+    out: &mut [u8],
+    at: usize,
+) -> usize
     requires { ⌜ 7 ≤ length (now row) ⌝ }
 {
     let value = row[Statement::VALUE];
@@ -61,7 +68,14 @@ fn value(source: &[u8], tokens: &[u64], row: &[u64], out: &mut [u8], at: usize) 
         return token::bodies(source, token::row_at(tokens, value as usize).token, out, at);
     }
     let p = output::byte(out, at, b' ');
-    plain(out, p, row[Statement::TYPE], value, row[Statement::SECOND])
+    plain(
+        text,
+        out,
+        p,
+        row[Statement::TYPE],
+        value,
+        row[Statement::SECOND],
+    )
 }
 
 // A word, and the place.
@@ -82,17 +96,25 @@ fn start(row: &[u64], out: &mut [u8], at: usize) -> usize
     types::word(out, c, row[Statement::TYPE])
 }
 
-fn line_of(source: &[u8], tokens: &[u64], row: &[u64], out: &mut [u8], at: usize) -> usize
+fn line_of(
+    source: &[u8],
+    text: &[u8],
+    tokens: &[u64],
+    row: &[u64],
+    out: &mut [u8],
+    at: usize,
+) -> usize
     requires { ⌜ 7 ≤ length (now row) ⌝ }
 {
     let p = start(row, out, at);
-    let q = value(source, tokens, row, out, p);
+    let q = value(source, text, tokens, row, out, p);
     output::text(out, q, b")\n")
 }
 
 // The first `count` rows of the table, or as many as it has.
 pub fn statements(
     source: &[u8],
+    text: &[u8],
     tokens: &[u64],
     stmts: &[u64],
     count: u64,
@@ -107,7 +129,7 @@ pub fn statements(
             return p;
         }
         let next = word + Statement::ROW_WORDS;
-        p = line_of(source, tokens, &stmts[word..next], out, p);
+        p = line_of(source, text, tokens, &stmts[word..next], out, p);
         word = next;
         left -= 1;
     }

@@ -1,17 +1,12 @@
-// Parts of the constant table's text, which rows name by where they start and end.
-use constants::Constants;
+// Parts of the constant table's text, which is lent and which rows name by where they start and end.
 use printing::output;
 
-pub fn plain(out: &mut [u8], at: usize, start: u64, end: u64) -> usize {
-    let table = Constants::new();
-    let text = table.text;
-    output::text(out, at, constants::part(&text, start as usize, end as usize))
+pub fn plain(text: &[u8], out: &mut [u8], at: usize, start: u64, end: u64) -> usize {
+    output::text(out, at, constants::part(text, start as usize, end as usize))
 }
 
 // The part's bytes in hex, an `x` before them.
-pub fn hex(out: &mut [u8], at: usize, start: u64, end: u64) -> usize {
-    let table = Constants::new();
-    let text = table.text;
+pub fn hex(text: &[u8], out: &mut [u8], at: usize, start: u64, end: u64) -> usize {
     let p = output::byte(out, at, b'x');
-    output::hex(out, p, constants::part(&text, start as usize, end as usize))
+    output::hex(out, p, constants::part(text, start as usize, end as usize))
 }

@@ -7,10 +7,10 @@ use Rattle.showing_check.proofs.diagnostic.diagnostics.Statement.{state
 use Rattle.showing_check.proofs.diagnostic.diagnostics.Tie as tie
 
 abbrev Inv-loop : tie.InvT-loop
-Inv-loop source diags count out₀ at p₀ left₀ word₀ out p left word = (word ≤ length diags) × (length out ≡ length out₀)
+Inv-loop source text diags count out₀ at p₀ left₀ word₀ out p left word = (word ≤ length diags) × (length out ≡ length out₀)
 
 abbrev μ-loop : tie.MeasureT-loop
-μ-loop source diags count out₀ at p₀ left₀ word₀ out p left word = left
+μ-loop source text diags count out₀ at p₀ left₀ word₀ out p left word = left
 
 pub diagnostics-spec : {M : Type 1} → statement M
 diagnostics-spec =

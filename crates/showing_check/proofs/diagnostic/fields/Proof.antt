@@ -7,10 +7,10 @@ use Rattle.showing_check.proofs.diagnostic.fields.Statement.{statement}
 use Rattle.showing_check.proofs.diagnostic.fields.Tie as tie
 
 abbrev Inv-loop : tie.InvT-loop
-Inv-loop source row out₀ at letters p₀ i₀ out p i = length out ≡ length out₀
+Inv-loop name text row out₀ at letters p₀ i₀ out p i = length out ≡ length out₀
 
 abbrev μ-loop : tie.MeasureT-loop
-μ-loop source row out₀ at letters p₀ i₀ out p i = length letters - i
+μ-loop name text row out₀ at letters p₀ i₀ out p i = length letters - i
 
 pub fields-spec : {M : Type 1} → statement M
 fields-spec =

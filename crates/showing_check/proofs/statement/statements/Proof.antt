@@ -7,10 +7,10 @@ use Rattle.showing_check.proofs.statement.statements.Statement.{stateme
 use Rattle.showing_check.proofs.statement.statements.Tie as tie
 
 abbrev Inv-loop : tie.InvT-loop
-Inv-loop source tokens stmts count out₀ at p₀ left₀ word₀ out p left word = (word ≤ length stmts) × (length out ≡ length out₀)
+Inv-loop source text tokens stmts count out₀ at p₀ left₀ word₀ out p left word = (word ≤ length stmts) × (length out ≡ length out₀)
 
 abbrev μ-loop : tie.MeasureT-loop
-μ-loop source tokens stmts count out₀ at p₀ left₀ word₀ out p left word = left
+μ-loop source text tokens stmts count out₀ at p₀ left₀ word₀ out p left word = left
 
 pub statements-spec : {M : Type 1} → statement M
 statements-spec =
