@@ -7,47 +7,17 @@ use Rattle.replaying.proofs.lent.run.Tie as tie
 slice-aggregate-answers : tie.Need-slice-aggregate-answers
 slice-aggregate-answers c = as-long 65600
 
-sub-answers : tie.Need-sub-answers
-sub-answers c = from-0 _
-
-part-tokens-start : tie.Need-part-tokens-start
-part-tokens-start c = from-0 _
-
 part-tokens-end : tie.Need-part-tokens-end
 part-tokens-end c = within 458759 (c .before .before .before .before .before .before .token-words .ensures)
-
-sub-answers-2 : tie.Need-sub-answers-2
-sub-answers-2 c = from-0 _
-
-part-nodes-start : tie.Need-part-nodes-start
-part-nodes-start c = from-0 _
 
 part-nodes-end : tie.Need-part-nodes-end
 part-nodes-end c = within 327680 (c .before .before .before .before .before .before .node-words .ensures)
 
-sub-answers-3 : tie.Need-sub-answers-3
-sub-answers-3 c = from-0 _
-
-part-diags-start : tie.Need-part-diags-start
-part-diags-start c = from-0 _
-
 part-diags-end : tie.Need-part-diags-end
 part-diags-end c = within 45056 (c .before .before .before .before .before .diag-words .ensures)
 
-sub-answers-4 : tie.Need-sub-answers-4
-sub-answers-4 c = from-0 _
-
-part-stmts-start : tie.Need-part-stmts-start
-part-stmts-start c = from-0 _
-
 part-stmts-end : tie.Need-part-stmts-end
 part-stmts-end c = within 28672 (c .before .before .before .before .before .stmt-words .ensures)
-
-sub-answers-5 : tie.Need-sub-answers-5
-sub-answers-5 c = from-0 _
-
-part-text-start : tie.Need-part-text-start
-part-text-start c = from-0 _
 
 part-text-end : tie.Need-part-text-end
 part-text-end c = within 65600 (c .before .before .before .before .before .before .before .before .at-most .ensures)
@@ -69,6 +39,6 @@ run-spec =
     tie.close
     (tie.spec (λ c. search needs) (λ c. search needs) (λ c. search needs) (λ c. search needs) (λ c. search needs)
     (λ c. search needs) (λ c. search needs) (λ c. search needs) (λ c. search needs) (λ c. search needs)
-    slice-aggregate-answers sub-answers part-tokens-start part-tokens-end sub-answers-2 part-nodes-start part-nodes-end
-    sub-answers-3 part-diags-start part-diags-end sub-answers-4 part-stmts-start part-stmts-end sub-answers-5
-    part-text-start part-text-end answers-requires same-length same-length-2 returns)
+    slice-aggregate-answers (λ c. from-0 _) (λ c. from-0 _) part-tokens-end (λ c. from-0 _) (λ c. from-0 _)
+    part-nodes-end (λ c. from-0 _) (λ c. from-0 _) part-diags-end (λ c. from-0 _) (λ c. from-0 _) part-stmts-end
+    (λ c. from-0 _) (λ c. from-0 _) part-text-end answers-requires same-length same-length-2 returns)
