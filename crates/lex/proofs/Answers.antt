@@ -23,11 +23,11 @@ use Rattle.scan.proofs.Answers.{bad-at, bad-nowhere}
 use Rattle.lex.specs.declared.Lexer.{Lexer}
 use Rattle.lex.specs.declared.Fed.{Fed}
 use Rattle.lex.specs.declared.Fed.the-variants.{Goes, Stops}
-use Rattle.lex.specs.declared.Spot.{Spot}
+use Rattle.lex.specs.declared.Loc.{Loc}
 use Rattle.lex.specs.declared.Lexed.{Lexed}
 use Rattle.lex.specs.Entry.{LexSource}
 use Rattle.lex.proofs.Lines.{few-lines}
-use Rattle.lex.specs.Lexing.{State, begun, stated, flushedState, stepTo, feed, Holds, Few, FedIs, FeedsAll, Finishes, spotAs}
+use Rattle.lex.specs.Lexing.{State, begun, stated, flushedState, stepTo, feed, Holds, Few, FedIs, FeedsAll, Finishes, locAs}
 
 -- ---- the answer
 
@@ -73,7 +73,7 @@ all-tokens s (i ∷ is) = all-tokens (stepTo (i .piece) i s) is ∙ go (i .piece
     go (wrong e) = refl
 
 -- a place as the code gives it
-pub placed-as : (p : Place) (o : Spot) → o ≡ spotAs p → {w : Verdict} → w ≡ record { number = 2; kind = 0; line = o .line; column = o .column; character = 0 }
+pub placed-as : (p : Place) (o : Loc) → o ≡ locAs p → {w : Verdict} → w ≡ record { number = 2; kind = 0; line = o .line; column = o .column; character = 0 }
     → w ≡ verdictAs (placed 2 p)
 placed-as p o e d = d ∙ rw e
 

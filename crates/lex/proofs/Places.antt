@@ -8,8 +8,8 @@ use borrow.Author.Tests.{eq-eqb, ne-eqb}
 use lib.ListN.{length, getD, drop}
 use lib.Seq.{drop-cons}
 use Rattle.language.specs.Tokens.{placeFrom, placeOf}
-use Rattle.lex.specs.declared.Spot.{Spot}
-use Rattle.lex.specs.Lexing.{spotAs}
+use Rattle.lex.specs.declared.Loc.{Loc}
+use Rattle.lex.specs.Lexing.{locAs}
 
 -- byte i stands in this line and this column
 pub record Placing (s : List ℕ) (at line column i : ℕ) : Type 0 where
@@ -42,9 +42,9 @@ module _ (s : List ℕ) (at line column i : ℕ) (p : Placing s at line column i
         let a : placeFrom line column (drop i s) (at - i) ≡ placeFrom line (column + 1) (drop (i + 1) s) (at - (i + 1)) = rw (k .0, k .1, ne-eqb (getD s i 0) 10 e, add-one column) in
         record { same = sym a ∙ p .same; within = omega arith; few-lines = omega (arith, p .few-lines); few-columns = omega (arith, p .few-columns) }
 
-  pub arrived : at ≤ i → _≡_ {A = Spot} (record { line = line; column = column }) (spotAs (placeOf s at))
+  pub arrived : at ≤ i → _≡_ {A = Loc} (record { line = line; column = column }) (locAs (placeOf s at))
   unfolding placeFrom
   arrived h =
       let z : at - i ≡ 0 = omega arith in
       let a : placeFrom line column (drop i s) 0 ≡ placeOf s at = rw z at (p .same) in
-      ap spotAs a
+      ap locAs a

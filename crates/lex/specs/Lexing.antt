@@ -19,7 +19,7 @@ use Rattle.lex.specs.declared.PendingStr.{PendingStr}
 use Rattle.lex.specs.declared.Lexer.{Lexer}
 use Rattle.lex.specs.declared.Fed.{Fed}
 use Rattle.lex.specs.declared.Fed.the-variants.{Goes, Stops}
-use Rattle.lex.specs.declared.Spot.{Spot}
+use Rattle.lex.specs.declared.Loc.{Loc}
 use Rattle.lex.specs.declared.Lexed.{Lexed}
 
 -- ---- the state
@@ -140,8 +140,8 @@ pub record Finishes (x : Lexer) (t : List ℕ) (all : ℕ) (y : Lexer) (u : List
 
 -- ---- places and answers
 
-abbrev pub spotAs : Place → Spot
-spotAs p = record { line = p .line; column = p .column }
+abbrev pub locAs : Place → Loc
+locAs p = record { line = p .line; column = p .column }
 
 abbrev pub lexedAs : numbers.Lexed → Lexed
 lexedAs a = record { verdict = verdictAs (a .verdict); count = a .count }

@@ -6,7 +6,7 @@ ghost use lib.ListN.{length};
 ghost use Rattle.language.specs.Tokens.{placeOf, between, bodiesIn, mostBytes};
 ghost use Rattle.lex.specs.Entry.{LexSource, StringBody};
 ghost use Rattle.lexemes.specs.Kinds.{errorNumber, errorChar};
-ghost use Rattle.lex.specs.Lexing.{Strings, Flushes, Tokens, Few, lineItems, Feeds, Finishes, lineEnd, FeedsAll, spotAs, nth};
+ghost use Rattle.lex.specs.Lexing.{Strings, Flushes, Tokens, Few, lineItems, Feeds, Finishes, lineEnd, FeedsAll, locAs, nth};
 use lexemes::LexErrorKind;
 use lexemes::LexemeKind;
 use lexemes::Tok;
@@ -44,7 +44,7 @@ pub enum Fed {
 }
 
 // A line and a column, both from 1.
-pub struct Spot {
+pub struct Loc {
     pub line: u64,
     pub column: u64,
 }
@@ -255,9 +255,9 @@ fn line_end(source: &[u8], at: usize) -> usize
 }
 
 // The line and the column of a byte.
-fn spot_of(source: &[u8], at: usize) -> Spot
+fn loc_of(source: &[u8], at: usize) -> Loc
     requires { ⌜ (at ≤ length (now source)) × (length (now source) ≤ mostBytes) ⌝ }
-    ensures { λ r. ⌜ r ≡ spotAs (placeOf (now (source .entry)) at) ⌝ }
+    ensures { λ r. ⌜ r ≡ locAs (placeOf (now (source .entry)) at) ⌝ }
 {
     let mut line: u64 = 1;
     let mut column: u64 = 1;
@@ -271,7 +271,7 @@ fn spot_of(source: &[u8], at: usize) -> Spot
         }
         i += 1;
     }
-    Spot {
+    Loc {
         line: line,
         column: column,
     }
@@ -316,7 +316,7 @@ pub fn lex_source(source: &[u8], table: &mut [u64]) -> Lexed
     }
     let bad = utf8::first_bad(source);
     if let Bad::At(at) = bad {
-        let s = spot_of(source, at);
+        let s = loc_of(source, at);
         return refused(Verdict::new(Verdict::NOT_UTF8, s.line, s.column));
     }
     let fed = feed_lines(source, table);

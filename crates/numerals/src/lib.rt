@@ -1,5 +1,5 @@
-// Numbers: the integer that a word is, and dotted quads. Ports of lex.rs `Scanner` how it reads integers and IPv4 literals;
-// the definitions are `Lexemes` of the crate `language`.
+// Numbers: the integer that a word is, and dotted quads. Ports the integer and IPv4 literals of lex.rs `Scanner`; the
+// definitions are `Lexemes` of the crate `language`.
 ghost use mathlib.Core.Path.{_≡_};
 ghost use mathlib.Core.Option.{some};
 ghost use Prim.Native.Nat.{_≤_, _<_};

@@ -63,13 +63,13 @@ module _ (toks : List ℕ) (count number kind at : ℕ) where
   unfolding verdictAt
   far h = rw (le-ltb _ _ h)
 
-abbrev spot : ℕ → ℕ → ℕ → ℕ → Verdict
-spot number kind line column = record { number = number; kind = kind; line = line; column = column; character = 0 }
+abbrev placedAt : ℕ → ℕ → ℕ → ℕ → Verdict
+placedAt number kind line column = record { number = number; kind = kind; line = line; column = column; character = 0 }
 
 module _ (s : List ℕ) (n number kind : ℕ) (h : length (tokens s) ≤ n / 7) where
   row-place : (i : ℕ) → i < length (tokens s)
       → rowVerdict (tabled tokenRow 7 n (tokens s)) number kind i
-      ≡ spot number kind (getD (tokens s) i (eofToken s) .line) (getD (tokens s) i (eofToken s) .column)
+      ≡ placedAt number kind (getD (tokens s) i (eofToken s) .line) (getD (tokens s) i (eofToken s) .column)
   unfolding tokenRow
   row-place i l =
       let line = tabled-word tokenRow 7 row-width n (tokens s) h i 1 l (omega arith) (eofToken s) in
@@ -78,7 +78,7 @@ module _ (s : List ℕ) (n number kind : ℕ) (h : length (tokens s) ≤ n / 7) 
 
   -- the place of a token, past the end that of `Eof`
   pub place-at : {toks : List ℕ} {count : ℕ} (at : ℕ) → toks ≡ tabled tokenRow 7 n (tokens s) → count ≡ length (tokens s)
-      → verdictAt toks count number kind at ≡ spot number kind (tokenPlace s at .line) (tokenPlace s at .column)
+      → verdictAt toks count number kind at ≡ placedAt number kind (tokenPlace s at .line) (tokenPlace s at .column)
   place-at at e c =
       elim (decLe (suc at) (length (tokens s))) [
         | yes l ↦ rw (e, c) (sym (near (tabled tokenRow 7 n (tokens s)) (length (tokens s)) number kind at l) ∙ row-place at l)
@@ -86,5 +86,5 @@ module _ (s : List ℕ) (n number kind : ℕ) (h : length (tokens s) ≤ n / 7) 
             let past : length (tokens s) ≤ at = omega arith in
             let same = last-token s ∙ sym (past-token s at past) in
             rw (e, c) (sym (far (tabled tokenRow 7 n (tokens s)) (length (tokens s)) number kind at past)
-            ∙ row-place (length (tokens s) - 1) (omega (arith, some-token s)) ∙ ap (λ (t : Token). spot number kind (t .line) (t .column)) same)
+            ∙ row-place (length (tokens s) - 1) (omega (arith, some-token s)) ∙ ap (λ (t : Token). placedAt number kind (t .line) (t .column)) same)
       ]

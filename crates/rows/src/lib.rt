@@ -1,11 +1,10 @@
 // The rows of the tables that crates hand to each other, and the numbers of the kinds in them: docs/TABLES.md as constants.
-// There is no code here, so that who reads a table need not wait for who writes it.
+// Who writes a table and who reads it take them from here.
 
-// The kinds of tokens, by their numbers.
+// The kinds of tokens, by their numbers, in the order of lex.rs. The lexer makes `Eof` and `StringLiteral`, which no lexeme is.
 pub struct TokKind {}
 
 impl TokKind {
-    // The numbers of the kinds, in the order of lex.rs. The lexer makes `Eof` and `StringLiteral`, which no lexeme is.
     pub const EOF: u64 = 1;
 
     pub const LPAREN: u64 = 2;

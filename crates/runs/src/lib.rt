@@ -1,5 +1,5 @@
-// Characters, and runs of them: where the longest run of one kind ends. Ports of lex.rs `Scanner` what it asks of single
-// characters and how it eats a run; the definitions are `Lexemes` of the crate `language`.
+// Characters, and runs of them: where the longest run of one kind ends. These are the tests of characters and the loops of
+// lex.rs `Scanner`; the definitions are `Lexemes` of the crate `language`.
 ghost use mathlib.Core.Path.{_≡_};
 ghost use Prim.Native.Nat.{_+_, _≤_};
 ghost use lib.ListN.{length, getD};

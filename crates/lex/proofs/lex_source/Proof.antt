@@ -13,14 +13,14 @@ same-length c = search needs
 returns : tie.Need-returns
 returns c = refused _ _ (verdict 1 0 0) refl (too-long _ _ (c .before .before .if1 .taken)) _ (c .before .new .ensures) (c .refused .ensures) _ (c .before .before .before .before .before .clear .ensures) (same-length c)
 
-spot-of-requires : tie.Need-spot-of-requires
-spot-of-requires c κs = let h = bad-within _ _ (sym (c .before .bad .given .1) ∙ c .before .before .before .first-bad .ensures) in (omega arith, (c .before .before .before .before .if1 .left))
+loc-of-requires : tie.Need-loc-of-requires
+loc-of-requires c κs = let h = bad-within _ _ (sym (c .before .bad .given .1) ∙ c .before .before .before .first-bad .ensures) in (omega arith, (c .before .before .before .before .if1 .left))
 
 same-length-2 : tie.Need-same-length-2
 same-length-2 c = search needs
 
 returns-2 : tie.Need-returns-2
-returns-2 c = refused _ _ (placed 2 _) refl (bad-byte _ _ (c .before .before .before .before .before .before .before .if1 .left) _ (sym (c .before .before .before .before .bad .given .1) ∙ c .before .before .before .before .before .before .first-bad .ensures)) _ (placed-as _ _ (c .before .before .spot-of .ensures) (c .before .new2 .ensures)) (c .refused2 .ensures) _ (c .before .before .before .before .before .before .before .before .before .before .clear .ensures) (same-length-2 c)
+returns-2 c = refused _ _ (placed 2 _) refl (bad-byte _ _ (c .before .before .before .before .before .before .before .if1 .left) _ (sym (c .before .before .before .before .bad .given .1) ∙ c .before .before .before .before .before .before .first-bad .ensures)) _ (placed-as _ _ (c .before .before .loc-of .ensures) (c .before .new2 .ensures)) (c .refused2 .ensures) _ (c .before .before .before .before .before .before .before .before .before .before .clear .ensures) (same-length-2 c)
 
 finish-requires : tie.Need-finish-requires
 finish-requires c κs = few _ _ _ _ (c .before .before .before .before .before .before .before .before .before .before .before .before .before .before .clear .ensures) _ (c .before .before .fed2 .given .1) (c .before .before .before .before .before .before .feed-lines .ensures) (c .before .before .before .before .before .before .before .before .before .before .before .if1 .left)
@@ -47,7 +47,7 @@ pub lex-source-spec : {M : Type 1} → statement M
 lex-source-spec =
     tie.close
     (tie.spec (λ c. search needs) (λ c. search needs) (λ c. search needs) same-length returns (λ c. search needs)
-    (λ c. search needs) spot-of-requires (λ c. search needs) (λ c. search needs) same-length-2 returns-2
+    (λ c. search needs) loc-of-requires (λ c. search needs) (λ c. search needs) same-length-2 returns-2
     (λ c. search needs) (λ c. search needs) (λ c. search needs) (λ c. search needs) (λ c. search needs)
     (λ c. search needs) finish-requires (λ c. search needs) (λ c. search needs) (λ c. search needs) same-length-3
     returns-3 (λ c. search needs) same-length-4 returns-4 same-length-5 returns-5)

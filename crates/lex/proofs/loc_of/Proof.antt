@@ -2,8 +2,8 @@ use borrow.Author.Needs.{needs}
 use Prim.Native.Nat.{_-_}
 use mathlib.Core.Logic.{⊎-elim}
 use Rattle.lex.proofs.Places.{Placing, start, next-line, next-column, arrived}
-use Rattle.lex.proofs.spot_of.Statement.{statement}
-use Rattle.lex.proofs.spot_of.Tie as tie
+use Rattle.lex.proofs.loc_of.Statement.{statement}
+use Rattle.lex.proofs.loc_of.Tie as tie
 
 abbrev Inv-loop : tie.InvT-loop
 Inv-loop source at line₀ column₀ i₀ line column i = Placing source at line column i
@@ -21,8 +21,8 @@ loop-again c = ⊎-elim (λ w. rw (w .1, w .2) (next-line _ _ _ _ _ (c .before .
 returns : tie.Need-returns Inv-loop μ-loop
 returns c = arrived _ _ _ _ _ (c .before .loop .inv) (c .loop-test .left)
 
-pub spot-of-spec : {M : Type 1} → statement M
-spot-of-spec =
+pub loc-of-spec : {M : Type 1} → statement M
+loc-of-spec =
     tie.close
     (tie.spec Inv-loop μ-loop loop-holds (λ c. search needs) (λ c. search needs) (λ c. search needs) (λ c. search needs)
     (λ c. search needs) loop-again returns)
