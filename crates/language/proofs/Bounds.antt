@@ -8,12 +8,12 @@ use native.Mathlib.Omega.{arith}
 use lib.ListN.{length}
 use Rattle.language.specs.Lexemes.{lParen, dot, slash, semiColon, equals, importKeyword, letKeyword}
 use Rattle.language.specs.Tokens.{Content, eof, plain}
-use Rattle.language.specs.Sentences.{Expr, Args, none-given, Stmt, import′, let′, expr′, Out, ok, no, andThen, mostSteps, mostLists, is, isName, chainOf, exprOf, argsOf, listAt, ended, importAt, letAt, stmtAt, stmtsFrom, program}
+use Rattle.language.specs.Sentences.{Expr, Stmt, import′, let′, expr′, Out, ok, no, andThen, mostSteps, mostLists, is, isName, ended, importAt, program}
 use Rattle.language.specs.Grammar.{isStep}
-use Rattle.language.specs.Bounds.{exprIn, listIn, wholeIn, letIn, stmtIn, stmtsIn, programIn, alone, reached, BoundsMet, AloneStops, EarlierDecides, AsAlone, OneTooMany}
+use Rattle.language.specs.Bounds.{wholeIn, letIn, stmtIn, stmtsIn, programIn, alone, reached, AloneStops, EarlierDecides, AsAlone, OneTooMany}
 use Rattle.language.proofs.Tests.{never, either, both-sides}
-use Rattle.language.proofs.SentenceOutcomes.{same-then, before-end}
-use Rattle.language.proofs.GrammarSound.{found-stmt}
+use Rattle.language.proofs.SentenceOutcomes.{before-end}
+use Rattle.language.proofs.BoundsMet.{bounds-met}
 use Rattle.language.proofs.BoundsPlaces.{ended-on, stmts-on}
 use Rattle.language.proofs.BoundsFreer.{Freer, same, refused, stopped, Any, onward, whole-freer}
 
@@ -106,30 +106,6 @@ module _ (ts : List Content) where
     larger c d i j = elim (freed a b c d i j) [ inl f ↦ f | inr f ↦ absurd (not-passed (programIn ts c d) f) ]
 
 -- ---- the claims
-
--- with 01's bounds it is the grammar of Sentences.antt
-list-met : (ts : List Content) (d : ℕ) → listAt ts d ≡ listIn ts mostSteps d
-unfolding listAt listIn exprOf exprIn
-list-met ts zero = refl
-list-met ts (suc d) =
-    ap (λ (l : ℕ → Out Args). λ (at : ℕ). argsOf ts (exprIn ts mostSteps (chainOf ts l)) (suc (length ts)) none-given (at + 1))
-    (list-met ts d)
-
-stmt-met : (ts : List Content) (at : ℕ) → stmtAt ts at ≡ stmtIn ts mostLists mostSteps at
-unfolding stmtAt stmtIn letAt letIn exprOf exprIn
-stmt-met ts at = rw (list-met ts mostLists)
-
-stmts-met : (ts : List Content) (fuel : ℕ) (ss : List Stmt) (at : ℕ)
-    → stmtsFrom ts fuel ss at ≡ stmtsIn ts mostLists mostSteps fuel ss at
-unfolding stmtsFrom stmtsIn
-stmts-met ts zero ss at = refl
-stmts-met ts (suc fuel) ss at =
-    both-sides _≡_ (is ts at eof) (λ _. refl)
-    (λ _. rw (← stmt-met ts at) (same-then (found-stmt ts at) (λ s next x _. stmts-met ts fuel (ss ++ s ∷ []) next)))
-
-pub bounds-met : BoundsMet
-unfolding program programIn
-bounds-met ts = stmts-met ts (suc (length ts)) [] 0
 
 pub alone-stops : AloneStops
 alone-stops ts = (

@@ -11,7 +11,7 @@ use Rattle.language.specs.Sentences.{Expr, sock4, member, call, slash′
 use Rattle.language.specs.Grammar.{isStep}
 use Rattle.language.specs.Bounds.{exprIn, listIn, wholeIn}
 use Rattle.language.proofs.Tests.{both-sides}
-use Rattle.language.proofs.SentenceRefusals.{at-list, at-dot, at-slash}
+use Rattle.language.proofs.SentenceOutcomes.{at-list, at-dot, at-slash}
 use Rattle.language.proofs.BoundsPlaces.{On, halted, either, both, links-on, chain-on, slashes-on, args-on, list-on, list-past, whole-on}
 
 -- the steps that are left are less than with larger bounds, and no more than there were

@@ -36,6 +36,7 @@ pub mod Done
 pub mod SentenceExamples
 pub mod SentenceOutcomes
 pub mod GrammarSound
+pub mod BoundsMet
 pub mod GrammarPlaces
 pub mod SentenceUnfolds
 pub mod GrammarMet

@@ -1,16 +1,18 @@
 -- Outcomes that are no refusal, and tokens that are not past the end.
 use Prim.Native.Nat.{ℕ, _≤_, _<_}
 use mathlib.Core.Path.{_≡_, refl, sym, ap, _∙_}
-use mathlib.Core.Bool.{Bool, true, false, false≢true}
+use mathlib.Core.Bool.{Bool, true, false, false≢true, or-true}
 use mathlib.Core.List.{List}
 use native.Mathlib.Omega.{arith}
 use native.Mathlib.Decide.{decLt}
 use lib.Dec.{eqb}
 use lib.ListN.{length, List·getD-eq-default}
 use Rattle.language.specs.Choice.{if′}
-use Rattle.language.specs.Tokens.{Content, eof}
+use Rattle.language.specs.Lexemes.{lParen, dot, slash}
+use Rattle.language.specs.Tokens.{Content, eof, plain}
 use Rattle.language.specs.Tables.{contentKind}
 use Rattle.language.specs.Sentences.{Out, ok, no, andThen, is}
+use Rattle.language.specs.Grammar.{isStep}
 
 -- ---- what holds of every outcome that is no refusal
 
@@ -66,3 +68,14 @@ module _ (ts : List Content) where
   pub not-end : {at : ℕ} → is ts at eof ≡ false → at < length ts
   not-end {at} e =
       elim (decLt at (length ts)) [ Dec.yes h ↦ h | Dec.no h ↦ absurd (false≢true (sym e ∙ past eof (omega arith))) ]
+
+-- the three steps
+module _ (ts : List Content) (at : ℕ) where
+  pub at-dot : is ts at (plain dot) ≡ true → isStep ts at ≡ true
+  at-dot h = rw h
+
+  pub at-list : is ts at (plain lParen) ≡ true → isStep ts at ≡ true
+  at-list h = rw h (or-true (is ts at (plain dot)))
+
+  pub at-slash : is ts at (plain slash) ≡ true → isStep ts at ≡ true
+  at-slash h = rw (h, or-true (is ts at (plain lParen))) (or-true (is ts at (plain dot)))

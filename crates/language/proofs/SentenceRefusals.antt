@@ -1,7 +1,7 @@
 -- Where parsing stops and why: at an unexpected token, a port out of range, or a list or step too many, none past `Eof`.
 use Prim.Native.Nat.{ℕ, zero, suc, _+_, _≤_, _<_}
 use mathlib.Core.Path.{_≡_, refl, sym, ap, _∙_}
-use mathlib.Core.Bool.{Bool, true, false, false≢true, or-true}
+use mathlib.Core.Bool.{Bool, true, false, false≢true}
 use mathlib.Core.List.{List, [], _∷_, _++_}
 use mathlib.Core.Logic.{_⊎_, inl, inr}
 use native.Mathlib.Omega.{arith}
@@ -15,17 +15,7 @@ use Rattle.language.specs.Tables.{contentKind}
 use Rattle.language.specs.Sentences.{Expr, sock4, member, call, slash′, Args, none-given, Stmt, import′, let′, expr′, Port, port, tooLarge, notPort, portOf, Out, ok, no, andThen, unexpected, outOfRange, tooDeep, mostSteps, mostLists, is, isName, isLiteral, namesFrom, address, named′, primary, links, chainOf, slashes, exprOf, argOf, argsOf, listAt, exprAt, ended, importAt, letAt, stmtAt, stmtsFrom, program}
 use Rattle.language.specs.Grammar.{isPort, isStep, StopsAtStep}
 use Rattle.language.specs.Exactly.{Reason, unexpectedToken, intOutOfRange, oneTooMany, StopsFor}
-
--- the three steps
-module _ (ts : List Content) (at : ℕ) where
-  pub at-dot : is ts at (plain dot) ≡ true → isStep ts at ≡ true
-  at-dot h = rw h
-
-  pub at-list : is ts at (plain lParen) ≡ true → isStep ts at ≡ true
-  at-list h = rw h (or-true (is ts at (plain dot)))
-
-  pub at-slash : is ts at (plain slash) ≡ true → isStep ts at ≡ true
-  at-slash h = rw (h, or-true (is ts at (plain lParen))) (or-true (is ts at (plain dot)))
+use Rattle.language.proofs.SentenceOutcomes.{at-dot, at-list, at-slash}
 
 -- a refusal stands at e or before and has a reason: 7 stands at a step
 abbrev pub Refusal : List Content → ℕ → ℕ → ℕ → ℕ → Type 0
