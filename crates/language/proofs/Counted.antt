@@ -1,93 +1,143 @@
--- 7 is given exactly at the token that the plain count of lists and steps names.
+-- 7 is given exactly at the token that the plain count of lists and steps names: along the grammar the count keeps pace.
 use mathlib.Core.Path.{_≡_, refl, ap, _∙_}
 use mathlib.Core.Bool.{true}
-use mathlib.Core.List.{List, [], _∷_, _++_}
+use mathlib.Core.List.{List, []}
 use mathlib.Core.Logic.{inl, inr}
 use mathlib.Core.Option.{some}
-use Prim.Native.Nat.{ℕ, zero, suc, _+_, _<_}
+use Prim.Native.Nat.{ℕ, suc, _+_, _≤_, _<_}
 use native.Mathlib.Omega.{arith}
-use lib.ListN.{length}
-use Rattle.language.specs.Lexemes.{semiColon, equals, importKeyword, letKeyword}
-use Rattle.language.specs.Tokens.{Content, eof, plain}
-use Rattle.language.specs.Sentences.{Expr, Stmt, import′, let′, expr′, Out, ok, no, andThen, mostLists, is, isName, exprAt, ended, importAt, letAt, stmtAt, stmtsFrom, program}
+use borrow.Author.Tests.{eq-eqb}
+use lib.ListN.{getD}
+use Rattle.language.specs.Lexemes.{lParen, rParen, dot, doubleColon, colon, semiColon, equals, comma, slash, importKeyword, letKeyword, identifier, booleanLiteral, ipv4Literal, hexLiteral, decLiteral}
+use Rattle.language.specs.Tokens.{Content, eof, plain, name, string}
+use Rattle.language.specs.Tables.{contentKind}
+use Rattle.language.specs.Sentences.{Stmt, port, portOf, Out, ok, no, mostSteps, mostLists, is, isName, program}
+use Rattle.language.specs.Grammar.{isStep}
 use Rattle.language.specs.Bounds.{alone, reached}
 use Rattle.language.specs.Counted.{turn, tooMany, Counted, CountedInPrograms}
-use Rattle.language.proofs.Tests.{never, by-cases}
+use Rattle.language.proofs.Tests.{never, either}
+use Rattle.language.proofs.BoundsMet.{bounds-met}
 use Rattle.language.proofs.Bounds.{Passed, bounded}
-use Rattle.language.proofs.CountedTokens.{At, start, there, passed, after-semiColon, none-named, not-before}
-use Rattle.language.proofs.CountedGrammar.{Paced, found, refused, stopped, onward, Made, after-name, whole-paced}
+use Rattle.language.proofs.SentenceWalk.{Quiet, of-path, of-name, of-bool, of-string, of-hex, of-dec, of-quad, of-import, of-let, of-equals, not-kinds, Quad, Walk, Walked, found, refused, Over, program-walked}
+use Rattle.language.proofs.CountedTokens.{At, Passes, start, there, passed, opened, closed, dotted, slashed, after-comma, after-semiColon, list-named, lParen-named, dot-named, slash-named, none-named, not-before}
 
--- ---- statements: each starts with no step made, and no list open
+-- a port is a decimal token
+port-kind : (c : Content) → portOf c ≡ port → contentKind c ≡ 18
+port-kind (plain (decLiteral n)) e = refl
+port-kind eof e = never (cc)
+port-kind (plain lParen) e = never (cc)
+port-kind (plain rParen) e = never (cc)
+port-kind (plain dot) e = never (cc)
+port-kind (plain doubleColon) e = never (cc)
+port-kind (plain colon) e = never (cc)
+port-kind (plain semiColon) e = never (cc)
+port-kind (plain equals) e = never (cc)
+port-kind (plain comma) e = never (cc)
+port-kind (plain slash) e = never (cc)
+port-kind (plain importKeyword) e = never (cc)
+port-kind (plain letKeyword) e = never (cc)
+port-kind (plain identifier) e = never (cc)
+port-kind (plain (booleanLiteral b)) e = never (cc)
+port-kind (plain (ipv4Literal n)) e = never (cc)
+port-kind (plain (hexLiteral n)) e = never (cc)
+port-kind (name bs) e = never (cc)
+port-kind (string b bs) e = never (cc)
+
+-- tokens that change nothing
+quiet-passes : {c : Content} → Quiet c → Passes c
+unfolding turn
+quiet-passes of-path m o = refl
+quiet-passes of-name m o = refl
+quiet-passes of-bool m o = refl
+quiet-passes of-string m o = refl
+quiet-passes of-hex m o = refl
+quiet-passes of-dec m o = refl
+quiet-passes of-quad m o = refl
+quiet-passes of-import m o = refl
+quiet-passes of-let m o = refl
+quiet-passes of-equals m o = refl
+
+colon-passes : Passes (plain colon)
+unfolding turn
+colon-passes m o = refl
 
 module _ (ts : List Content) where
-  ended-paced : (s : Stmt) (at m : ℕ) → At ts at m [] → Paced ts (Made ts 0 []) (ended ts s at)
-  ended-paced s at m h =
-      by-cases (Paced ts (Made ts 0 [])) (is ts at (plain semiColon)) (λ q. found (after-semiColon ts q h)) (λ _. refused h)
+  abbrev Here : ℕ → List ℕ → ℕ → Type 0
+  Here m o at = At ts at m o
 
-  -- an expression that becomes a statement
-  stmt-as : (f : Expr → Stmt) (at : ℕ) → At ts at 0 []
-      → Paced ts (Made ts 0 []) (andThen (exprAt ts mostLists at) (λ e next x. ended ts (f e) next))
-  stmt-as f at h = onward ts (whole-paced ts at h) (λ e next x i. ended-paced (f e) next (i .0) (i .1))
+  -- the count has come to a token that is refused with 5, and names the one that is refused with 7
+  data Counts : ℕ → ℕ → ℕ → Type 0 where
+    comes : {k at m : ℕ} {o : List ℕ} → At ts at m o → Counts 5 k at
+    names : {at : ℕ} → tooMany ts ≡ some at → Counts 7 0 at
 
-  import-paced : (at : ℕ) → is ts at (plain importKeyword) ≡ true → At ts at 0 [] → Paced ts (Made ts 0 []) (importAt ts at)
-  unfolding importAt turn
-  import-paced at e h =
-      let i : At ts (at + 1) 0 [] = passed ts (plain importKeyword) e h refl (λ m o. refl) in
-      by-cases (Paced ts (Made ts 0 [])) (isName ts (at + 1))
-      (λ q. ended-paced (import′ (at + 1)) (at + 2) 0 (there ts (omega arith) (after-name ts q i))) (λ _. refused i)
+  quiet : {c : Content} {m at : ℕ} {o : List ℕ} → Quiet c → Here m o at → is ts at c ≡ true → Here m o (at + 1)
+  quiet {c} q h e = passed ts c e h (not-kinds q .0) (quiet-passes q)
 
-  let-paced : (at : ℕ) → is ts at (plain letKeyword) ≡ true → At ts at 0 [] → Paced ts (Made ts 0 []) (letAt ts at)
-  unfolding letAt turn
-  let-paced at e h =
-      let i : At ts (at + 1) 0 [] = passed ts (plain letKeyword) e h refl (λ m o. refl) in
-      by-cases (Paced ts (Made ts 0 [])) (isName ts (at + 1))
-      (λ q. let j : At ts (at + 2) 0 [] = there ts (omega arith) (after-name ts q i) in
-      by-cases (Paced ts (Made ts 0 [])) (is ts (at + 2) (plain equals))
-      (λ p. stmt-as (λ r. let′ (at + 1) r) (at + 3) (there ts (omega arith) (passed ts (plain equals) p j refl (λ m o. refl))))
-      (λ _. refused j))
-      (λ _. refused i)
+  -- a token, and a `:`
+  with-colon : {c : Content} {m at : ℕ} {o : List ℕ} → Quiet c → Here m o at → is ts at c ≡ true → is ts (at + 1) (plain colon) ≡ true
+      → Here m o (at + 2)
+  with-colon q h e f = there ts (omega arith) (passed ts (plain colon) f (quiet q h e) refl colon-passes)
 
-  stmt-paced : (at : ℕ) → At ts at 0 [] → Paced ts (Made ts 0 []) (stmtAt ts at)
-  unfolding stmtAt
-  stmt-paced at h =
-      by-cases (Paced ts (Made ts 0 [])) (is ts at (plain importKeyword)) (λ e. import-paced at e h)
-      (λ _. by-cases (Paced ts (Made ts 0 [])) (is ts at (plain letKeyword)) (λ e. let-paced at e h)
-      (λ _. stmt-as (λ r. expr′ r) at h))
+  a-port : {m at : ℕ} {o : List ℕ} → Here m o at → Quad ts at port → Here m o (at + 3)
+  a-port {m} {at} {o} h q =
+      let c = getD ts (at + 2) eof in
+      let k : is ts (at + 2) (plain (decLiteral 0)) ≡ true = eq-eqb (contentKind c) 18 (port-kind c (q .there)) in
+      there ts (omega arith) (quiet of-dec (with-colon of-quad h (q .quad) (q .colons)) k)
 
-  -- a program ends at `Eof`
-  abbrev Over : ℕ → ℕ → Type 0
-  Over at s = (is ts at eof ≡ true) × At ts at 0 []
+  step-more : {m at : ℕ} {o : List ℕ} → Here m o at → mostSteps ≤ m → isStep ts at ≡ true → Counts 7 0 at
+  step-more {at = at} h l e =
+      elim (either (is ts at (plain dot)) _ e) [
+        | inl a ↦ names (dot-named ts a l h)
+        | inr b ↦ elim (either (is ts at (plain lParen)) _ b) [
+          | inl a ↦ names (lParen-named ts a l h)
+          | inr a ↦ names (slash-named ts a l h)
+        ]
+      ]
 
-  stmts-paced : (fuel : ℕ) (ss : List Stmt) (at : ℕ) → At ts at 0 [] → Paced ts Over (stmtsFrom ts fuel ss at)
-  unfolding stmtsFrom
-  stmts-paced zero ss at h = refused h
-  stmts-paced (suc fuel) ss at h =
-      by-cases (Paced ts Over) (is ts at eof) (λ e. found (e, h))
-      (λ _. onward ts (stmt-paced at h) (λ s next x i. stmts-paced fuel (ss ++ s ∷ []) next i))
+  walk : Walk ts mostLists mostSteps (Unit {0}) Here Counts
+  walk = record {
+    quiet = quiet;
+    named-one = λ h n q. with-colon of-name h n q;
+    a-port = a-port;
+    dotted = λ h l q. dotted ts q (l tt) h;
+    slashed = λ h l q. slashed ts q (l tt) h;
+    opened = λ h l k q. opened ts q (l tt) (k tt) h;
+    closed = λ h q. closed ts q h;
+    after-comma = λ h q. after-comma ts q h;
+    after-semiColon = λ h q. after-semiColon ts q h;
+    not-expected = λ h. comes h;
+    no-port = λ h q. comes (with-colon of-quad h (q .quad) (q .colons));
+    large-port = λ h q. comes (with-colon of-quad h (q .quad) (q .colons));
+    step-more = λ h l q. step-more h (l tt) q;
+    list-more = λ h l q. names (list-named ts q (l tt) h);
+    turns-out = λ h f. absurd (f tt);
+  }
 
-  program-paced : Paced ts Over (program ts)
-  unfolding program
-  program-paced = stmts-paced (suc (length ts)) [] 0 (start ts)
+  abbrev Paced : Out (List Stmt) → Type 0
+  Paced o = Walked ts mostLists mostSteps (Unit {0}) Here Counts (Over ts mostLists mostSteps (Unit {0}) Here Counts) o
+
+  program-paced : Paced (program ts)
+  program-paced = rw (bounds-met ts) (program-walked ts mostLists mostSteps (Unit {0}) Here Counts walk (start ts))
 
   -- ---- so 7 is given at the token that is named
 
   module _ (u : ℕ) where
-    seven-named : {o : Out (List Stmt)} → Paced ts Over o → o ≡ no 7 0 u → tooMany ts ≡ some u
+    seven-named : {o : Out (List Stmt)} → Paced o → o ≡ no 7 0 u → tooMany ts ≡ some u
     seven-named (found h) e = never (cc)
-    seven-named (refused h) e = let z : _≡_ {A = ℕ} 5 7 = cc in absurd (omega (arith, z))
-    seven-named (stopped {at} h) e = let z : at ≡ u = cc in h ∙ ap (λ (x : ℕ). some x) z
+    seven-named (refused (comes h)) e = let z : _≡_ {A = ℕ} 5 7 = cc in absurd (omega (arith, z))
+    seven-named (refused (names {at} h)) e = let z : at ≡ u = cc in h ∙ ap (λ (x : ℕ). some x) z
 
     -- a token that is named and that parsing has come past is the one that is refused
-    past-named : {o : Out (List Stmt)} → Paced ts Over o → tooMany ts ≡ some u → u < reached o → o ≡ no 7 0 u
+    past-named : {o : Out (List Stmt)} → Paced o → tooMany ts ≡ some u → u < reached o → o ≡ no 7 0 u
     past-named (found h) e l = absurd (omega (arith, not-before ts e (h .1)))
-    past-named (refused h) e l = absurd (omega (arith, not-before ts e h))
-    past-named (stopped {at} h) e l = let z : at ≡ u = cc in ap (λ (x : ℕ). no 7 0 x) z
+    past-named (refused (comes h)) e l = absurd (omega (arith, not-before ts e h))
+    past-named (refused (names {at} h)) e l = let z : at ≡ u = cc in ap (λ (x : ℕ). no 7 0 x) z
 
     -- where there is no refusal no token is named
-    never-named : {o : Out (List Stmt)} → Paced ts Over o → tooMany ts ≡ some u → (ss : List Stmt) (next x : ℕ) → ¬ o ≡ ok ss next x
+    never-named : {o : Out (List Stmt)} → Paced o → tooMany ts ≡ some u → (ss : List Stmt) (next x : ℕ) → ¬ o ≡ ok ss next x
     never-named (found h) e ss next x f = let z = none-named ts (h .0) (h .1) in never (cc)
-    never-named (refused h) e ss next x f = never (cc)
-    never-named (stopped h) e ss next x f = never (cc)
+    never-named (refused (comes h)) e ss next x f = never (cc)
+    never-named (refused (names h)) e ss next x f = never (cc)
 
   -- where the grammar alone goes past the token that is refused, it is the one that is named
   stopped-named : (u : ℕ) → Passed ts (program ts) (alone ts) → tooMany ts ≡ some u → program ts ≡ no 7 0 u

@@ -37,6 +37,7 @@ pub mod SentenceExamples
 pub mod SentenceOutcomes
 pub mod GrammarSound
 pub mod BoundsMet
+pub mod SentenceWalk
 pub mod GrammarPlaces
 pub mod SentenceUnfolds
 pub mod GrammarMet
@@ -54,7 +55,6 @@ pub mod Bounds
 pub mod Follows
 pub mod GrammarStops
 pub mod CountedTokens
-pub mod CountedGrammar
 pub mod Counted
 pub mod DistinctNames
 pub mod Names
