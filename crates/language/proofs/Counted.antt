@@ -16,9 +16,8 @@ use Rattle.language.specs.Grammar.{isStep}
 use Rattle.language.specs.Bounds.{alone, reached}
 use Rattle.language.specs.Counted.{turn, tooMany, Counted, CountedInPrograms}
 use Rattle.language.proofs.Tests.{never, either}
-use Rattle.language.proofs.BoundsMet.{bounds-met}
 use Rattle.language.proofs.Bounds.{Passed, bounded}
-use Rattle.language.proofs.SentenceWalk.{Quiet, of-path, of-name, of-bool, of-string, of-hex, of-dec, of-quad, of-import, of-let, of-equals, not-kinds, Quad, Walk, Walked, found, refused, Over, program-walked}
+use Rattle.language.proofs.SentenceWalk.{Quiet, of-path, of-name, of-bool, of-string, of-hex, of-dec, of-quad, of-import, of-let, of-equals, not-kinds, Quad, Walk, found, refused, Told, program-told}
 use Rattle.language.proofs.CountedTokens.{At, Passes, start, there, passed, opened, closed, dotted, slashed, after-comma, after-semiColon, list-named, lParen-named, dot-named, slash-named, none-named, not-before}
 
 -- a port is a decimal token
@@ -114,10 +113,10 @@ module _ (ts : List Content) where
   }
 
   abbrev Paced : Out (List Stmt) → Type 0
-  Paced o = Walked ts mostLists mostSteps (Unit {0}) Here Counts (Over ts mostLists mostSteps (Unit {0}) Here Counts) o
+  Paced o = Told ts Here Counts walk (start ts) o
 
   program-paced : Paced (program ts)
-  program-paced = rw (bounds-met ts) (program-walked ts mostLists mostSteps (Unit {0}) Here Counts walk (start ts))
+  program-paced = program-told ts Here Counts walk (start ts)
 
   -- ---- so 7 is given at the token that is named
 

@@ -38,6 +38,7 @@ pub mod SentenceOutcomes
 pub mod GrammarSound
 pub mod BoundsMet
 pub mod SentenceWalk
+pub mod SentenceRefusals
 pub mod GrammarPlaces
 pub mod SentenceUnfolds
 pub mod GrammarMet
@@ -47,7 +48,6 @@ pub mod NodeClaims
 pub mod NodeCalls
 pub mod RowClaims
 pub mod ParseClaims
-pub mod SentenceRefusals
 pub mod PortKinds
 pub mod BoundsPlaces
 pub mod BoundsFreer

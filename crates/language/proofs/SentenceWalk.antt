@@ -12,11 +12,12 @@ use lib.ListN.{length, getD}
 use Rattle.language.specs.Lexemes.{lParen, rParen, dot, doubleColon, colon, semiColon, equals, comma, slash, importKeyword, letKeyword, booleanLiteral, ipv4Literal, hexLiteral, decLiteral}
 use Rattle.language.specs.Tokens.{Content, eof, plain, name, string}
 use Rattle.language.specs.Tables.{contentKind}
-use Rattle.language.specs.Sentences.{Expr, sock4, member, call, slash′, Args, none-given, given, named, Stmt, import′, let′, expr′, Port, port, tooLarge, notPort, portOf, Out, ok, no, andThen, unexpected, outOfRange, is, isName, isLiteral, namesFrom, address, named′, primary, links, chainOf, slashes, argOf, argsOf, ended, importAt}
+use Rattle.language.specs.Sentences.{Expr, sock4, member, call, slash′, Args, none-given, given, named, Stmt, import′, let′, expr′, Port, port, tooLarge, notPort, portOf, Out, ok, no, andThen, unexpected, outOfRange, mostSteps, mostLists, is, isName, isLiteral, namesFrom, address, named′, primary, links, chainOf, slashes, argOf, argsOf, ended, importAt, program}
 use Rattle.language.specs.Grammar.{isStep}
 use Rattle.language.specs.Bounds.{exprIn, listIn, wholeIn, letIn, stmtIn, stmtsIn, programIn}
 use Rattle.language.proofs.Tests.{either, by-cases}
 use Rattle.language.proofs.SentenceOutcomes.{at-dot, at-list, at-slash}
+use Rattle.language.proofs.BoundsMet.{bounds-met}
 
 -- the tokens that no list or step, no expression and no statement begins or ends with: all that is known of them is their kind
 pub data Quiet : Content → Type 0 where
@@ -306,3 +307,26 @@ module _ (ts : List Content) (lists steps : ℕ) (Sure : Type 0) (Here : ℕ →
     pub program-walked : Here 0 [] 0 → Walked Over (programIn ts lists steps)
     unfolding programIn
     program-walked h = stmts-walked (suc (length ts)) [] 0 h
+
+-- ---- a program within 01's bounds
+
+-- what holds at its start, and is kept, holds at its end, and of its refusal
+module _ (ts : List Content) (Here : ℕ → List ℕ → ℕ → Type 0) (Refused : ℕ → ℕ → ℕ → Type 0)
+    (w : Walk ts mostLists mostSteps (Unit {0}) Here Refused) (start : Here 0 [] 0) where
+  abbrev pub Told : Out (List Stmt) → Type 0
+  Told o = Walked ts mostLists mostSteps (Unit {0}) Here Refused (Over ts mostLists mostSteps (Unit {0}) Here Refused) o
+
+  pub program-told : Told (program ts)
+  program-told = rw (bounds-met ts) (program-walked ts mostLists mostSteps (Unit {0}) Here Refused w start)
+
+  pub at-end : {ss : List Stmt} {next x : ℕ} → program ts ≡ ok ss next x → Here 0 [] next
+  at-end {ss} {next} {x} e = by (rw e at program-told)
+    where
+      by : Told (ok ss next x) → Here 0 [] next
+      by (found h) = h .1
+
+  pub at-refusal : {n k t : ℕ} → program ts ≡ no n k t → Refused n k t
+  at-refusal {n} {k} {t} e = by (rw e at program-told)
+    where
+      by : Told (no n k t) → Refused n k t
+      by (refused h) = h
