@@ -1,17 +1,17 @@
 -- 7 is given exactly at the token that the plain count of lists and steps names: along the grammar the count keeps pace.
 use mathlib.Core.Path.{_≡_, refl, ap, _∙_}
 use mathlib.Core.Bool.{true}
-use mathlib.Core.List.{List, []}
+use mathlib.Core.List.{List}
 use mathlib.Core.Logic.{inl, inr}
 use mathlib.Core.Option.{some}
-use Prim.Native.Nat.{ℕ, suc, _+_, _≤_, _<_}
+use Prim.Native.Nat.{ℕ, _+_, _≤_, _<_}
 use native.Mathlib.Omega.{arith}
 use borrow.Author.Tests.{eq-eqb}
 use lib.ListN.{getD}
 use Rattle.language.specs.Lexemes.{lParen, rParen, dot, doubleColon, colon, semiColon, equals, comma, slash, importKeyword, letKeyword, identifier, booleanLiteral, ipv4Literal, hexLiteral, decLiteral}
 use Rattle.language.specs.Tokens.{Content, eof, plain, name, string}
 use Rattle.language.specs.Tables.{contentKind}
-use Rattle.language.specs.Sentences.{Stmt, port, portOf, Out, ok, no, mostSteps, mostLists, is, isName, program}
+use Rattle.language.specs.Sentences.{Stmt, port, portOf, Out, ok, no, mostSteps, mostLists, is, program}
 use Rattle.language.specs.Grammar.{isStep}
 use Rattle.language.specs.Bounds.{alone, reached}
 use Rattle.language.specs.Counted.{turn, tooMany, Counted, CountedInPrograms}

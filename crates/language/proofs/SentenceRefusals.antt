@@ -11,7 +11,7 @@ use lib.ListN.{length, getD, List·getD-eq-default}
 use Rattle.language.specs.Lexemes.{lParen, rParen, dot, colon, semiColon, comma, slash, ipv4Literal}
 use Rattle.language.specs.Tokens.{Content, eof, plain, name}
 use Rattle.language.specs.Tables.{contentKind}
-use Rattle.language.specs.Sentences.{Stmt, Port, port, portOf, ok, no, mostSteps, mostLists, is, isName, program}
+use Rattle.language.specs.Sentences.{Stmt, Port, port, portOf, ok, no, mostSteps, mostLists, is, program}
 use Rattle.language.specs.Grammar.{isPort, isStep, StopsAtStep}
 use Rattle.language.specs.Exactly.{Reason, unexpectedToken, intOutOfRange, oneTooMany, StopsFor}
 use Rattle.language.proofs.SentenceOutcomes.{at-list}

@@ -19,7 +19,7 @@ use Rattle.language.proofs.Tests.{either, by-cases}
 use Rattle.language.proofs.SentenceOutcomes.{at-dot, at-list, at-slash}
 use Rattle.language.proofs.BoundsMet.{bounds-met}
 
--- the tokens that no list or step, no expression and no statement begins or ends with: all that is known of them is their kind
+-- the tokens that make no step, open or close no list and end nothing, but for `:`
 pub data Quiet : Content → Type 0 where
   of-path : Quiet (plain doubleColon)
   of-name : Quiet (name [])
@@ -51,7 +51,8 @@ pub record Quad (ts : List Content) (at : ℕ) (p : Port) : Type 0 where
   pub colons : is ts (at + 1) (plain colon) ≡ true
   pub there : portOf (getD ts (at + 2) eof) ≡ p
 
--- the bounds; `Sure` where it is asked that the steps are counted right
+-- within any bounds. `Sure` is what makes the count of steps sure: a property that needs no count leaves it impossible, and may
+-- then be asked of parts with any turns and steps.
 module _ (ts : List Content) (lists steps : ℕ) (Sure : Type 0) (Here : ℕ → List ℕ → ℕ → Type 0) (Refused : ℕ → ℕ → ℕ → Type 0) where
   -- what is to be shown of single tokens
   pub record Walk : Type 0 where
