@@ -49,7 +49,7 @@ pub mod ParseClaims
 pub mod SentenceRefusals
 pub mod PortKinds
 pub mod BoundsPlaces
-pub mod BoundsFreer
+pub mod Twins
 pub mod Bounds
 pub mod Follows
 pub mod GrammarStops
