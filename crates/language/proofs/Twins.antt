@@ -18,9 +18,9 @@ use Rattle.language.proofs.Tests.{both-sides}
 use Rattle.language.proofs.SentenceOutcomes.{before-end, not-end, at-list, at-dot, at-slash}
 use Rattle.language.proofs.BoundsPlaces.{On, found, halted, either, both, names-on, links-on, chain-on, slashes-on, args-on, list-on, list-past, whole-on, ended-on, stmts-on}
 
--- ---- what is known where both found the same: of the next token, and of the steps that are left
+-- ---- what is known where both find the same: of the next token, and of the steps that are left in the first and in the second
 
-abbrev pub Any : ℕ → ℕ → ℕ → Type 0
+abbrev Any : ℕ → ℕ → ℕ → Type 0
 Any at s r = Unit {0}
 
 abbrev pub Equal : ℕ → ℕ → ℕ → Type 0
@@ -29,13 +29,13 @@ Equal at s r = s ≡ r
 abbrev After : ℕ → ℕ → ℕ → ℕ → Type 0
 After u at s r = u < at
 
--- fewer steps are left in the first run, and in each fewer than so many
+-- fewer are left in the first, fewer than i; and fewer than j in the second
 record Left (i j at s r : ℕ) : Type 0 where
   fewer : s < r
-  first-less : s < i
-  second-less : r < j
+  within : s < i
+  also-within : r < j
 
--- ---- a run goes on
+-- ---- a run goes on, also past t (BoundsPlaces.antt)
 
 abbrev Goes : {A B : Type 0} → (A → ℕ → ℕ → Out B) → Type 0
 Goes f = (m : ℕ) (a : _) (at s : ℕ) → m ≤ at → On m (f a at s)
@@ -61,6 +61,7 @@ module _ (ts : List Content) (d n : ℕ) where
 -- ---- two outcomes
 
 module _ (ts : List Content) where
+  -- the same value (P says what is known of it) or the same 5; or there was a step too many, and it is passed
   pub data Freer {A : Type 0} (P : ℕ → ℕ → ℕ → Type 0) : Out A → Out A → Type 0 where
     same : {a : A} {at s r : ℕ} → P at s r → Freer P (ok a at s) (ok a at r)
     refused : {k at : ℕ} → Freer P (no 5 k at) (no 5 k at)
@@ -76,7 +77,7 @@ module _ (ts : List Content) where
   no-then (stopped {at} e h) f = stopped e (both h (f (suc at)))
 
 module _ (ts us : List Content) (t : ℕ) (shared : (i : ℕ) → i ≤ t → getD us i eof ≡ getD ts i eof) where
-  -- the first stands at the token m or after it
+  -- the first stands at the token m or after it, and where it does not stand past t the second is as it, or freer
   pub record Twin {A : Type 0} (m : ℕ) (P : ℕ → ℕ → ℕ → Type 0) (o q : Out A) : Type 0 where
     pub reaches : m ≤ reached o
     pub agrees : reached o ≤ t → Freer ts P o q
@@ -94,11 +95,11 @@ module _ (ts us : List Content) (t : ℕ) (shared : (i : ℕ) → i ≤ t → ge
     later : {n : ℕ} {o q : Out A} → m ≤ n → Twin n P o q → Twin m P o q
     later h i = record { reaches = omega (arith, i .reaches); agrees = i .agrees }
 
-    -- what is not past t is asked only where m is not
+    -- past t nothing is asked but that the first goes on
     ahead : {n : ℕ} {o q : Out A} → m ≤ n → On n o → (n ≤ t → Twin n P o q) → Twin m P o q
     ahead h on i = record { reaches = omega (arith, on .reaches); agrees = λ l. i (omega (arith, on .reaches)) .agrees l }
 
-    -- what comes of a token that is no later than m is the same on both lists
+    -- a token that is no later than m is the same on both lists, where that is asked
     reads : {o : Out A} (at : ℕ) (f : Content → Out A) → at ≤ m → Twin m P o (f (getD ts at eof)) → Twin m P o (f (getD us at eof))
     reads at f h i = record { reaches = i .reaches; agrees = λ l. rw (shared at (omega (arith, i .reaches))) (i .agrees l) }
 
@@ -110,7 +111,7 @@ module _ (ts us : List Content) (t : ℕ) (shared : (i : ℕ) → i ≤ t → ge
   test : {A : Type 0} {P : ℕ → ℕ → ℕ → Type 0} {m : ℕ} (c : Content) (at : ℕ) {o q x y : Out A} → m ≤ at
       → (is ts at c ≡ true → Twin at P o x) → (is ts at c ≡ false → Twin at P q y)
       → Twin m P (if′ (is ts at c) o q) (if′ (is us at c) x y)
-  test c at h i j = later h (choose (λ z. eqb (contentKind z) (contentKind c)) at (omega arith) i j)
+  test c at h i j = later h (choose (λ z. is (z ∷ []) 0 c) at (omega arith) i j)
 
   onward : {A B : Type 0} {m : ℕ} {P Q : ℕ → ℕ → ℕ → Type 0} {o q : Out A} {f g : A → ℕ → ℕ → Out B} → Twin m P o q
       → ((a : A) (at s r : ℕ) → m ≤ at → at ≤ t → P at s r → Twin at Q (f a at s) (g a at r))
@@ -125,14 +126,15 @@ module _ (ts us : List Content) (t : ℕ) (shared : (i : ℕ) → i ≤ t → ge
       }
   onward {o = no n k at} h i f g = record { reaches = h .reaches; agrees = λ l. no-then ts (h .agrees l) g }
 
-  -- ---- turns: there are enough in both runs
+  -- ---- turns: each run has one for each token that is left
 
   record Enough (f g at : ℕ) : Type 0 where
-    first : 0 < f
-    second : 0 < g
-    first-all : length ts < at + f
-    second-all : length us < at + g
+    turn : 0 < f
+    also-turn : 0 < g
+    turns : length ts < at + f
+    also-turns : length us < at + g
 
+  -- a token that is not `Eof` is inside of both
   inner : {i : ℕ} (c : Content) → eqb 1 (contentKind c) ≡ false → is ts i c ≡ true → i ≤ t → (i < length ts) × (i < length us)
   inner {i} c k e l = (before-end ts c k e, before-end us c k (rw (shared i l) e))
 
