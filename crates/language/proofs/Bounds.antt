@@ -1,66 +1,22 @@
 -- Between 5 and 7 the earlier token decides: what the bounds on lists and steps change, and where.
 use mathlib.Core.Path.{_≡_, refl, sym, ap, _∙_}
 use mathlib.Core.Bool.{true}
-use mathlib.Core.List.{List, [], _∷_, _++_}
+use mathlib.Core.List.{List}
 use mathlib.Core.Logic.{_⊎_, inl, inr}
 use Prim.Native.Nat.{ℕ, zero, suc, _+_, _≤_, _<_}
 use native.Mathlib.Omega.{arith}
 use lib.ListN.{length}
-use Rattle.language.specs.Lexemes.{lParen, dot, slash, semiColon, equals, importKeyword, letKeyword}
-use Rattle.language.specs.Tokens.{Content, eof, plain}
-use Rattle.language.specs.Sentences.{Expr, Stmt, import′, let′, expr′, Out, ok, no, andThen, mostSteps, mostLists, is, isName, ended, importAt, program}
+use Rattle.language.specs.Lexemes.{lParen, dot, slash}
+use Rattle.language.specs.Tokens.{Content, plain}
+use Rattle.language.specs.Sentences.{Stmt, Out, ok, no, mostSteps, mostLists, is, program}
 use Rattle.language.specs.Grammar.{isStep}
-use Rattle.language.specs.Bounds.{wholeIn, letIn, stmtIn, stmtsIn, programIn, alone, reached, AloneStops, EarlierDecides, AsAlone, OneTooMany}
-use Rattle.language.proofs.Tests.{never, either, both-sides}
+use Rattle.language.specs.Bounds.{programIn, alone, reached, AloneStops, EarlierDecides, AsAlone, OneTooMany}
+use Rattle.language.proofs.Tests.{never, either}
 use Rattle.language.proofs.SentenceOutcomes.{before-end}
 use Rattle.language.proofs.BoundsMet.{bounds-met}
-use Rattle.language.proofs.BoundsPlaces.{ended-on, stmts-on}
-use Rattle.language.proofs.BoundsFreer.{Freer, same, refused, stopped, Any, onward, whole-freer}
+use Rattle.language.proofs.Twins.{Equal, Freer, same, refused, stopped, program-twin}
 
--- ---- larger bounds, for statements
-
-module _ (ts : List Content) (d e n k : ℕ) (lists : d < e) (steps : n < k) where
-  ended-freer : (s : Stmt) (at : ℕ) → Freer ts Any (ended ts s at) (ended ts s at)
-  ended-freer s at = both-sides (Freer ts Any) (is ts at (plain semiColon)) (λ _. same tt) (λ _. refused)
-
-  import-freer : (at : ℕ) → Freer ts Any (importAt ts at) (importAt ts at)
-  unfolding importAt
-  import-freer at =
-      both-sides (Freer ts Any) (isName ts (at + 1)) (λ _. ended-freer (import′ (at + 1)) (at + 2)) (λ _. refused)
-
-  -- an expression that becomes a statement
-  stmt-as : (f : Expr → Stmt) (at : ℕ)
-      → Freer ts Any (andThen (wholeIn ts d n at) (λ r next x. ended ts (f r) next))
-      (andThen (wholeIn ts e k at) (λ r next x. ended ts (f r) next))
-  stmt-as f at =
-      onward ts (whole-freer ts n k steps d e at lists) (λ r next x y _. ended-freer (f r) next) (λ m r next x h. ended-on ts m (f r) next h)
-
-  let-freer : (at : ℕ) → Freer ts Any (letIn ts d n at) (letIn ts e k at)
-  unfolding letIn
-  let-freer at =
-      both-sides (Freer ts Any) (isName ts (at + 1))
-      (λ _. both-sides (Freer ts Any) (is ts (at + 2) (plain equals)) (λ _. stmt-as (λ r. let′ (at + 1) r) (at + 3)) (λ _. refused))
-      (λ _. refused)
-
-  stmt-freer : (at : ℕ) → Freer ts Any (stmtIn ts d n at) (stmtIn ts e k at)
-  unfolding stmtIn
-  stmt-freer at =
-      both-sides (Freer ts Any) (is ts at (plain importKeyword)) (λ _. import-freer at)
-      (λ _. both-sides (Freer ts Any) (is ts at (plain letKeyword)) (λ _. let-freer at) (λ _. stmt-as (λ r. expr′ r) at))
-
-  stmts-freer : (fuel : ℕ) (ss : List Stmt) (at : ℕ) → Freer ts _≡_ (stmtsIn ts d n fuel ss at) (stmtsIn ts e k fuel ss at)
-  unfolding stmtsIn
-  stmts-freer zero ss at = refused
-  stmts-freer (suc fuel) ss at =
-      both-sides (Freer ts _≡_) (is ts at eof) (λ _. same refl)
-      (λ _. onward ts (stmt-freer at) (λ s next x y _. stmts-freer fuel (ss ++ s ∷ []) next)
-      (λ m s next x h. stmts-on ts m e k fuel (ss ++ s ∷ []) next h))
-
-  program-freer : Freer ts _≡_ (programIn ts d n) (programIn ts e k)
-  unfolding programIn
-  program-freer = stmts-freer (suc (length ts)) [] 0
-
--- ---- so a program comes to the same, and not to 7; or there is a step too many, and it is passed
+-- ---- a program comes to the same, and not to 7; or there is a step too many, and it is passed
 
 module _ (ts : List Content) where
   abbrev pub Same : Out (List Stmt) → Out (List Stmt) → Type 0
@@ -69,13 +25,13 @@ module _ (ts : List Content) where
   abbrev pub Passed : Out (List Stmt) → Out (List Stmt) → Type 0
   Passed o q = (u : ℕ) × (o ≡ no 7 0 u) × (isStep ts u ≡ true) × (u < reached q)
 
-  told : {o q : Out (List Stmt)} → Freer ts _≡_ o q → Same o q ⊎ Passed o q
-  told (same {a} {at} {s} {t} h) = inl (ap (λ (x : ℕ). ok a at x) h, λ n k u e. never (cc))
+  pub told : {o q : Out (List Stmt)} → Freer ts Equal o q → Same o q ⊎ Passed o q
+  told (same {a} {at} h) = inl (ap (λ (x : ℕ). ok a at x) h, λ n k u e. never (cc))
   told refused = inl (refl, λ n k t e. cc)
   told (stopped {at} e h) = inr (at, refl, e, h .reaches)
 
   freed : (a b c d : ℕ) → a < c → b < d → Same (programIn ts a b) (programIn ts c d) ⊎ Passed (programIn ts a b) (programIn ts c d)
-  freed a b c d h l = told (program-freer ts a c b d h l)
+  freed a b c d h l = told (program-twin ts ts (reached (programIn ts a b)) (λ i _. refl) a c b d h l .agrees (omega arith))
 
   inside : (u : ℕ) → isStep ts u ≡ true → u < length ts
   inside u e =

@@ -50,7 +50,7 @@ pub mod RowClaims
 pub mod ParseClaims
 pub mod PortKinds
 pub mod BoundsPlaces
-pub mod BoundsFreer
+pub mod Twins
 pub mod Bounds
 pub mod Follows
 pub mod GrammarStops
