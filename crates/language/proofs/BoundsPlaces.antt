@@ -14,6 +14,9 @@ use Rattle.language.proofs.SentenceWalk.{Walk, Walked, found, refused, 
 pub record On {A : Type 0} (m : ℕ) (o : Out A) : Type 0 where
   pub reaches : m ≤ reached o
 
+pub went : {A : Type 0} {a : A} {m at s : ℕ} → m ≤ at → On m (ok a at s)
+went h = record { reaches = h }
+
 pub halted : {A : Type 0} {m n k at : ℕ} → m ≤ at → On {A = A} m (no n k at)
 halted h = record { reaches = h }
 

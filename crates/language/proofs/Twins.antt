@@ -16,7 +16,7 @@ use Rattle.language.specs.Grammar.{isStep}
 use Rattle.language.specs.Bounds.{exprIn, listIn, wholeIn, letIn, stmtIn, stmtsIn, programIn, reached}
 use Rattle.language.proofs.Tests.{both-sides}
 use Rattle.language.proofs.SentenceOutcomes.{before-end, not-end, at-list, at-dot, at-slash}
-use Rattle.language.proofs.BoundsPlaces.{On, found, halted, either, both, names-on, links-on, chain-on, slashes-on, args-on, list-on, list-past, whole-on, ended-on, stmts-on}
+use Rattle.language.proofs.BoundsPlaces.{On, went, halted, either, both, names-on, links-on, chain-on, slashes-on, args-on, list-on, list-past, whole-on, ended-on, stmts-on}
 
 -- ---- what is known where both find the same: of the next token, and of the steps that are left in the first and in the second
 
@@ -56,7 +56,7 @@ module _ (ts : List Content) (d n : ℕ) where
       (if′ (is ts at (plain rParen)) (ok a (at + 1) 0) (unexpected at)))
   rest-go fuel m a at s h =
       either (is ts at (plain comma)) (args-on ts m (wholeIn ts d n) (whole-on ts m d n) fuel a (at + 1) (omega arith))
-      (either (is ts at (plain rParen)) (found (omega arith)) (halted h))
+      (either (is ts at (plain rParen)) (went (omega arith)) (halted h))
 
 -- ---- two outcomes
 
@@ -174,7 +174,7 @@ module _ (ts us : List Content) (t : ℕ) (shared : (i : ℕ) → i ≤ t → ge
       test (plain doubleColon) (at + 1) (omega arith)
       (λ _. onward (ahead (omega arith) (names-on ts (at + 1) (suc (length ts)) 0 (at + 1) s (omega arith))
       (λ l. names-twin (suc (length ts)) (suc (length us)) 0 (at + 1) s r l (omega arith)))
-      (λ n next x y _ _ _. alike (omega arith)) (λ m n next x h. found h) (λ m n next x h. found h))
+      (λ n next x y _ _ _. alike (omega arith)) (λ m n next x h. went h) (λ m n next x h. went h))
       (λ _. alike (omega arith))
 
   -- an expression's outcome stands at its first token or after it, and after it where that one is a name
@@ -259,7 +259,7 @@ module _ (ts us : List Content) (t : ℕ) (shared : (i : ℕ) → i ≤ t → ge
       arg-as : (f : Expr → Args) {m at : ℕ} → Begins m at
           → Twin m Any (andThen (wholeIn ts d n at) (λ x next s. ok (f x) next 0)) (andThen (wholeIn us e k at) (λ x next s. ok (f x) next 0))
       arg-as f {m} {at} b =
-          onward (whole-twin m at b) (λ x next s r _ _ _. alike (omega arith)) (λ m x next s h. found h) (λ m x next s h. found h)
+          onward (whole-twin m at b) (λ x next s r _ _ _. alike (omega arith)) (λ m x next s h. went h) (λ m x next s h. went h)
 
       arg-twin : (a : Args) (at : ℕ) → Twin at Any (argOf ts (wholeIn ts d n) a at) (argOf us (wholeIn us e k) a at)
       unfolding argOf
