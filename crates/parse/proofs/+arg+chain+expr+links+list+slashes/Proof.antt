@@ -1,10 +1,11 @@
--- The cycle of calls. Its measure is how many lists may still be opened, and within one list the order arg, expr, slashes,
--- chain, links, list. Each loop's invariant: how far it went, in numbers, and that what the definition gives from here on,
--- after the tree so far, is what it gives from the start. `links` and `slashes` measure their steps, `list` what is left of
--- the tokens.
+-- The cycle of calls. Its measure is what is left of the tokens, and at one token the order arg, expr, slashes, chain, links, list:
+-- a list goes on from the token after its `(`. Each loop's invariant: how far it went, in numbers, and that what the definition
+-- gives from here on, after the tree so far, is what it gives from the start. `links` and `slashes` measure their steps, `list`
+-- what is left of the tokens.
 use Prim.Native.Nat.{ℕ, suc, _+_, _-_, _*_, _≤_, _<_}
 use mathlib.Core.Path.{_≡_, refl, _∙_}
 use lib.ListN.{length}
+use Rattle.language.specs.Tables.{tokenWidth}
 use Rattle.language.specs.Sentences as grammar
 use Rattle.language.specs.Sentences.{Expr, Args, exprAt, chainAt, listAt, argsOf}
 use Rattle.parse.specs.Parsing.{isNamed, withExpr, withArgs, Stands, Lists, After, AfterExpr}
@@ -45,22 +46,22 @@ use Rattle.parse.proofs.+arg+chain+expr+links+list+slashes.{statement}
 use Rattle.parse.proofs.+arg+chain+expr+links+list+slashes.Tie.{close}
 
 abbrev μ-arg : Measures 2 arg-kinds.ps ℕ
-μ-arg κs a = 6 * a .1 .1 .1 .1 .0 + 5
+μ-arg κs a = 6 * (length (a .0 .now) - tokenWidth * a .1 .1 .0) + 5
 
 abbrev μ-chain : Measures 2 chain-kinds.ps ℕ
-μ-chain κs a = 6 * a .1 .1 .1 .1 .0 + 2
+μ-chain κs a = 6 * (length (a .0 .now) - tokenWidth * a .1 .1 .0) + 2
 
 abbrev μ-expr : Measures 2 expr-kinds.ps ℕ
-μ-expr κs a = 6 * a .1 .1 .1 .1 .0 + 4
+μ-expr κs a = 6 * (length (a .0 .now) - tokenWidth * a .1 .1 .0) + 4
 
 abbrev μ-links : Measures 2 links-kinds.ps ℕ
-μ-links κs a = 6 * a .1 .1 .0 .lists + 1
+μ-links κs a = 6 * (length (a .0 .now) - tokenWidth * a .1 .1 .1 .0) + 1
 
 abbrev μ-list : Measures 2 list-kinds.ps ℕ
-μ-list κs a = 6 * a .1 .1 .1 .1 .0
+μ-list κs a = 6 * (length (a .0 .now) - tokenWidth * a .1 .1 .0)
 
 abbrev μ-slashes : Measures 2 slashes-kinds.ps ℕ
-μ-slashes κs a = 6 * a .1 .1 .0 .lists + 3
+μ-slashes κs a = 6 * (length (a .0 .now) - tokenWidth * a .1 .1 .1 .0) + 3
 
 abbrev arg-at : ℕ → In 2 arg-kinds.ps
 arg-at t = and 2 arg-kinds.ps (is 2 arg-kinds.ps μ-arg t) arg.Pre
