@@ -14,8 +14,8 @@ use lib.ListN.{getD}
 use types.Run.{OneOf}
 use Rattle.language.specs.Choice.{within}
 use Rattle.language.specs.Utf8.{Range, to}
-use Rattle.language.specs.Lexemes.{inOne, isBlank, isWordStart, isBody, notNewline}
-use Rattle.language.proofs.Tests.{all, of-each, inside-test, outside-test}
+use Rattle.language.specs.Lexemes.{inOne, all, isBlank, isWordStart, isBody, notNewline}
+use Rattle.language.proofs.Tests.{of-each, inside-test, outside-test}
 
 -- ---- one of several numbers
 
