@@ -6,13 +6,14 @@ use Prim.Native.Nat.{ℕ, _+_, _-_, _≤_, _<_}
 use native.Mathlib.Decide.{decLt}
 use native.Mathlib.Omega.{arith}
 use borrow.Author.Tests.{lt-ltb, le-ltb}
-use lib.ListN.{length, getD, take, drop, length-take, length-drop, drop-of-length-le}
+use lib.ListN.{length, getD, take, drop, length-drop, drop-of-length-le}
 use lib.Seq.{drop-drop}
 use Rattle.language.specs.Lexemes as language
 use Rattle.language.specs.Lexemes.{Kind, trivia, str, tok, error, placed, scanFrom, lexeme}
 use Rattle.language.specs.Tokens.{lineAt, Piece, wrong, Item, unquoted, pieceOf, itemOf, Wrong, orElse, firstWrong, between}
 use Rattle.language.specs.Numbers as numbers
 use Rattle.language.proofs.Tests.{never}
+use Rattle.language.proofs.Parts.{part-size}
 use Rattle.language.proofs.LexemeSizes.{size-fits}
 use Rattle.language.proofs.LexemeSpans.{scan-unfolds}
 use Rattle.lexemes.specs.declared.LexErrorKind.{LexErrorKind}
@@ -221,7 +222,7 @@ module _ (x : Lexer) (t : List ℕ) (start : ℕ) (line : List ℕ) where
 
 module _ (source : List ℕ) (start end : ℕ) (h : start ≤ end) (k : end ≤ length source) where
   part-ends : start + length (between source start end) ≡ end
-  part-ends = simp (length-take, length-drop) (omega arith)
+  part-ends = omega (arith, part-size source start end k, h)
 
   pub part-fits : {n : ℕ} → end ≤ n → start + length (between source start end) ≤ n
   part-fits m = rw part-ends m

@@ -24,9 +24,11 @@ use Rattle.lexemes.specs.declared.LexemeKind.the-variants as kind-is
 use Rattle.numerals.specs.declared.Number.{Number}
 use Rattle.numerals.specs.declared.Number.the-variants.{Value, Wrong}
 use Rattle.lexemes.specs.Kinds.{tokAs, kindAs}
-use Rattle.runs.specs.Runs.{between, runEnd}
+use Rattle.language.specs.Tokens.{between}
+use Rattle.runs.specs.Runs.{runEnd}
 use Rattle.numerals.specs.Numerals.{numberAs}
-use Rattle.runs.proofs.Places.{between-cons, run-between}
+use Rattle.language.proofs.Parts.{part-cons}
+use Rattle.runs.proofs.Places.{run-between}
 
 -- ---- starts, as the code tests them
 
@@ -199,7 +201,7 @@ module _ (s : List ℕ) (at e : ℕ) (h : (at < length s) × (e ≡ runEnd isWor
           let n : at + 1 + 1 ≡ at + 2 = omega arith in
           let l = two-digits in
           let f = word-ends .1 in
-          rw (between-cons s at e (omega arith) f, between-cons s (at + 1) e (omega arith) f, n)
+          rw (part-cons s at e (omega arith) f, part-cons s (at + 1) e (omega arith) f, n)
 
       pub hexadecimal : (o n : Number) → o ≡ numberAs (readDigits 16 0 (between s (at + 2) e)) → o ≡ n → literal HexLiteral n ≡ kindAs (integer (between s at e))
       unfolding integer

@@ -21,7 +21,8 @@ use Rattle.lexemes.specs.declared.Lexeme.{Lexeme}
 use Rattle.lexemes.specs.declared.LexemeKind.{LexemeKind}
 use Rattle.lexemes.specs.declared.LexemeKind.the-variants as kind-is
 use Rattle.lexemes.specs.Kinds.{kindAs, lexemeAs}
-use Rattle.runs.specs.Runs.{between, runEnd}
+use Rattle.language.specs.Tokens.{between}
+use Rattle.runs.specs.Runs.{runEnd}
 use Rattle.runs.proofs.Places.{run-between}
 use Rattle.numerals.specs.declared.Octet.{Octet}
 use Rattle.numerals.specs.declared.Octet.the-variants.{Good, Bad}

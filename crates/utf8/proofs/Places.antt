@@ -203,9 +203,14 @@ from-within zero at (b ∷ s) p e = go (charAt (b ∷ s)) (λ k. from-within k (
     go (char n size) f h = let k = f (size - 1) h in omega arith
     go noChar f h = let k : at ≡ p = cc in omega arith
 
-bad-some : (o : Option ℕ) (i : ℕ) → At i ≡ badOf o → o ≡ some i
-bad-some none i e = never (cc)
-bad-some (some k) i e = let h : i ≡ k = cc in rw h
+-- the place that is answered, and no place
+pub bad-at : (o : Option ℕ) (i : ℕ) → At i ≡ badOf o → o ≡ some i
+bad-at none i e = never (cc)
+bad-at (some k) i e = cc
+
+pub bad-nowhere : (o : Option ℕ) → Nowhere ≡ badOf o → o ≡ none
+bad-nowhere none e = refl
+bad-nowhere (some k) e = never (cc)
 
 pub bad-within : (s : List ℕ) (i : ℕ) → At i ≡ badOf (firstBad s) → i < length s
-bad-within s i e = let k = from-within 0 0 s i (bad-some (firstBad s) i e) in omega arith
+bad-within s i e = let k = from-within 0 0 s i (bad-at (firstBad s) i e) in omega arith
