@@ -5,28 +5,15 @@ use mathlib.Core.List.{List, [], _∷_, List·Memᴰ}
 use mathlib.Core.Option.{none}
 use native.Mathlib.Omega.{arith}
 use lib.ListN.{length, getD, length-append}
-use Rattle.table.specs.Table.{tabled}
-use Rattle.table.proofs.Laws.{length-tabled, tabled-own, tabled-word, tabled-past}
+use Rattle.table.proofs.Laws.{tabled-word, tabled-past}
 use Rattle.language.specs.Tables.{tokenRow, tokenWidth, contentKind, contentLow, contentHigh}
 use Rattle.language.specs.Tokens.{Token, items, tokensFrom, eofToken, tokens, between}
 use Rattle.language.specs.Canonical.{spell}
 use Rattle.language.proofs.TokenClaims.{places-right, not-end, name-kind, names-held, bodies-held}
 use Rattle.language.proofs.TokensAt.{mem-at, row-width, before-last}
-use Rattle.language.proofs.Done.{LexesIn}
-use Rattle.canon.specs.Writing.{rowText, RowFits, Lexes}
+use Rattle.lex.specs.Entry.{Lexes}
+use Rattle.canon.specs.Writing.{rowText, RowFits}
 use Rattle.canon.proofs.Contents.{content-text}
-
--- a table of n words that has room for them, as lexing leaves it
-pub holds : (s : List ℕ) (n : ℕ) {toks : List ℕ} {count : ℕ} → LexesIn s (n / tokenWidth)
-    → toks ≡ tabled tokenRow tokenWidth n (tokens s) → count ≡ length (tokens s) → Lexes s toks count
-holds s n {toks} h e c =
-    let l : length toks ≡ n = ap length e ∙ length-tabled tokenRow tokenWidth n (tokens s) in
-    record {
-      rows = tabled-own tokenRow tokenWidth n (length toks) (tokens s) e refl;
-      counted = c;
-      room = rw (c, l) (h .fit);
-      short = h .lexes .short;
-    }
 
 -- the tokens before the end
 abbrev pub before : List ℕ → List Token
@@ -55,7 +42,7 @@ module _ (s toks : List ℕ) (count : ℕ) (h : Lexes s toks count) where
   -- past the last row all is zero
   pub row-past : (i j : ℕ) → count ≤ i → getD toks (tokenWidth * i + j) 0 ≡ 0
   row-past i j m =
-      ap (λ (x : List ℕ). getD x (tokenWidth * i + j) 0) (h .rows)
+      ap (λ (x : List ℕ). getD x (tokenWidth * i + j) 0) (h .table)
       ∙ tabled-past tokenRow tokenWidth row-width (length toks) (tokens s) all-fit i j (omega (arith, h .counted))
 
   -- the token numbered i
@@ -63,7 +50,7 @@ module _ (s toks : List ℕ) (count : ℕ) (h : Lexes s toks count) where
     word-at : (j : ℕ) → j < tokenWidth → {k : ℕ} → k ≡ row + j → getD toks k 0 ≡ getD (tokenRow (tokenAt s i)) j 0
     word-at j b {k} e =
         let e′ : k ≡ tokenWidth * i + j = omega arith in
-        ap (λ (x : List ℕ). getD x k 0) (h .rows)
+        ap (λ (x : List ℕ). getD x k 0) (h .table)
         ∙ rw e′ (tabled-word tokenRow tokenWidth row-width (length toks) (tokens s) all-fit i j (omega (arith, h .counted)) b
         (eofToken s))
 

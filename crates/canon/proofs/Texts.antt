@@ -8,7 +8,8 @@ use lib.Seq.{drop-cons, drop-at}
 use Rattle.language.specs.Tables.{contentKind}
 use Rattle.language.specs.Tokens.{Token, eofToken, tokens, contents}
 use Rattle.language.specs.Canonical.{spell, canonical, text}
-use Rattle.canon.specs.Writing.{Writes, rowText, gapText, RowFits, Lexes, WritesText}
+use Rattle.lex.specs.Entry.{Lexes}
+use Rattle.canon.specs.Writing.{Writes, rowText, gapText, RowFits, WritesText}
 use Rattle.canon.proofs.Writing as laws
 use Rattle.canon.proofs.Writing.{_then_, bytes-are}
 use Rattle.canon.proofs.Contents.{gap-is}

@@ -28,12 +28,11 @@ use Rattle.language.proofs.CheckClaims.{text-checked}
 use Rattle.language.proofs.Done.{LexesIn, lex-done, lex-leaves, FitsIn, lexes-in, canon-done, canon-done-only, canon-leaves-tokens, canon-leaves-text}
 use Rattle.lex.specs.declared.Lexed.{Lexed}
 use Rattle.lex.specs.Lexing.{lexedAs}
-use Rattle.lex.specs.Entry.{LexSource}
+use Rattle.lex.specs.Entry.{LexSource, Lexes}
 use Rattle.canon.specs.declared.Canonised.{Canonised}
-use Rattle.canon.specs.Writing.{Lexes}
 use Rattle.canon.specs.Entry.{canonisedAs, CanonSource}
 use Rattle.joined.specs.Canonical.{Done, textLeft, SameRows, DoneExactly, TextLexes, TextStays, SameTexts, SameTables, TextParses, SameLeft, TextChecks}
-use Rattle.canon.proofs.Rows.{holds}
+use Rattle.lex.proofs.Left.{holds}
 use Rattle.joined.proofs.SameRows.{same-rows, same-written}
 
 -- ---- what a call that is done left

@@ -2,15 +2,14 @@
 use mathlib.Core.Path.{_≡_}
 use mathlib.Core.List.{List, []}
 use Prim.Native.Nat.{ℕ, _/_}
-use lib.ListN.{length}
-use Rattle.table.specs.Table.{padTo, tabled}
-use Rattle.language.specs.Tables.{tokenRow, tokenWidth}
-use Rattle.language.specs.Tokens.{tokens}
+use Rattle.table.specs.Table.{padTo}
+use Rattle.language.specs.Tables.{tokenWidth}
 use Rattle.language.specs.Sentences.{nodeWidth}
 use Rattle.language.specs.Numbers as numbers
-use Rattle.language.specs.Numbers.{verdict, lexed, lexAnswer, parseAnswer, parseTokens, parseNodes}
+use Rattle.language.specs.Numbers.{parseAnswer, parseTokens, parseNodes}
 use Rattle.scan.specs.declared.Verdict.{Verdict}
 use Rattle.scan.specs.Scanning.{verdictAs}
+pub use Rattle.lex.specs.Entry.{Lexes}
 use Rattle.parse.specs.declared.ParseAnswer.{ParseAnswer}
 
 abbrev pub parsedAs : numbers.Parsed → ParseAnswer
@@ -25,12 +24,6 @@ pub record GivesUp (v : Verdict) (t n : ℕ) (r : ParseAnswer) (toks left : List
   pub answer : r ≡ refusal v
   pub tokens : toks ≡ padTo t []
   pub nodes : left ≡ padTo n []
-
--- what lexing leaves where it refuses nothing: a table of the tokens, `count` of them
-pub record Lexes (source toks : List ℕ) (count : ℕ) : Type 0 where
-  pub answer : lexAnswer source (length toks / tokenWidth) ≡ lexed (verdict 0 0 0) count
-  pub counted : count ≡ length (tokens source)
-  pub table : toks ≡ tabled tokenRow tokenWidth (length toks) (tokens source)
 
 -- of a source, a token table of t words and a node table of n words: the answer r, and what is left in both
 pub record ParseSource (source : List ℕ) (t n : ℕ) (r : ParseAnswer) (toks left : List ℕ) : Type 0 where
