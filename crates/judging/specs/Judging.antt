@@ -191,14 +191,18 @@ orNone (suc k) = some (suc k)
 abbrev pub nameWord : List (List ℕ) → ℕ → ℕ → ℕ
 nameWord ws i j = getD (getD ws i []) j 0
 
+-- what f gives of k numbers from i on
+unfoldable pub listed : {A : Type 0} → (ℕ → A) → ℕ → ℕ → List A
+listed f zero i = []
+listed f (suc k) i = f i ∷ listed f k (i + 1)
+
 module _ (s : List ℕ) (ws : List (List ℕ)) where
   abbrev pub nameOf : ℕ → List ℕ
   nameOf i = between s (nameWord ws i 0) (nameWord ws i 1)
 
   -- k names from the entry i on
   unfoldable pub namesIn : ℕ → ℕ → List (List ℕ)
-  namesIn zero i = []
-  namesIn (suc k) i = nameOf i ∷ namesIn k (i + 1)
+  namesIn k i = listed nameOf k i
 
   abbrev pub valueIn : ℕ → Option values.Value
   valueIn i = opened (nameWord ws i 3) (nameWord ws i 4) (nameWord ws i 5)
@@ -208,15 +212,13 @@ module _ (s : List ℕ) (ws : List (List ℕ)) where
 
   -- k bindings from the entry i on
   unfoldable pub boundIn : ℕ → ℕ → List Binding
-  boundIn zero i = []
-  boundIn (suc k) i = bindingAt i ∷ boundIn k (i + 1)
+  boundIn k i = listed bindingAt k i
 
   abbrev pub importAt : ℕ → Import
   importAt i = record { name = nameOf i; found = orNone (nameWord ws i 3) }
 
   unfoldable pub importsIn : ℕ → ℕ → List Import
-  importsIn zero i = []
-  importsIn (suc k) i = importAt i ∷ importsIn k (i + 1)
+  importsIn k i = listed importAt k i
 
 -- the key of a name. At each step so much of it is kept that the next stays below 2^63.
 unfoldable pub keyFrom : ℕ → List ℕ → ℕ

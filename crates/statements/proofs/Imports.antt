@@ -23,13 +23,13 @@ use Rattle.language.proofs.Tests.{never}
 use Rattle.judging.specs.declared.Token.{Token}
 use Rattle.judging.specs.declared.Fault.{Fault}
 use Rattle.judging.specs.declared.Counts.{Counts}
-use Rattle.judging.specs.Judging.{tokenAs, namedAs, faultAs, faultRow, putRows, plusWarnings, namesIn, place, importsIn, boundIn, orNone, knownIn, Knows, keyOf, Keyed, Ready}
+use Rattle.judging.specs.Judging.{tokenAs, namedAs, faultAs, faultRow, putRows, plusWarnings, namesIn, place, importsIn, orNone, knownIn, Knows, keyOf, Keyed, Ready}
 use Rattle.judging.proofs.Rows.{no-rows, one-row}
-use Rattle.judging.proofs.Names.{import-found, import-lost, found-module}
+use Rattle.judging.proofs.Names.{same-place, import-found, import-lost, found-module}
 use Rattle.statements.specs.declared.Turn.the-variants.{Went, Full}
 use Rattle.statements.specs.Checking.{plusError, plusImport, entryRow, Grows, Steps, TurnOf, Turns}
 use Rattle.statements.proofs.Statements.{fault-row}
-use Rattle.statements.proofs.Stores.{store-import, store-key, imports-long}
+use Rattle.statements.proofs.Stores.{store-import, store-key, bindings-are, imports-are, imports-many}
 
 -- ---- what one finding adds
 
@@ -83,15 +83,12 @@ module _ (s toks : List ℕ) (n t : ℕ) (k : Known) (b is : List (List ℕ)) (u
   ts = contents (tokens.tokens s)
 
   at : i ≡ place (namesIn s is (c .imported) 0) (nameAt ts t)
-  at = p ∙ ap (place (namesIn s is (c .imported) 0)) o
-
-  imports-are : k .imports ≡ importsIn s is (c .imported) 0
-  imports-are = ap (λ (l : Known). l .imports) (kn .is)
+  at = same-place (namesIn s is (c .imported) 0) p o
 
   pub turn-again : {f : Fault} {c′ : Counts} {y : List ℕ} → i < c .imported → f ≡ faultAs s t multipleImports → c′ ≡ plusWarnings c 1
       → y ≡ putRow x (c .errors + c .warnings) (faultRow f) → Turns s toks c x u (Went c′) b is y u (stmt ts n k (import′ t))
   turn-again {f} {c′} {y} h g q r =
-      let e = ap (λ (l : List Import). findImport l (nameAt ts t)) imports-are ∙ import-found s is (nameAt ts t) (c .imported) i at h in
+      let e = ap (λ (l : List Import). findImport l (nameAt ts t)) (imports-are kn) ∙ import-found s is (nameAt ts t) (c .imported) i at h in
       let ready : Ready s toks b is (plusWarnings c 1) = record { lexed = rd .lexed; bound = rd .bound; modules = rd .modules; sound = rd .sound; keyed = rd .keyed; keyed-modules = rd .keyed-modules } in
       let steps : Steps s toks c x u c′ b is y u k (diag n t multipleImports ∷ []) [] = record {
         knows = record { is = kn .is ∙ ap (knownIn s b is) (sym q) };
@@ -102,14 +99,11 @@ module _ (s toks : List ℕ) (n t : ℕ) (k : Known) (b is : List (List ℕ)) (u
 
   module _ (h : c .imported ≤ i) where
     absent : findImport (k .imports) (nameAt ts t) ≡ none
-    absent = ap (λ (l : List Import). findImport l (nameAt ts t)) imports-are ∙ import-lost s is (nameAt ts t) (c .imported) i at h
-
-    many : length (k .imports) ≡ c .imported
-    many = ap length imports-are ∙ imports-long s is (c .imported) 0
+    absent = ap (λ (l : List Import). findImport l (nameAt ts t)) (imports-are kn) ∙ import-lost s is (nameAt ts t) (c .imported) i at h
 
     pub turn-full : 64 ≤ c .imported → Turns s toks c x u (Full t) b is x u (stmt ts n k (import′ t))
     turn-full l =
-        let f : ltb (length (k .imports)) mostImports ≡ false = le-ltb (length (k .imports)) mostImports (omega (arith, many, l)) in
+        let f : ltb (length (k .imports)) mostImports ≡ false = le-ltb (length (k .imports)) mostImports (omega (arith, imports-many kn, l)) in
         let e : stmt ts n k (import′ t) ≡ full t = not-yet ts n k t absent ∙ ap (λ (z : Bool). if′ z (imported ts n k t (lookup 0 (nameAt ts t))) (full t)) f in
         record { turn = subst (λ (z : judgements.Turn). TurnOf s toks c x u (Full t) b is x u z) (sym e) refl }
 
@@ -118,7 +112,7 @@ module _ (s toks : List ℕ) (n t : ℕ) (k : Known) (b is : List (List ℕ)) (u
         (put : is′ ≡ set is (c .imported) (entryRow start end key t (record { kind = kind; lo = 0; hi = 0 }))) where
       stepped : stmt ts n k (import′ t) ≡ imported ts n k t (lookup 0 (nameAt ts t))
       stepped =
-          let f : ltb (length (k .imports)) mostImports ≡ true = lt-ltb (length (k .imports)) mostImports (omega (arith, many, l)) in
+          let f : ltb (length (k .imports)) mostImports ≡ true = lt-ltb (length (k .imports)) mostImports (omega (arith, imports-many kn, l)) in
           not-yet ts n k t absent ∙ ap (λ (z : Bool). if′ z (imported ts n k t (lookup 0 (nameAt ts t))) (full t)) f
 
       now-imports : importsIn s is′ (c .imported + 1) 0 ≡ k .imports ++ record { name = nameAt ts t; found = lookup 0 (nameAt ts t) } ∷ []
@@ -126,16 +120,13 @@ module _ (s toks : List ℕ) (n t : ℕ) (k : Known) (b is : List (List ℕ)) (u
           let f : orNone kind ≡ lookup 0 (nameAt ts t) = ap orNone m ∙ found-module 0 (nameAt ts t) in
           ap (λ (z : List (List ℕ)). importsIn s z (c .imported + 1) 0) put
           ∙ store-import s is (c .imported) start end key t (record { kind = kind; lo = 0; hi = 0 }) (omega (arith, l, long))
-          ∙ rw (name, f, imports-are)
-
-      bindings-are : k .bindings ≡ boundIn s b (c .used) 0
-      bindings-are = ap (λ (z : Known). z .bindings) (kn .is)
+          ∙ rw (name, f, imports-are kn)
 
       known-now : (o : Option ℕ) → lookup 0 (nameAt ts t) ≡ o → known (k .imports ++ record { name = nameAt ts t; found = o } ∷ []) (k .bindings)
           ≡ knownIn s b is′ (plusImport c)
       known-now o e =
           ap (λ (z : Option ℕ). known (k .imports ++ record { name = nameAt ts t; found = z } ∷ []) (k .bindings)) (sym e)
-          ∙ ap (λ (z : List Import). known z (k .bindings)) (sym now-imports) ∙ ap (known (importsIn s is′ (c .imported + 1) 0)) bindings-are
+          ∙ ap (λ (z : List Import). known z (k .bindings)) (sym now-imports) ∙ ap (known (importsIn s is′ (c .imported + 1) 0)) (bindings-are kn)
 
       long-now : length is′ ≡ length is
       long-now =

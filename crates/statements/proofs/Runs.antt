@@ -20,7 +20,7 @@ use Rattle.language.specs.Numbers.{tokenOf}
 use Rattle.language.proofs.Tests.{never}
 use Rattle.language.proofs.NodeClaims.{some-stmt-node}
 use Rattle.judging.specs.declared.Counts.{Counts}
-use Rattle.judging.specs.Judging.{putRows, Lexed, Ready, Knows, knownIn, boundIn, importsIn}
+use Rattle.judging.specs.Judging.{putRows, Lexed, Ready, Knows, knownIn, listed, boundIn, importsIn}
 use Rattle.judging.proofs.Rows.{more-rows}
 use Rattle.judging.proofs.Judging as judging
 use Rattle.statements.specs.declared.Turn.{Turn}
@@ -135,7 +135,7 @@ pub record Looped (s toks ws x0 u0 x u : List ℕ) (b m : List (List ℕ)) (c : 
 
 pub start : {s toks ws x u : List ℕ} {b m : List (List ℕ)} {c : Counts} → Lexed s toks → RowFits ws 0 noCounts → length b ≡ 512 → length m ≡ 64 → c ≡ noCounts
     → Looped s toks ws x u x u b m c 0
-unfolding boundIn importsIn
+unfolding boundIn importsIn listed
 start {s} {toks} {ws} {x} {u} {b} {m} l f p q e = subst (λ (z : Counts). Looped s toks ws x u x u b m z 0) (sym e) (
     record {
       names = p;
