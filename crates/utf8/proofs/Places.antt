@@ -165,6 +165,10 @@ pass-block {s} {at} {i} (suc n) o h e =
     let p : i + n + 1 ≡ i + suc n = omega arith in
     rw (← p) (pass-byte (pass-block n o (omega arith) (q .0)) (omega arith) (ltb-true (getD s (i + n) 0) 0x80 (q .1)))
 
+-- a block of eight, by what its test came to
+pub pass-eight : {s : List ℕ} {at i : ℕ} {a : Bool} → Passed s at i → i + 8 ≤ length s → a ≡ allFrom isAscii 8 s i → not a ≡ false → Passed s at (i + 8)
+pass-eight o h ea e = pass-block 8 o h (sym ea ∙ not-false _ e)
+
 -- four blocks of eight, by what their tests came to
 pub pass-four : {s : List ℕ} {at i : ℕ} {a b c d : Bool}
     → Passed s at i
