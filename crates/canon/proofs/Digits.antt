@@ -10,7 +10,7 @@ use Rattle.language.specs.Tokens.{between}
 use Rattle.language.specs.Canonical.{spellDigits}
 use Rattle.language.proofs.Integers.{right}
 use Rattle.language.proofs.SpellingDigits.{length-spelt}
-use Rattle.wide.specs.Wide.{word}
+use Rattle.language.specs.Tables.{wordLimit}
 use Rattle.wide.proofs.Digits.{decimal-start, hexadecimal-start, spelt-ascii}
 
 -- a buffer of n bytes that has these from r on
@@ -33,21 +33,21 @@ buffer base most n two room {b} {r} e d =
       bytes = rw (d, drop-at (replicate r 0) (spellDigits ds) r (length-replicate r 0)) (take-all (suc most - r) (spellDigits ds) (omega arith));
     }
 
-module _ (hi lo : ℕ) (a : hi < word) (c : lo < word) (b : List ℕ) (r : ℕ) where
-  pub decimal-buffer : (r ≡ 39 - length (decimal (hi * word + lo))) × (b ≡ replicate r 0 ++ ascii (decimal (hi * word + lo)))
-      → Buffer 39 b r (spellDigits (decimal (hi * word + lo)))
+module _ (hi lo : ℕ) (a : hi < wordLimit) (c : lo < wordLimit) (b : List ℕ) (r : ℕ) where
+  pub decimal-buffer : (r ≡ 39 - length (decimal (hi * wordLimit + lo))) × (b ≡ replicate r 0 ++ ascii (decimal (hi * wordLimit + lo)))
+      → Buffer 39 b r (spellDigits (decimal (hi * wordLimit + lo)))
   unfolding decimal
   decimal-buffer (e, d) =
-      let n = hi * word + lo in
+      let n = hi * wordLimit + lo in
       let room = decimal-start hi lo a c .room in
       let small = right 10 (omega arith) 38 n room .small in
       buffer 10 38 n (omega arith) room e (rw (spelt-ascii (digitsIn 10 39 n) (λ i l. small i)) d)
 
-  pub hexadecimal-buffer : (r ≡ 32 - length (hexadecimal (hi * word + lo))) × (b ≡ replicate r 0 ++ spellDigits (hexadecimal (hi * word + lo)))
-      → Buffer 32 b r (spellDigits (hexadecimal (hi * word + lo)))
+  pub hexadecimal-buffer : (r ≡ 32 - length (hexadecimal (hi * wordLimit + lo))) × (b ≡ replicate r 0 ++ spellDigits (hexadecimal (hi * wordLimit + lo)))
+      → Buffer 32 b r (spellDigits (hexadecimal (hi * wordLimit + lo)))
   unfolding hexadecimal
-  hexadecimal-buffer (e, d) = buffer 16 31 (hi * word + lo) (omega arith) (hexadecimal-start hi lo a c .room) e d
+  hexadecimal-buffer (e, d) = buffer 16 31 (hi * wordLimit + lo) (omega arith) (hexadecimal-start hi lo a c .room) e d
 
 -- a number in the lower word
-pub lower : (n : ℕ) → spellDigits (decimal (0 * word + n)) ≡ spellDigits (decimal n)
-lower n = let e : 0 * word + n ≡ n = omega arith in rw e
+pub lower : (n : ℕ) → spellDigits (decimal (0 * wordLimit + n)) ≡ spellDigits (decimal n)
+lower n = let e : 0 * wordLimit + n ≡ n = omega arith in rw e

@@ -8,7 +8,7 @@ use Rattle.table.specs.Table.{padTo}
 use Rattle.language.specs.Choice.{if′}
 use Rattle.language.specs.Lexemes.{import′, let′, true′, false′}
 use Rattle.language.specs.Integers.{decimal, hexadecimal}
-use Rattle.language.specs.Tables.{word}
+use Rattle.language.specs.Tables.{wordLimit}
 use Rattle.language.specs.Tokens.{between, bodiesIn, mostBytes}
 use Rattle.language.specs.Canonical.{spellDigits, spellQuad, quoted, spellBodies, text}
 
@@ -61,8 +61,8 @@ kindText k low high bytes =
     if′ (eqb k 13) bytes
     (if′ (eqb k 15) (spellQuad low)
     (if′ (eqb k 16) (literalsText (bodiesIn bytes))
-    (if′ (eqb k 17) (48 ∷ 120 ∷ spellDigits (hexadecimal (high * word + low)))
-    (if′ (eqb k 18) (spellDigits (decimal (high * word + low))) (fixedText k low)))))
+    (if′ (eqb k 17) (48 ∷ 120 ∷ spellDigits (hexadecimal (high * wordLimit + low)))
+    (if′ (eqb k 18) (spellDigits (decimal (high * wordLimit + low))) (fixedText k low)))))
 
 -- the token whose row starts at this word of a table
 abbrev pub rowText : List ℕ → List ℕ → ℕ → List ℕ

@@ -21,7 +21,7 @@ use Rattle.language.specs.Values.{isInteger, isBool, isSized, isIp4, isSock4, i
 use Rattle.language.specs.Judgements as judgements
 use Rattle.language.specs.Judgements.{What, val, err, poisoned, Import, Binding, Known, known, nameAt, find, findImport, boundTo, below, andThen, rightOf, noMembers, operandType, Side}
 use Rattle.language.specs.Findings as findings
-use Rattle.language.specs.Findings.{valueKind, valueLow, valueHigh, tyKind, tyEntry, tyText, sideKind, detail, diagRow}
+use Rattle.language.specs.Findings.{valueKind, valueLow, valueHigh, tyKind, tyEntry, tyText, sideKind, showsName, showsType, detail, diagRow}
 use Rattle.language.specs.Numbers.{tokenOf}
 use Rattle.judging.specs.declared.Token.{Token}
 use Rattle.judging.specs.declared.Value.{Value}
@@ -124,29 +124,10 @@ faultAs s at w = record { line = tokenOf s at .line; column = tokenOf s at .colu
 
 abbrev pub namedAs : ℕ → ℕ → Token → ℕ → ℕ → Fault
 namedAs severity kind t a b =
-    record {
-      line = t .line;
-      column = t .column;
-      detail = record { severity = severity; kind = kind; text = 1; start = t .start; end = t .end; ty = 0; first = a; second = b; third = 0 };
-    }
+    record { line = t .line; column = t .column; detail = detailAs (showsName severity kind (t .start) (t .end) a b) }
 
 abbrev pub typedAs : ℕ → ℕ → Token → Ty → ℕ → ℕ → ℕ → Fault
-typedAs severity kind t ty a b c =
-    record {
-      line = t .line;
-      column = t .column;
-      detail = record {
-        severity = severity;
-        kind = kind;
-        text = tyText ty;
-        start = entryAt (tyEntry ty) .start;
-        end = entryAt (tyEntry ty) .end;
-        ty = tyKind ty;
-        first = a;
-        second = b;
-        third = c;
-      };
-    }
+typedAs severity kind t ty a b c = record { line = t .line; column = t .column; detail = detailAs (showsType severity kind ty a b c) }
 
 abbrev pub truncatedAs : Token → ℕ → ℕ → Fault
 truncatedAs t lo hi =
