@@ -230,7 +230,7 @@ not-integer s ip t h o k =
     }
 
 abbrev total : Value → ℕ
-total v = v .hi * tables.word + v .lo
+total v = v .hi * tables.wordLimit + v .lo
 
 integer-of : (v : Value) → isIntegral (v .kind) ≡ true → (u : values.Value) → v ≡ valueAs u → integerOf u ≡ some (total v)
 integer-of v h u e = integer-is u (sym (ap (λ (w : Value). isIntegral (w .kind)) e) ∙ h) ∙ ap some (sym (ap total e))
@@ -248,13 +248,13 @@ module _ (s : List ℕ) (ip t : ℕ) (v : Value) (h : isIntegral (v .kind) ≡ t
       }
 
   pub narrows-cut : {r : Judgement} {c : Counts} {x : List ℕ} {tok : Token} {f : Fault} {y : List ℕ} → true ≡ isTruncated (total v)
-      → r .out ≡ Val (record { kind = 8; lo = ip; hi = port }) → v .lo < tables.word
+      → r .out ≡ Val (record { kind = 8; lo = ip; hi = port }) → v .lo < tables.wordLimit
       → tok ≡ tokenAs (tokenOf s t) → f ≡ truncatedAs tok (v .lo) (v .hi) → y ≡ putRow x (c .errors + c .warnings) (faultRow f)
       → r .counts ≡ plusWarnings c 1 → Narrows s ip t v c x r y
   unfolding diagRow
   narrows-cut {c = c} {x = x} {f = f} b q l e g o k =
-      let lo : total v % tables.word ≡ v .lo = omega (arith, l) in
-      let hi : total v / tables.word ≡ v .hi = omega (arith, l) in
+      let lo : total v % tables.wordLimit ≡ v .lo = omega (arith, l) in
+      let hi : total v / tables.wordLimit ≡ v .hi = omega (arith, l) in
       record {
         is = λ n u w.
             let d : Diag = diag n t (truncated (total v) (tyInt u16)) in

@@ -86,7 +86,7 @@ opened k l h =
     (if′ (eqb k 8) (some (isSock4 l h))
     (if′ (eqb k 9) (some (isString l))
     (if′ (eqb k 14) (some (isFunction l))
-    (if′ (eqb k 16) (some (isInteger (h * tables.word + l)))
+    (if′ (eqb k 16) (some (isInteger (h * tables.wordLimit + l)))
     (if′ (eqb k 17) (some (isText l h)) none))))))))))
 
 -- the words are those of what they are read as

@@ -6,14 +6,14 @@ use lib.ListN.{length}
 use Rattle.table.specs.Table.{tabled}
 use Rattle.language.specs.Tables.{tokenRow, tokenWidth}
 use Rattle.language.specs.Tokens.{tokens, mostBytes}
-use Rattle.language.specs.Numbers.{verdict, lexed, lexAnswer, lexTable}
+use Rattle.language.specs.Numbers.{verdict, lexed, lexAnswer}
+use Rattle.language.specs.Entries.{LexPromise}
 use Rattle.lex.specs.declared.Lexed.{Lexed}
 use Rattle.lex.specs.Lexing.{lexedAs, bodyAt}
 
 -- of a source and a table of n words: the answer r, and what is left in the table
-pub record LexSource (source : List ℕ) (n : ℕ) (r : Lexed) (left : List ℕ) : Type 0 where
-  pub answer : r ≡ lexedAs (lexAnswer source (n / tokenWidth))
-  pub table : left ≡ lexTable source n
+abbrev pub LexSource : List ℕ → ℕ → Lexed → List ℕ → Type 0
+LexSource source n r left = LexPromise lexedAs source n r left
 
 -- what it leaves where it refuses nothing: a table of the tokens, `count` of them
 pub record Lexes (source toks : List ℕ) (count : ℕ) : Type 0 where

@@ -1,12 +1,10 @@
 -- What the entry promises.
 use mathlib.Core.Path.{_≡_}
 use mathlib.Core.List.{List, []}
-use Prim.Native.Nat.{ℕ, _/_}
+use Prim.Native.Nat.{ℕ}
 use Rattle.table.specs.Table.{padTo}
-use Rattle.language.specs.Tables.{tokenWidth}
-use Rattle.language.specs.Sentences.{nodeWidth}
 use Rattle.language.specs.Numbers as numbers
-use Rattle.language.specs.Numbers.{parseAnswer, parseTokens, parseNodes}
+use Rattle.language.specs.Entries.{ParsePromise}
 use Rattle.scan.specs.declared.Verdict.{Verdict}
 use Rattle.scan.specs.Scanning.{verdictAs}
 pub use Rattle.lex.specs.Entry.{Lexes}
@@ -26,7 +24,5 @@ pub record GivesUp (v : Verdict) (t n : ℕ) (r : ParseAnswer) (toks left : List
   pub nodes : left ≡ padTo n []
 
 -- of a source, a token table of t words and a node table of n words: the answer r, and what is left in both
-pub record ParseSource (source : List ℕ) (t n : ℕ) (r : ParseAnswer) (toks left : List ℕ) : Type 0 where
-  pub answer : r ≡ parsedAs (parseAnswer source (t / tokenWidth) (n / nodeWidth))
-  pub tokens : toks ≡ parseTokens source t n
-  pub nodes : left ≡ parseNodes source t n
+abbrev pub ParseSource : List ℕ → ℕ → ℕ → ParseAnswer → List ℕ → List ℕ → Type 0
+ParseSource source t n r toks left = ParsePromise parsedAs source t n r toks left

@@ -25,24 +25,7 @@ use Rattle.judging.proofs.Names.{same-place, bound-found, bound-lost}
 use Rattle.statements.specs.declared.Turn.the-variants.{Went, Full}
 use Rattle.statements.specs.Checking.{plusError, SameNames, Steps, TurnOf, Turns}
 use Rattle.statements.proofs.Stores.{bindings-are, bindings-many}
-use Rattle.statements.proofs.Imports.{grows-error}
-
--- ---- no name more: what is known stays
-
-module _ {s : List ℕ} {b m : List (List ℕ)} {c c′ : Counts} (h : SameNames c c′) where
-  pub same-knows : {k : Known} → Knows s b m c k → Knows s b m c′ k
-  same-knows kn = record { is = rw (h .used, h .imported) (kn .is) }
-
-  pub same-ready : {toks : List ℕ} → Ready s toks b m c → Ready s toks b m c′
-  same-ready rd =
-      record {
-        lexed = rd .lexed;
-        bound = omega (arith, rd .bound, h .used);
-        modules = omega (arith, rd .modules, h .imported);
-        sound = λ j l. rd .sound j (omega (arith, l, h .used));
-        keyed = rw (h .used) (rd .keyed);
-        keyed-modules = rw (h .imported) (rd .keyed-modules);
-      }
+use Rattle.statements.proofs.Grows.{grows-error, no-name, same-knows, same-ready}
 
 -- ---- the definition's steps
 
@@ -73,7 +56,7 @@ module _ (s toks : List ℕ) (n t t′ : ℕ) (read : t ≡ t′) (k : Known) (e
       → y ≡ putRow x (c .errors + c .warnings) (faultRow f) → Turns s toks c x u (Went c′) b m y u (stmt ts n k (let′ t′ e))
   turn-again {f} {c′} {y} h g q r =
       let hit = ap (λ (l : List Binding). find l (nameAt ts t)) (bindings-are kn) ∙ bound-found s b (nameAt ts t) (c .used) i at h in
-      let names : SameNames c c′ = record { used = ap (λ (l : Counts). l .used) q; imported = ap (λ (l : Counts). l .imported) q } in
+      let names : SameNames c c′ = no-name q refl refl in
       let steps : Steps s toks c x u c′ b m y u k (diag n t (alreadyBound (nameWord b i 2)) ∷ []) [] = record {
         knows = same-knows names kn;
         ready = same-ready names rd;

@@ -28,7 +28,7 @@ use Rattle.statements.specs.declared.Turn.the-variants.{Went, Full}
 use Rattle.statements.specs.Checking.{Grows, Steps, TurnOf, StmtsAt, at-end, no-stmt, an-import, a-let, an-expr, RowFits, RowTurns, passes, takes, noCounts, ComesTo, Comes}
 use Rattle.statements.proofs.Statements.{warnings-append, tallied}
 use Rattle.language.proofs.JudgementClaims.{errors-append}
-use Rattle.statements.proofs.Imports.{grows-none}
+use Rattle.statements.proofs.Grows.{grows-none}
 
 -- ---- a statement finds as much as it has rows at the most, and holds one statement at the most
 
