@@ -18,7 +18,7 @@ use Rattle.scan.specs.declared.Step.the-variants.{Found, Done}
 use Rattle.scan.specs.Scanning as scanning
 use Rattle.scan.specs.Scanning.{stepAt}
 use Rattle.lexemes.proofs.LexemeKind as kind
-use Rattle.lex.proofs.Feeding.{turn, at-end}
+use Rattle.scan.proofs.Turns.{turn, at-end}
 use Rattle.lex.proofs.Bodies.{unquoted-is, none-here, one-here}
 use Rattle.canon.specs.Writing.{Writes, literalsText, literalText}
 use Rattle.canon.proofs.Writing.{none, _then_, bytes-are}

@@ -25,7 +25,7 @@ use Rattle.scan.specs.Scanning.{stepAt}
 use Rattle.lexemes.proofs.LexemeKind as kind
 use Rattle.scan.proofs.Parts.{some-body, no-body}
 use Rattle.lex.specs.Lexing.{nth, bodyAt}
-use Rattle.lex.proofs.Feeding.{turn, at-end}
+use Rattle.scan.proofs.Turns.{turn, at-end}
 
 -- ---- the loop
 

@@ -17,7 +17,7 @@ use Rattle.language.proofs.LexemeSpans.{scan-unfolds}
 use Rattle.language.proofs.TokenClaims.{places-right, bodies-held}
 use Rattle.lexemes.specs.Kinds.{lexemeAs}
 use Rattle.scan.specs.Scanning.{stepAt}
-use Rattle.lex.proofs.Feeding.{Turn, turn}
+use Rattle.scan.proofs.Turns.{Turn, turn}
 use Rattle.terkinoha.specs.Bodies.{Span, spanOf, spansFrom, bodySpans, first, WalkGoesOn, BodiesLie}
 
 -- ---- one lexeme after the other
