@@ -2,8 +2,8 @@
 // answers the place after it. A buffer that is full is written.
 use crate::words;
 use libc::STDOUT_FILENO;
-use wide::spell_digit;
 use wide::Wide;
+use wide::spell_digit;
 
 pub fn byte(out: &mut [u8], at: usize, b: u8) -> usize {
     if at < out.len() {
