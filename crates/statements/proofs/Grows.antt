@@ -1,6 +1,6 @@
 -- What one finding adds to the counts and to the rows, and what stays where no name is added.
 use mathlib.Core.Path.{_≡_, refl, ap, _∙_}
-use mathlib.Core.Bool.{Bool, true, false}
+use mathlib.Core.Bool.{true, false}
 use mathlib.Core.List.{List, [], _∷_}
 use Prim.Native.Nat.{ℕ, _+_}
 use native.Mathlib.Omega.{arith}
@@ -37,19 +37,22 @@ module _ (s : List ℕ) (n t : ℕ) (m : What) (c c′ : Counts) (x u y : List �
   row-is : y ≡ putRows (diagRow (tokenOf s)) x (c .errors + c .warnings) (diag n t m ∷ [])
   row-is = b ∙ ap (putRow x (c .errors + c .warnings)) (ap faultRow g ∙ fault-row s n t m) ∙ one-row (diagRow (tokenOf s)) x (c .errors + c .warnings) (diag n t m)
 
-  pub grows-error : isError m ≡ true → c′ .errors ≡ c .errors + 1 → c′ .warnings ≡ c .warnings → Grows s c x u c′ y u (diag n t m ∷ []) []
+  grows-one : c′ .errors ≡ c .errors + if′ (isError m) 1 0 → c′ .warnings ≡ c .warnings + if′ (isError m) 0 1 → Grows s c x u c′ y u (diag n t m ∷ []) []
   unfolding errorsIn warningsIn
-  grows-error h p q =
-      let one : _≡_ {A = ℕ} (if′ (isError m) 1 0) 1 = ap (λ (l : Bool). if′ l 1 0) h in
-      let rest : _≡_ {A = ℕ} (if′ (isError m) 0 1) 0 = ap (λ (l : Bool). if′ l 0 1) h in
-      record { errors = omega (arith, p, one); warnings = omega (arith, q, rest); statements = omega (arith, r); diags = row-is; stmts = no-rows (stmtRow (tokenOf s)) u (c .statements) }
+  grows-one p q =
+      record {
+        errors = omega (arith, p);
+        warnings = omega (arith, q);
+        statements = omega (arith, r);
+        diags = row-is;
+        stmts = no-rows (stmtRow (tokenOf s)) u (c .statements);
+      }
+
+  pub grows-error : isError m ≡ true → c′ .errors ≡ c .errors + 1 → c′ .warnings ≡ c .warnings → Grows s c x u c′ y u (diag n t m ∷ []) []
+  grows-error h p q = grows-one (rw h p) (rw h (omega (arith, q)))
 
   pub grows-warning : isError m ≡ false → c′ .errors ≡ c .errors → c′ .warnings ≡ c .warnings + 1 → Grows s c x u c′ y u (diag n t m ∷ []) []
-  unfolding errorsIn warningsIn
-  grows-warning h p q =
-      let one : _≡_ {A = ℕ} (if′ (isError m) 1 0) 0 = ap (λ (l : Bool). if′ l 1 0) h in
-      let rest : _≡_ {A = ℕ} (if′ (isError m) 0 1) 1 = ap (λ (l : Bool). if′ l 0 1) h in
-      record { errors = omega (arith, p, one); warnings = omega (arith, q, rest); statements = omega (arith, r); diags = row-is; stmts = no-rows (stmtRow (tokenOf s)) u (c .statements) }
+  grows-warning h p q = grows-one (rw h (omega (arith, p))) (rw h q)
 
 -- ---- no name more: what is known stays
 
