@@ -8,7 +8,7 @@ use native.Mathlib.Omega.{arith}
 use borrow.Author.Tests.{ne-eqb}
 use Rattle.language.specs.Lexemes.{Tok, lParen, rParen, dot, doubleColon, colon, semiColon, equals, comma, slash, importKeyword, letKeyword, identifier, booleanLiteral, ipv4Literal, hexLiteral, decLiteral}
 use Rattle.language.specs.Tokens.{Content, eof, plain, name, string, bodiesIn}
-use Rattle.language.specs.Tables.{word, tokKind, tokLow, tokHigh, contentKind, contentLow, contentHigh}
+use Rattle.language.specs.Tables.{wordLimit, tokKind, tokLow, tokHigh, contentKind, contentLow, contentHigh}
 use Rattle.language.specs.Canonical.{spellTok, spell, after}
 use Rattle.language.proofs.Tests.{never}
 use Rattle.language.proofs.Forms.{no-string, no-end, tok-form}
@@ -25,8 +25,8 @@ gap-is c (string b bs) cs = refl
 -- ---- a token's spelling
 
 -- a number in two words
-two-words : (n : ℕ) → n / word * word + n % word ≡ n
-two-words n = div-add-mod' n word
+two-words : (n : ℕ) → n / wordLimit * wordLimit + n % wordLimit ≡ n
+two-words n = div-add-mod' n wordLimit
 
 tok-text : (t : Tok) (bytes : List ℕ) → (tokKind t ≡ 13 → ⊥) → kindText (tokKind t) (tokLow t) (tokHigh t) bytes ≡ spellTok t
 unfolding kindText fixedText markOf spellTok

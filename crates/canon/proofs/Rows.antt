@@ -1,39 +1,24 @@
 -- The rows of a table that holds all tokens of a source, and which bytes of its text each stands for.
 use Prim.Native.Nat.{ℕ, suc, _+_, _*_, _/_, _≤_, _<_}
 use mathlib.Core.Path.{_≡_, refl, ap, _∙_}
-use mathlib.Core.List.{List, [], _∷_, List·Memᴰ}
+use mathlib.Core.List.{List, List·Memᴰ}
 use mathlib.Core.Option.{none}
 use native.Mathlib.Omega.{arith}
-use lib.ListN.{length, getD, length-append}
-use Rattle.table.specs.Table.{tabled}
-use Rattle.table.proofs.Laws.{length-tabled, tabled-own, tabled-word, tabled-past}
+use lib.ListN.{length, getD}
+use Rattle.table.proofs.Laws.{tabled-word, tabled-past}
 use Rattle.language.specs.Tables.{tokenRow, tokenWidth, contentKind, contentLow, contentHigh}
 use Rattle.language.specs.Tokens.{Token, items, tokensFrom, eofToken, tokens, between}
 use Rattle.language.specs.Canonical.{spell}
+use Rattle.language.specs.Numbers.{tokenOf}
 use Rattle.language.proofs.TokenClaims.{places-right, not-end, name-kind, names-held, bodies-held}
-use Rattle.language.proofs.TokensAt.{mem-at, row-width, before-last}
-use Rattle.language.proofs.Done.{LexesIn}
-use Rattle.canon.specs.Writing.{rowText, RowFits, Lexes}
+use Rattle.language.proofs.TokensAt.{mem-at, row-width, long-tokens, before-last}
+use Rattle.lex.specs.Entry.{Lexes}
+use Rattle.canon.specs.Writing.{rowText, RowFits}
 use Rattle.canon.proofs.Contents.{content-text}
-
--- a table of n words that has room for them, as lexing leaves it
-pub holds : (s : List ℕ) (n : ℕ) {toks : List ℕ} {count : ℕ} → LexesIn s (n / tokenWidth)
-    → toks ≡ tabled tokenRow tokenWidth n (tokens s) → count ≡ length (tokens s) → Lexes s toks count
-holds s n {toks} h e c =
-    let l : length toks ≡ n = ap length e ∙ length-tabled tokenRow tokenWidth n (tokens s) in
-    record {
-      rows = tabled-own tokenRow tokenWidth n (length toks) (tokens s) e refl;
-      counted = c;
-      room = rw (c, l) (h .fit);
-      short = h .lexes .short;
-    }
 
 -- the tokens before the end
 abbrev pub before : List ℕ → List Token
 before s = tokensFrom none (items s)
-
-abbrev pub tokenAt : List ℕ → ℕ → Token
-tokenAt s i = getD (tokens s) i (eofToken s)
 
 -- a row of a token of the source
 pub record RowIs (s toks : List ℕ) (row : ℕ) (t : Token) : Type 0 where
@@ -46,8 +31,7 @@ pub record RowIs (s toks : List ℕ) (row : ℕ) (t : Token) : Type 0 where
 
 module _ (s toks : List ℕ) (count : ℕ) (h : Lexes s toks count) where
   pub counted : count ≡ suc (length (before s))
-  unfolding tokens
-  counted = h .counted ∙ length-append (before s) (eofToken s ∷ []) ∙ omega arith
+  counted = omega (arith, h .counted, long-tokens s)
 
   all-fit : length (tokens s) ≤ length toks / tokenWidth
   all-fit = omega (arith, h .room, h .counted)
@@ -55,19 +39,19 @@ module _ (s toks : List ℕ) (count : ℕ) (h : Lexes s toks count) where
   -- past the last row all is zero
   pub row-past : (i j : ℕ) → count ≤ i → getD toks (tokenWidth * i + j) 0 ≡ 0
   row-past i j m =
-      ap (λ (x : List ℕ). getD x (tokenWidth * i + j) 0) (h .rows)
+      ap (λ (x : List ℕ). getD x (tokenWidth * i + j) 0) (h .table)
       ∙ tabled-past tokenRow tokenWidth row-width (length toks) (tokens s) all-fit i j (omega (arith, h .counted))
 
   -- the token numbered i
   module _ (i : ℕ) (m : i < count) {row : ℕ} (r : row ≡ tokenWidth * i) where
-    word-at : (j : ℕ) → j < tokenWidth → {k : ℕ} → k ≡ row + j → getD toks k 0 ≡ getD (tokenRow (tokenAt s i)) j 0
+    word-at : (j : ℕ) → j < tokenWidth → {k : ℕ} → k ≡ row + j → getD toks k 0 ≡ getD (tokenRow (tokenOf s i)) j 0
     word-at j b {k} e =
         let e′ : k ≡ tokenWidth * i + j = omega arith in
-        ap (λ (x : List ℕ). getD x k 0) (h .rows)
+        ap (λ (x : List ℕ). getD x k 0) (h .table)
         ∙ rw e′ (tabled-word tokenRow tokenWidth row-width (length toks) (tokens s) all-fit i j (omega (arith, h .counted)) b
         (eofToken s))
 
-    pub row-is : RowIs s toks row (tokenAt s i)
+    pub row-is : RowIs s toks row (tokenOf s i)
     unfolding tokenRow
     row-is =
         record {
@@ -82,7 +66,7 @@ module _ (s toks : List ℕ) (count : ℕ) (h : Lexes s toks count) where
     -- it is not the end
     module _ (l : i < length (before s)) where
       abbrev x : Token
-      x = tokenAt s i
+      x = tokenOf s i
 
       is-before : List·Memᴰ x (before s)
       is-before = before-last s i l

@@ -10,6 +10,7 @@ use lib.ListN.{length, drop, length-take}
 use Rattle.language.specs.Lexemes.{scanFrom}
 use Rattle.language.specs.Tokens.{unquoted, between, bodyOf, bodiesOf, bodiesIn}
 use Rattle.language.specs.Canonical.{quoted, spellBodies}
+use Rattle.language.proofs.Parts.{part-size}
 use Rattle.lexemes.specs.declared.Lexeme.{Lexeme}
 use Rattle.lexemes.specs.declared.LexemeKind.the-variants as kind-is
 use Rattle.scan.specs.declared.Scanner.{Scanner}
@@ -17,8 +18,8 @@ use Rattle.scan.specs.declared.Step.the-variants.{Found, Done}
 use Rattle.scan.specs.Scanning as scanning
 use Rattle.scan.specs.Scanning.{stepAt}
 use Rattle.lexemes.proofs.LexemeKind as kind
-use Rattle.lex.proofs.Feeding.{turn, at-end}
-use Rattle.lex.proofs.Bodies.{part-size, unquoted-is, none-here, one-here}
+use Rattle.scan.proofs.Turns.{turn, at-end}
+use Rattle.lex.proofs.Bodies.{unquoted-is, none-here, one-here}
 use Rattle.canon.specs.Writing.{Writes, literalsText, literalText}
 use Rattle.canon.proofs.Writing.{none, _then_, bytes-are}
 

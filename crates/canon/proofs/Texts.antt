@@ -8,11 +8,13 @@ use lib.Seq.{drop-cons, drop-at}
 use Rattle.language.specs.Tables.{contentKind}
 use Rattle.language.specs.Tokens.{Token, eofToken, tokens, contents}
 use Rattle.language.specs.Canonical.{spell, canonical, text}
-use Rattle.canon.specs.Writing.{Writes, rowText, gapText, RowFits, Lexes, WritesText}
+use Rattle.language.specs.Numbers.{tokenOf}
+use Rattle.lex.specs.Entry.{Lexes}
+use Rattle.canon.specs.Writing.{Writes, rowText, gapText, RowFits, WritesText}
 use Rattle.canon.proofs.Writing as laws
 use Rattle.canon.proofs.Writing.{_then_, bytes-are}
 use Rattle.canon.proofs.Contents.{gap-is}
-use Rattle.canon.proofs.Rows.{before, counted, tokenAt, row-is, fits, row-text}
+use Rattle.canon.proofs.Rows.{before, counted, row-is, fits, row-text}
 
 -- ---- the text of a list of tokens
 
@@ -67,7 +69,7 @@ module _ (s toks : List ℕ) (count : ℕ) (h : Lexes s toks count) where
 
     module _ (m : i < count) {row next : ℕ} (r : row ≡ i * 7 - 7) (q : next ≡ i * 7) where
       abbrev x : Token
-      x = tokenAt s (i - 1)
+      x = tokenOf s (i - 1)
 
       this : row ≡ 7 * (i - 1)
       this = omega (arith, f .begun)
@@ -78,7 +80,7 @@ module _ (s toks : List ℕ) (count : ℕ) (h : Lexes s toks count) where
       kind-is : getD toks row 0 ≡ contentKind (x .content)
       kind-is = row-is s toks count h (i - 1) (omega arith) this .kind
 
-      next-is : getD toks next 0 ≡ contentKind (tokenAt s i .content)
+      next-is : getD toks next 0 ≡ contentKind (tokenOf s i .content)
       next-is = row-is s toks count h i m {row = next} (omega arith) .kind
 
       -- what the calls ask for
@@ -90,15 +92,15 @@ module _ (s toks : List ℕ) (count : ℕ) (h : Lexes s toks count) where
 
       -- a token and what follows it
       abbrev piece : List ℕ
-      piece = spell (x .content) ++ gapText (contentKind (x .content)) (contentKind (tokenAt s i .content))
+      piece = spell (x .content) ++ gapText (contentKind (x .content)) (contentKind (tokenOf s i .content))
 
       whole-here : f .done ++ (piece ++ canonical (contents (drop i (tokens s)))) ≡ text s
       whole-here =
           let n : suc (i - 1) ≡ i = omega (arith, f .begun) in
           let a : drop (i - 1) (tokens s) ≡ x ∷ drop i (tokens s) = drop-cons (tokens s) (i - 1) (eofToken s) (omega (arith, h .counted)) ∙ rw n in
-          let b : drop i (tokens s) ≡ tokenAt s i ∷ drop (suc i) (tokens s) = drop-cons (tokens s) i (eofToken s) (omega (arith, h .counted)) in
+          let b : drop i (tokens s) ≡ tokenOf s i ∷ drop (suc i) (tokens s) = drop-cons (tokens s) i (eofToken s) (omega (arith, h .counted)) in
           let c : canonical (contents (drop (i - 1) (tokens s))) ≡ piece ++ canonical (contents (drop i (tokens s))) =
-          rw (a, b) (next-text x (tokenAt s i) (drop (suc i) (tokens s))) in
+          rw (a, b) (next-text x (tokenOf s i) (drop (suc i) (tokens s))) in
           rw c at (f .whole)
 
       pub more : {end to : ℕ} {v w : List ℕ} → Writes u at (rowText s toks row) end v → Writes v end (gapText (getD toks row 0) (getD toks next 0)) to w

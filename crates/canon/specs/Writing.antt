@@ -1,15 +1,15 @@
 -- What it is to write bytes after those that are there, and which bytes a row of the token table stands for.
-use Prim.Native.Nat.{ℕ, _+_, _*_, _≤_, _<_, _/_}
+use Prim.Native.Nat.{ℕ, _+_, _*_, _≤_, _<_}
 use mathlib.Core.Path.{_≡_}
 use mathlib.Core.List.{List, [], _∷_, _++_}
 use lib.Dec.{eqb}
 use lib.ListN.{length, getD}
-use Rattle.table.specs.Table.{padTo, tabled}
+use Rattle.table.specs.Table.{padTo}
 use Rattle.language.specs.Choice.{if′}
 use Rattle.language.specs.Lexemes.{import′, let′, true′, false′}
 use Rattle.language.specs.Integers.{decimal, hexadecimal}
-use Rattle.language.specs.Tables.{word, tokenRow, tokenWidth}
-use Rattle.language.specs.Tokens.{tokens, between, bodiesIn, mostBytes}
+use Rattle.language.specs.Tables.{wordLimit}
+use Rattle.language.specs.Tokens.{between, bodiesIn, mostBytes}
 use Rattle.language.specs.Canonical.{spellDigits, spellQuad, quoted, spellBodies, text}
 
 -- bytes written at the place `at` of a lent text: t before, u after, and r the place after them. Those past the end are
@@ -61,8 +61,8 @@ kindText k low high bytes =
     if′ (eqb k 13) bytes
     (if′ (eqb k 15) (spellQuad low)
     (if′ (eqb k 16) (literalsText (bodiesIn bytes))
-    (if′ (eqb k 17) (48 ∷ 120 ∷ spellDigits (hexadecimal (high * word + low)))
-    (if′ (eqb k 18) (spellDigits (decimal (high * word + low))) (fixedText k low)))))
+    (if′ (eqb k 17) (48 ∷ 120 ∷ spellDigits (hexadecimal (high * wordLimit + low)))
+    (if′ (eqb k 18) (spellDigits (decimal (high * wordLimit + low))) (fixedText k low)))))
 
 -- the token whose row starts at this word of a table
 abbrev pub rowText : List ℕ → List ℕ → ℕ → List ℕ
@@ -81,13 +81,6 @@ pub record RowFits (source toks : List ℕ) (row : ℕ) : Type 0 where
   pub room : row + 6 < length toks
   pub forth : getD toks (row + 3) 0 ≤ getD toks (row + 4) 0
   pub within : getD toks (row + 4) 0 ≤ length source
-  pub short : length source ≤ mostBytes
-
--- a table that holds all tokens of a source
-pub record Lexes (source toks : List ℕ) (count : ℕ) : Type 0 where
-  pub rows : toks ≡ tabled tokenRow tokenWidth (length toks) (tokens source)
-  pub counted : count ≡ length (tokens source)
-  pub room : count ≤ length toks / tokenWidth
   pub short : length source ≤ mostBytes
 
 -- the text of a source is written to t, which is all zero: all of it, or so much that more than 65,536 bytes were counted

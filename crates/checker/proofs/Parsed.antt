@@ -19,7 +19,8 @@ use Rattle.language.specs.Numbers as numbers
 use Rattle.language.specs.Numbers.{verdict, lexAnswer, parsed, parsedAs, parseAnswer, parsedNodes, parseTokens, parseNodes, statementsOf}
 use Rattle.parse.specs.declared.ParseAnswer.{ParseAnswer}
 use Rattle.parse.specs.Entry.{ParseSource}
-use Rattle.parse.proofs.Entry.{not-zero, in-room, all-lexed}
+use Rattle.parse.proofs.Entry.{not-zero}
+use Rattle.language.proofs.Done.{LexesIn, lex-done, lex-done-only}
 use Rattle.language.proofs.SentenceRefusals.{refused-number}
 use Rattle.language.proofs.TokensAt.{row-width, some-token}
 use Rattle.language.proofs.NodeClaims.{all-long, row-long}
@@ -36,12 +37,15 @@ module _ (s : List ℕ) (m n : ℕ) (z : parseAnswer s m n .verdict .number ≡ 
   lexed-too true e = eqb-true _ _ e
   lexed-too false e = rw e at z
 
+  lexes-in : LexesIn s m
+  lexes-in = lex-done-only s m (lexed-too (eqb (lexAnswer s m .verdict .number) 0) refl)
+
   pub tokens-in : length (tokens s) ≤ m
-  tokens-in = in-room s m (lexed-too (eqb (lexAnswer s m .verdict .number) 0) refl)
+  tokens-in = lexes-in .fit
 
   answer-as : {o : Out (List Stmt)} → program (contents (tokens s)) ≡ o → parseAnswer s m n ≡ parsedAs s n (length (tokens s)) o
   unfolding parseAnswer
-  answer-as e = rw (all-lexed s m (lexed-too (eqb (lexAnswer s m .verdict .number) 0) refl), e)
+  answer-as e = rw (lex-done s m lexes-in, e)
 
   number-as : {o : Out (List Stmt)} → program (contents (tokens s)) ≡ o → parsedAs s n (length (tokens s)) o .verdict .number ≡ 0
   number-as e = sym (ap (λ (p : numbers.Parsed). p .verdict .number) (answer-as e)) ∙ z

@@ -8,9 +8,9 @@ use Rattle.table.specs.Table.{padTo, tabled}
 use Rattle.language.specs.Tables.{tokenRow, tokenWidth}
 use Rattle.language.specs.Tokens.{tokens, contents}
 use Rattle.language.specs.Sentences.{program, nodeRow, nodeWidth}
-use Rattle.language.specs.Findings.{stmtWidth}
 use Rattle.language.specs.Numbers as numbers
-use Rattle.language.specs.Numbers.{verdict, parsed, parseAnswer, parsedNodes, checkAnswer, checkTokens, checkNodes, checkDiags, checkStmts}
+use Rattle.language.specs.Numbers.{verdict, parsed, parseAnswer, parsedNodes}
+use Rattle.language.specs.Entries.{CheckPromise}
 use Rattle.scan.specs.declared.Verdict.{Verdict}
 use Rattle.scan.specs.Scanning.{verdictAs}
 use Rattle.checker.specs.declared.Call.{Call}
@@ -54,9 +54,5 @@ pub record Parses (source toks tree : List ℕ) (count rows : ℕ) : Type 0 wher
 
 -- of a source and tables of t, n, d and k words (of tokens, nodes, diagnostics and statements): the answer r, and what is
 -- left in each
-pub record CheckSource (source : List ℕ) (t n d k : ℕ) (r : CheckAnswer) (toks tree found held : List ℕ) : Type 0 where
-  pub answer : r ≡ checkedAs (checkAnswer source (t / tokenWidth) (n / nodeWidth) (k / stmtWidth))
-  pub tokens : toks ≡ checkTokens source t n k
-  pub nodes : tree ≡ checkNodes source t n k
-  pub diags : found ≡ checkDiags source t n k d
-  pub stmts : held ≡ checkStmts source t n k
+abbrev pub CheckSource : List ℕ → ℕ → ℕ → ℕ → ℕ → CheckAnswer → List ℕ → List ℕ → List ℕ → List ℕ → Type 0
+CheckSource source t n d k r toks tree found held = CheckPromise checkedAs source t n d k r toks tree found held

@@ -1,49 +1,19 @@
 -- The rows of the table are the entries: one test over the whole table.
 use Prim.Native.Nat.{ℕ, zero, suc, _+_, _-_, _*_, _≤_, _<_}
-use native.Mathlib.Nat.{not-suc-le-zero}
 use native.Mathlib.Omega.{arith}
 use mathlib.Core.Path.{_≡_, refl, _∙_, sym, subst, ap}
 use mathlib.Core.Bool.{Bool, true, false, _&&_}
 use mathlib.Core.List.{List}
 use mathlib.Core.Option.{Option, none, some}
-use mathlib.Core.Logic.{_⊎_, inl, inr}
-use borrow.Author.Tests.{ltb-true, ltb-false, lt-ltb, le-ltb}
-use lib.Dec.{T, eqb, ltb, eqb→eq}
+use borrow.Author.Tests.{eqb-true, ltb-true, ltb-false, lt-ltb, le-ltb}
+use lib.Dec.{eqb, ltb}
 use lib.ListN.{length, getD, drop, List·getD-eq-default, drop-of-length-le}
 use lib.Seq.{drop-cons}
 use Rattle.language.specs.Choice.{if′}
 use Rattle.language.specs.Lexemes.{same}
 use Rattle.language.specs.Values.{Entry, entry, entries, entryAt, entryName, tableText, lookupFrom}
+use Rattle.language.proofs.SpellingRuns.{upTo, up-to}
 use Rattle.constants.specs.Constants.{tableRows, kindOf, lowOf, highOf, orZero, entryWord, isHit}
-
-both-left : (a b : Bool) → T (a && b) → T a
-both-left true b t = tt
-both-left false b t = t
-
-both-right : (a b : Bool) → T (a && b) → T b
-both-right true b t = t
-both-right false b t = absurd t
-
--- a test passes at each number below n
-below : (ℕ → Bool) → ℕ → Bool
-below f zero = true
-below f (suc n) = f n && below f n
-
--- the last number, or one below it
-last-or : (n k : ℕ) → k < suc n → (k ≡ n) ⊎ (k < n)
-last-or n k h = go (ltb k n) refl
-  where
-    go : (b : Bool) → ltb k n ≡ b → (k ≡ n) ⊎ (k < n)
-    go true e = inr (ltb-true k n e)
-    go false e = inl (omega (arith, ltb-false k n e, h))
-
-passes : (f : ℕ → Bool) (n k : ℕ) → T (below f n) → k < n → T (f k)
-unfolding below
-passes f zero k t h = absurd (not-suc-le-zero h)
-passes f (suc n) k t h = elim (last-or n k h) [
-  | inl e ↦ subst (λ (m : ℕ). T (f m)) (sym e) (both-left (f n) (below f n) t)
-  | inr l ↦ passes f n k (both-right (f n) (below f n) t) l
-]
 
 abbrev nameless : Entry
 nameless = entry 0 0 0 none
@@ -52,9 +22,9 @@ nameless = entry 0 0 0 none
 test : ℕ → (Entry → ℕ) → ℕ → Bool
 test j f k = eqb (getD tableRows (6 * k + j) 0) (f (getD entries k nameless))
 
-field : (j : ℕ) (f : Entry → ℕ) → T (below (test j f) 9) → (k : ℕ) → k < 9 → getD tableRows (6 * k + j) 0 ≡ f (getD entries k nameless)
+field : (j : ℕ) (f : Entry → ℕ) → upTo (test j f) 9 ≡ true → (k : ℕ) → k < 9 → getD tableRows (6 * k + j) 0 ≡ f (getD entries k nameless)
 unfolding test
-field j f t k h = eqb→eq (getD tableRows (6 * k + j) 0) (f (getD entries k nameless)) (passes (test j f) 9 k t h)
+field j f t k h = eqb-true (getD tableRows (6 * k + j) 0) (f (getD entries k nameless)) (up-to (test j f) 9 t k h)
 
 pub record Row (k : ℕ) (e : Entry) : Type 0 where
   pub inside : getD tableRows (6 * k) 0 ≡ e .inside
@@ -65,16 +35,16 @@ pub record Row (k : ℕ) (e : Entry) : Type 0 where
   pub high : getD tableRows (6 * k + 5) 0 ≡ highOf (e .value)
 
 pub row : (k : ℕ) → k < 9 → Row k (getD entries k nameless)
-unfolding test below tableRows entries
+unfolding test tableRows entries
 row k h =
     let z : 6 * k + 0 ≡ 6 * k = omega arith in
     record {
-      inside = ap (λ (n : ℕ). getD tableRows n 0) (sym z) ∙ field 0 (λ e. e .inside) tt k h;
-      start = field 1 (λ e. e .start) tt k h;
-      end = field 2 (λ e. e .end) tt k h;
-      kind = field 3 (λ e. kindOf (e .value)) tt k h;
-      low = field 4 (λ e. lowOf (e .value)) tt k h;
-      high = field 5 (λ e. highOf (e .value)) tt k h;
+      inside = ap (λ (n : ℕ). getD tableRows n 0) (sym z) ∙ field 0 (λ e. e .inside) refl k h;
+      start = field 1 (λ e. e .start) refl k h;
+      end = field 2 (λ e. e .end) refl k h;
+      kind = field 3 (λ e. kindOf (e .value)) refl k h;
+      low = field 4 (λ e. lowOf (e .value)) refl k h;
+      high = field 5 (λ e. highOf (e .value)) refl k h;
     }
 
 -- every word of an entry, also of one that is not there

@@ -1,3 +1,2 @@
-pub mod Parts
-pub mod Sames
+pub mod Hits
 pub mod Entries

@@ -28,12 +28,11 @@ use Rattle.language.proofs.CheckClaims.{text-checked}
 use Rattle.language.proofs.Done.{LexesIn, lex-done, lex-leaves, FitsIn, lexes-in, canon-done, canon-done-only, canon-leaves-tokens, canon-leaves-text}
 use Rattle.lex.specs.declared.Lexed.{Lexed}
 use Rattle.lex.specs.Lexing.{lexedAs}
-use Rattle.lex.specs.Entry.{LexSource}
+use Rattle.lex.specs.Entry.{LexSource, Lexes}
 use Rattle.canon.specs.declared.Canonised.{Canonised}
-use Rattle.canon.specs.Writing.{Lexes}
 use Rattle.canon.specs.Entry.{canonisedAs, CanonSource}
 use Rattle.joined.specs.Canonical.{Done, textLeft, SameRows, DoneExactly, TextLexes, TextStays, SameTexts, SameTables, TextParses, SameLeft, TextChecks}
-use Rattle.canon.proofs.Rows.{holds}
+use Rattle.lex.proofs.Left.{holds}
 use Rattle.joined.proofs.SameRows.{same-rows, same-written}
 
 -- ---- what a call that is done left
@@ -145,8 +144,8 @@ text-parses s t n r toks left c z j m p q a b x y f g =
     let k = h .1 (j / tokenWidth) (m / nodeWidth) in
     let answer : List ℕ → ParseAnswer = λ v. parsedAs (parseAnswer v (j / tokenWidth) (m / nodeWidth)) in (
       g .nodes ∙ ap (λ (v : List ℕ). parseNodes v j m) w ∙ h .0 j m ∙ sym (f .nodes),
-      same-field (λ (v : ParseAnswer). v .verdict .number) answer (f .answer) (g .answer) w (k .number),
-      same-field (λ (v : ParseAnswer). v .verdict .kind) answer (f .answer) (g .answer) w (k .kind),
+      same-field (λ (v : ParseAnswer). v .verdict .number) answer (f .answer) (g .answer) w (k .verdict .number),
+      same-field (λ (v : ParseAnswer). v .verdict .kind) answer (f .answer) (g .answer) w (k .verdict .kind),
       same-field (λ (v : ParseAnswer). v .tokens) answer (f .answer) (g .answer) w (k .tokens),
       same-field (λ (v : ParseAnswer). v .nodes) answer (f .answer) (g .answer) w (k .nodes),
     )
@@ -181,8 +180,8 @@ text-checks s t n r toks left c z j m d k p q a b x y v w g h e f =
     let o = l .answer (j / tokenWidth) (m / nodeWidth) (k / stmtWidth) in
     let answer : List ℕ → CheckAnswer = λ i. checkedAs (checkAnswer i (j / tokenWidth) (m / nodeWidth) (k / stmtWidth)) in (
       f .nodes ∙ ap (λ (i : List ℕ). checkNodes i j m k) u ∙ l .nodes j m k ∙ sym (e .nodes),
-      same-field (λ (i : CheckAnswer). i .verdict .number) answer (e .answer) (f .answer) u (o .number),
-      same-field (λ (i : CheckAnswer). i .verdict .kind) answer (e .answer) (f .answer) u (o .kind),
+      same-field (λ (i : CheckAnswer). i .verdict .number) answer (e .answer) (f .answer) u (o .verdict .number),
+      same-field (λ (i : CheckAnswer). i .verdict .kind) answer (e .answer) (f .answer) u (o .verdict .kind),
       same-field (λ (i : CheckAnswer). i .tokens) answer (e .answer) (f .answer) u (o .tokens),
       same-field (λ (i : CheckAnswer). i .nodes) answer (e .answer) (f .answer) u (o .nodes),
       same-field (λ (i : CheckAnswer). i .errors) answer (e .answer) (f .answer) u (o .errors),

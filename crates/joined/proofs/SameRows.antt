@@ -1,6 +1,6 @@
 -- Two tables that hold all tokens of their sources have the same rows, places aside, where the contents are the same; and
 -- where they have the same rows, the sources have the same text.
-use Prim.Native.Nat.{ℕ, suc, _+_, _*_, _≤_, _<_}
+use Prim.Native.Nat.{ℕ, suc, _+_, _-_, _*_, _≤_, _<_}
 use mathlib.Core.Path.{_≡_, refl, sym, ap, _∙_}
 use mathlib.Core.Bool.{Bool, true, false}
 use mathlib.Core.List.{List, [], _∷_, List·Memᴰ, List·Memᴰ·append-cases, List·Memᴰ·eq-of-singleton}
@@ -10,19 +10,21 @@ use native.Mathlib.Decide.{decLe}
 use native.Mathlib.Omega.{arith}
 use borrow.Author.Tests.{eqb-true}
 use lib.Dec.{eqb}
-use lib.ListN.{length, getD, length-map, List·getD-map}
-use lib.Seq.{getD-at}
+use lib.ListN.{length, getD, length-map}
 use Rattle.language.specs.Tables.{tokenWidth, contentKind, contentLow, contentHigh}
 use Rattle.language.specs.Tokens.{Content, eof, string, Token, items, tokensFrom, eofToken, tokens, contents, between, bodiesIn}
 use Rattle.language.specs.Canonical.{spell, after, canonical, text}
 use Rattle.language.proofs.TokenClaims.{places-right, names-held, bodies-held, name-kind}
 use Rattle.language.proofs.TokenContents.{contents-decide}
+use Rattle.language.specs.Numbers.{tokenOf}
+use Rattle.language.proofs.TokensAt.{content-of, long-tokens, last-token}
 use Rattle.lex.specs.Lexing.{nth, bodyAt}
 use Rattle.lex.proofs.Bodies.{some-part}
-use Rattle.canon.specs.Writing.{kindText, rowText, Lexes}
+use Rattle.lex.specs.Entry.{Lexes}
+use Rattle.canon.specs.Writing.{kindText, rowText}
 use Rattle.joined.specs.Canonical.{SameRow, SameRows}
 use Rattle.canon.proofs.Contents.{gap-is, string-kind}
-use Rattle.canon.proofs.Rows.{before, counted, tokenAt, RowIs, row-past, row-is, row-text}
+use Rattle.canon.proofs.Rows.{before, counted, RowIs, row-past, row-is, row-text}
 
 -- ---- bodies
 
@@ -62,14 +64,11 @@ kind-text k low high {p} {q} f g = go (eqb k 13) (eqb k 16) refl refl
     go false true d e = rw (d, e, g (eqb-true k 16 e))
     go false false d e = rw (d, e)
 
--- the content of the token numbered i
-content-at : (s : List ℕ) (i : ℕ) → getD (contents (tokens s)) i eof ≡ tokenAt s i .content
-content-at s i = List·getD-map (λ (t : Token). t .content) (tokens s) i (eofToken s)
-
 -- the last is the end
-at-end : (s : List ℕ) (i : ℕ) → length (before s) ≡ i → tokenAt s i ≡ eofToken s
-unfolding tokens
-at-end s i e = getD-at (before s) (eofToken s) [] (eofToken s) i e
+at-end : (s : List ℕ) (i : ℕ) → length (before s) ≡ i → tokenOf s i ≡ eofToken s
+at-end s i e =
+    let z : i ≡ length (tokens s) - 1 = omega (arith, e, long-tokens s) in
+    ap (tokenOf s) z ∙ last-token s
 
 -- a row of each table, with the tokens x and y
 module _ {s u a b : List ℕ} {row : ℕ} {x y : Token} (p : RowIs s a row x) (q : RowIs u b row y) where
@@ -157,8 +156,8 @@ module _ {s u a b : List ℕ} {c d : ℕ} (h : Lexes s a c) (g : Lexes u b d) wh
       elim (decLe (suc i) c) [
         | yes m ↦
             let k : i < d = omega arith in
-            let f : tokenAt s i .content ≡ tokenAt u i .content =
-            sym (content-at s i) ∙ ap (λ (cs : List Content). getD cs i eof) e ∙ content-at u i in
+            let f : tokenOf s i .content ≡ tokenOf u i .content =
+            sym (content-of s i) ∙ ap (λ (cs : List Content). getD cs i eof) e ∙ content-of u i in
             same-row (row-is s a c h i m refl) (row-is u b d g i k refl) f
         | no m ↦ past i (omega arith) (omega arith)
       ]
@@ -177,14 +176,14 @@ module _ {s u a b : List ℕ} {c d : ℕ} (h : Lexes s a c) (g : Lexes u b d) wh
 
   -- the same rows, as many, the same text
   module _ (n : c ≡ d) (w : SameRows s u a b) where
-    alike : (i : ℕ) → i < c → Alike (tokenAt s i .content) (tokenAt u i .content)
+    alike : (i : ℕ) → i < c → Alike (tokenOf s i .content) (tokenOf u i .content)
     alike i m =
         let k : i < d = omega arith in
-        let p : RowIs s a (tokenWidth * i) (tokenAt s i) = row-is s a c h i m refl in
-        let q : RowIs u b (tokenWidth * i) (tokenAt u i) = row-is u b d g i k refl in
+        let p : RowIs s a (tokenWidth * i) (tokenOf s i) = row-is s a c h i m refl in
+        let q : RowIs u b (tokenWidth * i) (tokenOf u i) = row-is u b d g i k refl in
         let same = counted s a c h in
         let same′ = counted u b d g in
-        let spelt : spell (tokenAt s i .content) ≡ spell (tokenAt u i .content) =
+        let spelt : spell (tokenOf s i .content) ≡ spell (tokenOf u i .content) =
         elim (decLe (suc i) (length (before s))) [
           | yes l ↦
               let l′ : i < length (before u) = omega arith in
@@ -198,4 +197,4 @@ module _ {s u a b : List ℕ} {c d : ℕ} (h : Lexes s a c) (g : Lexes u b d) wh
         let e : length (contents (tokens s)) ≡ c = length-map (tokens s) (λ t. t .content) ∙ sym (h .counted) in
         let f : length (contents (tokens u)) ≡ d = length-map (tokens u) (λ t. t .content) ∙ sym (g .counted) in
         same-canonical (contents (tokens s)) (contents (tokens u))
-        (e ∙ n ∙ sym f, λ i m. rw (content-at s i, content-at u i) (alike i (omega arith)))
+        (e ∙ n ∙ sym f, λ i m. rw (content-of s i, content-of u i) (alike i (omega arith)))

@@ -199,25 +199,17 @@ members-none s t e = record { on = λ x y c j a. stop-none j _ a e }
 
 module _ (ts : List Content) (n ip at : ℕ) (u : values.Value) where
   pub right-none : integerOf u ≡ none → rightOf ts n ip at u ≡ judgement (err at (operandType right (tyInt u16) (typeOf u))) []
-  right-none e =
-      ap (λ (o : Option ℕ). elim o [
-        | some i ↦ judgement (val (values.isSock4 ip (low16 i))) (cut ts n at i)
-        | none ↦ judgement (err at (operandType right (tyInt u16) (typeOf u))) []
-      ]) e
+  right-none e = rw (e, rightOf)
 
   pub right-some : {i : ℕ} → integerOf u ≡ some i → rightOf ts n ip at u ≡ judgement (val (values.isSock4 ip (low16 i))) (cut ts n at i)
-  right-some e =
-      ap (λ (o : Option ℕ). elim o [
-        | some i ↦ judgement (val (values.isSock4 ip (low16 i))) (cut ts n at i)
-        | none ↦ judgement (err at (operandType right (tyInt u16) (typeOf u))) []
-      ]) e
+  right-some e = rw (e, rightOf)
 
 module _ (ts : List Content) (at : ℕ) (f : ℕ → judgements.Judgement) (u : values.Value) where
   pub left-none : ip4Of u ≡ none → leftOf ts at f u ≡ judgement (err at (operandType left tyIp4 (typeOf u))) []
-  left-none e = ap (λ (o : Option ℕ). elim o [ some n ↦ f n | none ↦ judgement (err at (operandType left tyIp4 (typeOf u))) [] ]) e
+  left-none e = rw (e, leftOf)
 
   pub left-some : {n : ℕ} → ip4Of u ≡ some n → leftOf ts at f u ≡ f n
-  left-some e = ap (λ (o : Option ℕ). elim o [ some n ↦ f n | none ↦ judgement (err at (operandType left tyIp4 (typeOf u))) [] ]) e
+  left-some e = rw (e, leftOf)
 
 pub not-integer : (s : List ℕ) (ip t : ℕ) {r : Judgement} {v : Value} {c : Counts} {x : List ℕ} → isIntegral (v .kind) ≡ false
     → Operand s t v 2 4 (r .out) → r .counts ≡ c → Narrows s ip t v c x r x
@@ -230,7 +222,7 @@ not-integer s ip t h o k =
     }
 
 abbrev total : Value → ℕ
-total v = v .hi * tables.word + v .lo
+total v = v .hi * tables.wordLimit + v .lo
 
 integer-of : (v : Value) → isIntegral (v .kind) ≡ true → (u : values.Value) → v ≡ valueAs u → integerOf u ≡ some (total v)
 integer-of v h u e = integer-is u (sym (ap (λ (w : Value). isIntegral (w .kind)) e) ∙ h) ∙ ap some (sym (ap total e))
@@ -248,13 +240,13 @@ module _ (s : List ℕ) (ip t : ℕ) (v : Value) (h : isIntegral (v .kind) ≡ t
       }
 
   pub narrows-cut : {r : Judgement} {c : Counts} {x : List ℕ} {tok : Token} {f : Fault} {y : List ℕ} → true ≡ isTruncated (total v)
-      → r .out ≡ Val (record { kind = 8; lo = ip; hi = port }) → v .lo < tables.word
+      → r .out ≡ Val (record { kind = 8; lo = ip; hi = port }) → v .lo < tables.wordLimit
       → tok ≡ tokenAs (tokenOf s t) → f ≡ truncatedAs tok (v .lo) (v .hi) → y ≡ putRow x (c .errors + c .warnings) (faultRow f)
       → r .counts ≡ plusWarnings c 1 → Narrows s ip t v c x r y
   unfolding diagRow
   narrows-cut {c = c} {x = x} {f = f} b q l e g o k =
-      let lo : total v % tables.word ≡ v .lo = omega (arith, l) in
-      let hi : total v / tables.word ≡ v .hi = omega (arith, l) in
+      let lo : total v % tables.wordLimit ≡ v .lo = omega (arith, l) in
+      let hi : total v / tables.wordLimit ≡ v .hi = omega (arith, l) in
       record {
         is = λ n u w.
             let d : Diag = diag n t (truncated (total v) (tyInt u16)) in

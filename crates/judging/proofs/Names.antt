@@ -25,7 +25,7 @@ use Rattle.language.specs.Numbers.{tokenOf}
 use Rattle.judging.specs.declared.Token.{Token}
 use Rattle.judging.specs.declared.Judged.{Judged}
 use Rattle.judging.specs.declared.Judged.the-variants.{Val, Err}
-use Rattle.judging.specs.Judging.{tokenAs, opened, Canon, heldAs, judgedAs, namedAs, faultAs, nameWord, nameOf, keyFrom, keyOf, namesIn, bindingAt, boundIn, orNone, importAt, importsIn, place}
+use Rattle.judging.specs.Judging.{tokenAs, opened, Canon, heldAs, judgedAs, namedAs, faultAs, nameWord, nameOf, keyFrom, keyOf, listed, namesIn, bindingAt, boundIn, orNone, importAt, importsIn, place}
 use Rattle.language.proofs.Tests.{both}
 use Rattle.language.proofs.TokensAt.{content-of, past-token}
 use Rattle.judging.proofs.Values.{some-kind}
@@ -73,15 +73,15 @@ module _ (s : List ℕ) (ws : List (List ℕ)) (w : List ℕ) (used i : ℕ) whe
       tested = sym (o ∙ ap (λ (x : List ℕ). same x w) q)
 
       pub search-hit : b ≡ true → i ≡ i + place (namesIn s ws (used - i) i) w
-      unfolding namesIn place
+      unfolding namesIn listed place
       search-hit e = let t = tested ∙ e in rw (more, t) (omega arith)
 
       pub search-miss : b ≡ false → i + 1 + place (namesIn s ws (used - (i + 1)) (i + 1)) w ≡ i + place (namesIn s ws (used - i) i) w
-      unfolding namesIn place
+      unfolding namesIn listed place
       search-miss e = let t = tested ∙ e in rw (more, t) (omega arith)
 
   pub search-end : i ≤ used → used ≤ i → used ≡ i + place (namesIn s ws (used - i) i) w
-  unfolding namesIn place
+  unfolding namesIn listed place
   search-end l h = let e : used - i ≡ 0 = omega arith in rw e (omega arith)
 
 -- ---- what it finds: a table's entries as a list, and the first of a name in it
@@ -91,31 +91,29 @@ record Found {A : Type 0} (entry : ℕ → A) (named : A → List ℕ) (xs : Lis
   hit : {n : ℕ} → n ≡ i + r → r < k → firstNamed named xs w ≡ some (entry n)
   lost : k ≤ r → firstNamed named xs w ≡ none
 
-module _ (s : List ℕ) (ws : List (List ℕ)) {A : Type 0} (entry : ℕ → A) (named : A → List ℕ) (listed : ℕ → ℕ → List A)
-    (empty : (i : ℕ) → listed zero i ≡ []) (one : (k i : ℕ) → listed (suc k) i ≡ entry i ∷ listed k (i + 1))
-    (own : (i : ℕ) → named (entry i) ≡ nameOf s ws i) where
+module _ (s : List ℕ) (ws : List (List ℕ)) {A : Type 0} (entry : ℕ → A) (named : A → List ℕ) (own : (i : ℕ) → named (entry i) ≡ nameOf s ws i) where
   found-step : (k i : ℕ) (w : List ℕ) (r n : ℕ) (b : Bool) → same (nameOf s ws i) w ≡ b → r ≡ if′ b 0 (suc n)
-      → Found entry named (listed k (i + 1)) k (i + 1) w n → Found entry named (listed (suc k) i) (suc k) i w r
-  unfolding firstNamed
+      → Found entry named (listed entry k (i + 1)) k (i + 1) w n → Found entry named (listed entry (suc k) i) (suc k) i w r
+  unfolding firstNamed listed
   found-step k i w r n true q e on =
-      record { hit = λ {n = m} g h. let t : m ≡ i = omega arith in rw (one k i, own i, q, t); lost = λ h. absurd (omega arith) }
+      record { hit = λ {n = m} g h. let t : m ≡ i = omega arith in rw (own i, q, t); lost = λ h. absurd (omega arith) }
   found-step k i w r n false q e on =
-      record { hit = λ g h. rw (one k i, own i, q) (on .hit (omega arith) (omega arith)); lost = λ h. rw (one k i, own i, q) (on .lost (omega arith)) }
+      record { hit = λ g h. rw (own i, q) (on .hit (omega arith) (omega arith)); lost = λ h. rw (own i, q) (on .lost (omega arith)) }
 
-  found-from : (k i : ℕ) (w : List ℕ) (r : ℕ) → r ≡ place (namesIn s ws k i) w → Found entry named (listed k i) k i w r
-  unfolding namesIn place firstNamed
-  found-from zero i w r e = record { hit = λ g h. absurd (omega arith); lost = λ h. rw (empty i) }
+  found-from : (k i : ℕ) (w : List ℕ) (r : ℕ) → r ≡ place (namesIn s ws k i) w → Found entry named (listed entry k i) k i w r
+  unfolding namesIn listed place firstNamed
+  found-from zero i w r e = record { hit = λ g h. absurd (omega arith); lost = λ h. refl }
   found-from (suc k) i w r e =
       found-step k i w r (place (namesIn s ws k (i + 1)) w) (same (nameOf s ws i) w) refl e (found-from k (i + 1) w (place (namesIn s ws k (i + 1)) w) refl)
 
 module _ (s : List ℕ) (ws : List (List ℕ)) (w : List ℕ) (used r : ℕ) (e : r ≡ place (namesIn s ws used 0) w) where
   in-bindings : Found (bindingAt s ws) (λ b. b .name) (boundIn s ws used 0) used 0 w r
   unfolding boundIn
-  in-bindings = found-from s ws (bindingAt s ws) (λ b. b .name) (boundIn s ws) (λ i. refl) (λ k i. refl) (λ i. refl) used 0 w r e
+  in-bindings = found-from s ws (bindingAt s ws) (λ b. b .name) (λ i. refl) used 0 w r e
 
   in-imports : Found (importAt s ws) (λ m. m .name) (importsIn s ws used 0) used 0 w r
   unfolding importsIn
-  in-imports = found-from s ws (importAt s ws) (λ m. m .name) (importsIn s ws) (λ i. refl) (λ k i. refl) (λ i. refl) used 0 w r e
+  in-imports = found-from s ws (importAt s ws) (λ m. m .name) (λ i. refl) used 0 w r e
 
   pub bound-found : r < used → find (boundIn s ws used 0) w ≡ some (bindingAt s ws r)
   bound-found h = in-bindings .hit (omega arith) h
@@ -129,6 +127,10 @@ module _ (s : List ℕ) (ws : List (List ℕ)) (w : List ℕ) (used r : ℕ) (e 
   pub import-lost : used ≤ r → findImport (importsIn s ws used 0) w ≡ none
   import-lost h = in-imports .lost h
 
+-- of a name that is the same
+pub same-place : (xs : List (List ℕ)) {w v : List ℕ} {i : ℕ} → i ≡ place xs w → w ≡ v → i ≡ place xs v
+same-place xs p o = p ∙ ap (place xs) o
+
 -- ---- a name's value
 
 module _ (s : List ℕ) (ts : List Content) (t : ℕ) where
@@ -140,7 +142,7 @@ module _ (s : List ℕ) (ts : List Content) (t : ℕ) where
 
   module _ (ws : List (List ℕ)) (w v : List ℕ) (used i : ℕ) (p : i ≡ place (namesIn s ws used 0) w) (o : w ≡ v) where
     e : i ≡ place (namesIn s ws used 0) v
-    e = p ∙ ap (place (namesIn s ws used 0)) o
+    e = same-place (namesIn s ws used 0) p o
 
     pub local-found : {r : Judged} → i < used → ((j : ℕ) → j < used → Canon (nameWord ws j 3) (nameWord ws j 4) (nameWord ws j 5))
         → r ≡ heldAs (nameWord ws i 3) (nameWord ws i 4) (nameWord ws i 5) → r ≡ judgedAs s (boundTo ts t (find (boundIn s ws used 0) v))
@@ -277,7 +279,7 @@ item-module s ts t (some v) h = absurd (some-kind v h)
 
 module _ (s : List ℕ) (ws : List (List ℕ)) (used i t n : ℕ) (ts : List Content) (w v : List ℕ) (p : i ≡ place (namesIn s ws used 0) w) (o : w ≡ v) where
   e′ : i ≡ place (namesIn s ws used 0) v
-  e′ = p ∙ ap (place (namesIn s ws used 0)) o
+  e′ = same-place (namesIn s ws used 0) p o
 
   pub below-failed : (top : ℕ) → i < used → top ≡ nameWord ws i 3 → top ≡ 0 → poisoned ≡ below ts t n (findImport (importsIn s ws used 0) v)
   below-failed zero h q z = rw (import-found s ws v used i e′ h, ← q)

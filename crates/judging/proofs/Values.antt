@@ -33,7 +33,7 @@ use Rattle.language.proofs.TokensAt.{content-of}
 pub opened-as : (o : Option values.Value) → opened (kindOf o) (lowOf o) (highOf o) ≡ o
 unfolding opened
 opened-as none = refl
-opened-as (some (isInteger n)) = let e : n / tables.word * tables.word + n % tables.word ≡ n = omega arith in rw e
+opened-as (some (isInteger n)) = let e : n / tables.wordLimit * tables.wordLimit + n % tables.wordLimit ≡ n = omega arith in rw e
 opened-as (some (isBool true)) = refl
 opened-as (some (isBool false)) = refl
 opened-as (some (isSized u8 n)) = refl
@@ -95,13 +95,13 @@ ip4-not u h = apart u .2 h
 
 -- the number that two words are
 abbrev pub numberAs : values.Value → ℕ
-numberAs u = valueHigh u * tables.word + valueLow u
+numberAs u = valueHigh u * tables.wordLimit + valueLow u
 
 pub integer-is : (u : values.Value) → isIntegral (valueKind u) ≡ true → integerOf u ≡ some (numberAs u)
 unfolding isIntegral
-integer-is (isInteger n) e = let q : n ≡ n / tables.word * tables.word + n % tables.word = omega arith in ap some q
-integer-is (isBool b) e = let q : bit b ≡ 0 * tables.word + bit b = omega arith in ap some q
-integer-is (isSized t n) e = let q : n ≡ 0 * tables.word + n = omega arith in ap some q
+integer-is (isInteger n) e = let q : n ≡ n / tables.wordLimit * tables.wordLimit + n % tables.wordLimit = omega arith in ap some q
+integer-is (isBool b) e = let q : bit b ≡ 0 * tables.wordLimit + bit b = omega arith in ap some q
+integer-is (isSized t n) e = let q : n ≡ 0 * tables.wordLimit + n = omega arith in ap some q
 integer-is (isIp4 n) e = cc
 integer-is (isSock4 n p) e = cc
 integer-is (isString t) e = cc

@@ -21,7 +21,7 @@ use Rattle.language.specs.Values.{isInteger, isBool, isSized, isIp4, isSock4, i
 use Rattle.language.specs.Judgements as judgements
 use Rattle.language.specs.Judgements.{What, val, err, poisoned, Import, Binding, Known, known, nameAt, find, findImport, boundTo, below, andThen, rightOf, noMembers, operandType, Side}
 use Rattle.language.specs.Findings as findings
-use Rattle.language.specs.Findings.{valueKind, valueLow, valueHigh, tyKind, tyEntry, tyText, sideKind, detail, diagRow}
+use Rattle.language.specs.Findings.{valueKind, valueLow, valueHigh, tyKind, tyEntry, tyText, sideKind, showsName, showsType, detail, diagRow}
 use Rattle.language.specs.Numbers.{tokenOf}
 use Rattle.judging.specs.declared.Token.{Token}
 use Rattle.judging.specs.declared.Value.{Value}
@@ -86,7 +86,7 @@ opened k l h =
     (if′ (eqb k 8) (some (isSock4 l h))
     (if′ (eqb k 9) (some (isString l))
     (if′ (eqb k 14) (some (isFunction l))
-    (if′ (eqb k 16) (some (isInteger (h * tables.word + l)))
+    (if′ (eqb k 16) (some (isInteger (h * tables.wordLimit + l)))
     (if′ (eqb k 17) (some (isText l h)) none))))))))))
 
 -- the words are those of what they are read as
@@ -124,29 +124,10 @@ faultAs s at w = record { line = tokenOf s at .line; column = tokenOf s at .colu
 
 abbrev pub namedAs : ℕ → ℕ → Token → ℕ → ℕ → Fault
 namedAs severity kind t a b =
-    record {
-      line = t .line;
-      column = t .column;
-      detail = record { severity = severity; kind = kind; text = 1; start = t .start; end = t .end; ty = 0; first = a; second = b; third = 0 };
-    }
+    record { line = t .line; column = t .column; detail = detailAs (showsName severity kind (t .start) (t .end) a b) }
 
 abbrev pub typedAs : ℕ → ℕ → Token → Ty → ℕ → ℕ → ℕ → Fault
-typedAs severity kind t ty a b c =
-    record {
-      line = t .line;
-      column = t .column;
-      detail = record {
-        severity = severity;
-        kind = kind;
-        text = tyText ty;
-        start = entryAt (tyEntry ty) .start;
-        end = entryAt (tyEntry ty) .end;
-        ty = tyKind ty;
-        first = a;
-        second = b;
-        third = c;
-      };
-    }
+typedAs severity kind t ty a b c = record { line = t .line; column = t .column; detail = detailAs (showsType severity kind ty a b c) }
 
 abbrev pub truncatedAs : Token → ℕ → ℕ → Fault
 truncatedAs t lo hi =
@@ -191,14 +172,18 @@ orNone (suc k) = some (suc k)
 abbrev pub nameWord : List (List ℕ) → ℕ → ℕ → ℕ
 nameWord ws i j = getD (getD ws i []) j 0
 
+-- what f gives of k numbers from i on
+unfoldable pub listed : {A : Type 0} → (ℕ → A) → ℕ → ℕ → List A
+listed f zero i = []
+listed f (suc k) i = f i ∷ listed f k (i + 1)
+
 module _ (s : List ℕ) (ws : List (List ℕ)) where
   abbrev pub nameOf : ℕ → List ℕ
   nameOf i = between s (nameWord ws i 0) (nameWord ws i 1)
 
   -- k names from the entry i on
   unfoldable pub namesIn : ℕ → ℕ → List (List ℕ)
-  namesIn zero i = []
-  namesIn (suc k) i = nameOf i ∷ namesIn k (i + 1)
+  namesIn k i = listed nameOf k i
 
   abbrev pub valueIn : ℕ → Option values.Value
   valueIn i = opened (nameWord ws i 3) (nameWord ws i 4) (nameWord ws i 5)
@@ -208,15 +193,13 @@ module _ (s : List ℕ) (ws : List (List ℕ)) where
 
   -- k bindings from the entry i on
   unfoldable pub boundIn : ℕ → ℕ → List Binding
-  boundIn zero i = []
-  boundIn (suc k) i = bindingAt i ∷ boundIn k (i + 1)
+  boundIn k i = listed bindingAt k i
 
   abbrev pub importAt : ℕ → Import
   importAt i = record { name = nameOf i; found = orNone (nameWord ws i 3) }
 
   unfoldable pub importsIn : ℕ → ℕ → List Import
-  importsIn zero i = []
-  importsIn (suc k) i = importAt i ∷ importsIn k (i + 1)
+  importsIn k i = listed importAt k i
 
 -- the key of a name. At each step so much of it is kept that the next stays below 2^63.
 unfoldable pub keyFrom : ℕ → List ℕ → ℕ

@@ -2,7 +2,7 @@
 -- that are spelt in one way, names and literals.
 use Prim.Native.Nat.{ℕ, suc, _+_, _-_, _<_}
 use mathlib.Core.Path.{_≡_, refl, sym, ap, _∙_}
-use mathlib.Core.Bool.{Bool, true, false, _&&_, _||_, not, false≢true, or-true}
+use mathlib.Core.Bool.{Bool, true, false, _&&_, _||_, not, false≢true}
 use mathlib.Core.List.{List, [], _∷_, _++_, append-assoc}
 use mathlib.Core.Option.{Option, none, some}
 use native.Mathlib.Omega.{arith}
@@ -19,6 +19,7 @@ use Rattle.language.specs.Tokens.{Content, plain, name, string, Piece, b
 use Rattle.language.specs.Tables.{tokKind}
 use Rattle.language.specs.Canonical.{spellTok, quoted, spell}
 use Rattle.language.proofs.Tests.{both, inside, inside-test, outside-test}
+use Rattle.language.proofs.LexemeSizes.{start-is-word, digit-is-word}
 use Rattle.language.proofs.SpellingRuns.{and, all-parts, all-append, all-also, run-all, up-to, implied}
 use Rattle.language.proofs.CanonicalUtf8.{isAscii, encoded-append, ascii-encoded}
 
@@ -202,15 +203,6 @@ late b s e =
       not-true (eqb b 58) (t5 .0),
       not-true (eqb b 34) (t5 .1),
     )
-
--- letters and digits are word characters
-pub start-is-word : (b : ℕ) → isWordStart b ≡ true → isWord b ≡ true
-unfolding isWord
-start-is-word b e = rw e
-
-pub digit-is-word : (b : ℕ) → isDigit b ≡ true → isWord b ≡ true
-unfolding isWord
-digit-is-word b e = rw e (or-true (isWordStart b))
 
 -- a letter starts a word, and a digit a number
 word-starts : (b : ℕ) (s : List ℕ) → isWordStart b ≡ true → lexeme (b ∷ s) ≡ wordLexeme (b ∷ s)

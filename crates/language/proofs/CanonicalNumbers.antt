@@ -12,11 +12,12 @@ use Rattle.language.specs.Integers.{limit, decimal, hexadecimal}
 use Rattle.language.specs.Lexemes.{Tok, ipv4Literal, hexLiteral, decLiteral, Kind, tok, lexemeOf, isDigit, isWordStart, isWord, all, digitOf, startsHex, startsZero, integer, notQuad, quadFrom, number}
 use Rattle.language.specs.Tokens.{plain, token, pieceOf}
 use Rattle.language.specs.Canonical.{spellDigits, spellQuad, spellTok, spell}
+use Rattle.language.proofs.LexemeSizes.{digit-is-word}
 use Rattle.language.proofs.Integers.{Right, right, hex-room}
 use Rattle.language.proofs.SpellingRuns.{all-parts, all-append, all-also}
 use Rattle.language.proofs.SpellingDigits.{all-spelt, length-spelt, spelt-read, Decimal, decimal-spelt, byte-spelt}
 use Rattle.language.proofs.SpellingQuads.{quad-none, quad-spelt}
-use Rattle.language.proofs.CanonicalGood.{other, Ends, isVisible, Good, good-visible, by-end, number-starts, digit-is-word, ends-run, word-run, words-visible}
+use Rattle.language.proofs.CanonicalGood.{other, Ends, isVisible, Good, good-visible, by-end, number-starts, ends-run, word-run, words-visible}
 
 -- a token that is spelt with a digit first
 good-number : (t : Tok) (w : List ℕ) → spellTok t ≡ w → all isVisible w ≡ true → isDigit (getD w 0 0) ≡ true

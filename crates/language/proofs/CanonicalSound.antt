@@ -17,11 +17,11 @@ use Rattle.language.specs.Lexemes as lexemes
 use Rattle.language.specs.Tokens.{plain, Piece, gap, body, token, contentOf, unquoted, pieceOf}
 use Rattle.language.specs.Tokens as tokens
 use Rattle.language.proofs.Tests.{by-cases}
-use Rattle.language.proofs.LexemeSizes.{stands}
+use Rattle.language.proofs.LexemeSizes.{stands, start-is-word}
 use Rattle.language.proofs.LexemeDigits.{digits-read}
 use Rattle.language.proofs.SpellingRuns.{all-run}
 use Rattle.language.proofs.CanonicalUtf8.{isAscii, cut}
-use Rattle.language.proofs.CanonicalGood.{Part, literal, named, other, pieceFor, Good, isFixed, good-fixed, good-name, good-literal, start-is-word}
+use Rattle.language.proofs.CanonicalGood.{Part, literal, named, other, pieceFor, Good, isFixed, good-fixed, good-name, good-literal}
 use Rattle.language.proofs.CanonicalNumbers.{good-dec, good-hex, good-quad}
 
 pub data Fine : Piece → Type 0 where

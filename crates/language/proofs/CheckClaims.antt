@@ -15,11 +15,11 @@ use Rattle.language.specs.Values.{isString, Ty, tyBool, tyInt, tyIp4, ty
 use Rattle.language.specs.Judgements.{What, unknownName, unknownItem, unknownModule, notImported, notAModule, notAValue, alreadyBound, noMembers, operandType, integralTooLarge, multipleImports, discardedValue, truncated, Diag, errorsIn, Held, Outcome, judged, refused, judgeAll, nameAt}
 use Rattle.language.specs.Findings.{tyText, whatKind, Detail, named, detail, stmtRow, stmtWidth}
 use Rattle.language.specs.Canonical.{text, Lexes}
-use Rattle.language.specs.Numbers.{Verdict, placed, Parsed, tokenPlace, parseAnswer, nowhere, at-token, SamePlace, SameParse, Checked, refusedCheck, firstCall, parsedNodes, statementsOf, checked, checkedWithin, judgedWithin, checkAnswer, tokenOf, checkNodes, checkDiags, checkStmts}
+use Rattle.language.specs.Numbers.{Verdict, placed, Parsed, tokenPlace, parseAnswer, SameVerdict, SameParse, Checked, refusedCheck, firstCall, parsedNodes, statementsOf, checked, checkedWithin, judgedWithin, checkAnswer, tokenOf, checkNodes, checkDiags, checkStmts}
 use Rattle.language.specs.Checks.{TokenShown, SameCheck, SameDetail, SameHeld, bodiesAt, CheckedByContents, TextChecked}
 use Rattle.language.proofs.Tests.{each-side, both-sides}
 use Rattle.language.proofs.Canonical.{round-trip}
-use Rattle.language.proofs.ParseClaims.{parsed-by-contents}
+use Rattle.language.proofs.ParseClaims.{same-nowhere, same-token, parsed-by-contents}
 use Rattle.language.proofs.TokenTexts.{name-shown, bodies-shown}
 use Rattle.language.proofs.FindingTokens.{Shown, Right, outcome-grounded}
 
@@ -42,29 +42,16 @@ checked-by s t n k = refl
 
 module _ (s u : List ℕ) where
   -- answers that differ in their verdicts alone
-  alike : (a : Checked) (v : Verdict) → a .verdict .number ≡ v .number → a .verdict .kind ≡ v .kind → SamePlace s u (a .verdict) v
-      → a .verdict .character ≡ v .character
+  alike : (a : Checked) (v : Verdict) → SameVerdict s u (a .verdict) v
       → SameCheck s u a
       (record { verdict = v; tokens = a .tokens; nodes = a .nodes; errors = a .errors; warnings = a .warnings; statements = a .statements })
-  alike a v n k p c =
-      record {
-        number = n;
-        kind = k;
-        place = p;
-        character = c;
-        tokens = refl;
-        nodes = refl;
-        errors = refl;
-        warnings = refl;
-        statements = refl;
-      }
+  alike a v e = record { verdict = e; tokens = refl; nodes = refl; errors = refl; warnings = refl; statements = refl }
 
   same : (a : Checked) → a .verdict .line ≡ 0 → a .verdict .column ≡ 0 → SameCheck s u a a
-  same a l c = alike a (a .verdict) refl refl (nowhere l c l c) refl
+  same a l c = alike a (a .verdict) (same-nowhere (a .verdict) l c)
 
   same-at : (n at : ℕ) → SameCheck s u (refusedCheck (placed n (tokenPlace s at))) (refusedCheck (placed n (tokenPlace u at)))
-  same-at n at =
-      alike (refusedCheck (placed n (tokenPlace s at))) (placed n (tokenPlace u at)) refl refl (at-token at refl refl refl refl) refl
+  same-at n at = alike (refusedCheck (placed n (tokenPlace s at))) (placed n (tokenPlace u at)) (same-token s u n 0 at)
 
   same-within : (room t n : ℕ) (ds : List Diag) (hs : List Held)
       → let a = checkedWithin room t n ds hs in SameCheck s u a a
@@ -93,20 +80,20 @@ module _ (s u : List ℕ) where
         rw e
         (both-sides (SameCheck s u) b
         (λ _. same-parsed room (firstCall (parsedNodes (program cs))) (judgeAll cs (statementsOf (program cs))))
-        (λ _. alike (refusedCheck (p .verdict)) (q .verdict) (h .number) (h .kind) (h .place) (h .character)))
+        (λ _. alike (refusedCheck (p .verdict)) (q .verdict) (h .verdict)))
 
 same-answer : (s u : List ℕ) → Lexes s → Lexes u → contents (tokens s) ≡ contents (tokens u) → (t n k : ℕ)
     → SameCheck s u (checkAnswer s t n k) (checkAnswer u t n k)
 same-answer s u h l e t n k =
     let p = parsed-by-contents s u h l e .1 t n in
     rw (checked-by s t n k, checked-by u t n k, e)
-    (same-after s u p k (contents (tokens u)) _ _ (ap (λ (m : ℕ). eqb m 0) (p .number)))
+    (same-after s u p k (contents (tokens u)) _ _ (ap (λ (m : ℕ). eqb m 0) (p .verdict .number)))
 
 -- and so is its number, by the words of tables
 same-number : (s u : List ℕ) → Lexes s → Lexes u → contents (tokens s) ≡ contents (tokens u) → (t n k : ℕ)
     → checkAnswer s (t / tokenWidth) (n / nodeWidth) (k / stmtWidth) .verdict .number
     ≡ checkAnswer u (t / tokenWidth) (n / nodeWidth) (k / stmtWidth) .verdict .number
-same-number s u h l e t n k = same-answer s u h l e (t / tokenWidth) (n / nodeWidth) (k / stmtWidth) .number
+same-number s u h l e t n k = same-answer s u h l e (t / tokenWidth) (n / nodeWidth) (k / stmtWidth) .verdict .number
 
 -- ---- findings
 

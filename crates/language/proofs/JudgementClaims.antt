@@ -82,7 +82,57 @@ module _ (ts : List Content) (n : ℕ) where
       (λ v. left-silent (firstOf a) _ v (λ ip. then-silent (judge ts n k b) _ (judge-silent k b) (right-silent ip (firstOf b))))
   judge-silent k (call e t g) = refl
 
--- ---- what a statement leads to
+-- ---- what a statement adds to the warnings of its expression
+
+pub data Adds (ws : List Diag) : List Diag → List Held → Type 0 where
+  nothing : Adds ws ws []
+  alone : (d : Diag) → Adds ws (d ∷ []) []
+  finding : (d : Diag) → Adds ws (ws ++ d ∷ []) []
+  holding : (d : Diag) (h : Held) → Adds ws (ws ++ d ∷ []) (h ∷ [])
+
+abbrev pub AddsTo : List Diag → Turn → Type 0
+AddsTo ws (goes k ds hs) = Adds ws ds hs
+AddsTo ws (full t) = Unit
+
+module _ (ts : List Content) (n : ℕ) (k : Known) where
+  abbrev pub warnsOf : Stmt → List Diag
+  warnsOf (import′ t) = []
+  warnsOf (let′ t e) = judge ts n k e .warns
+  warnsOf (expr′ e) = judge ts n k e .warns
+
+  imported-adds : (t : ℕ) (o : Option ℕ) → AddsTo [] (imported ts n k t o)
+  imported-adds t (some m) = nothing
+  imported-adds t none = alone _
+
+  import-adds : (t : ℕ) (o : Option Import) → AddsTo [] (importStmt ts n k t o)
+  import-adds t (some i) = alone _
+  import-adds t none = each-side (AddsTo []) (ltb (length (k .imports)) mostImports) (imported-adds t (lookup 0 (nameAt ts t))) tt
+
+  bound-adds : (t : ℕ) (o : Judged) (ws : List Diag) → AddsTo ws (bound ts n k t o ws)
+  bound-adds t (val v) ws = nothing
+  bound-adds t (err at w) ws = finding _
+  bound-adds t poisoned ws = nothing
+
+  let-adds : (t : ℕ) (e : Expr) (o : Option Binding) → AddsTo (judge ts n k e .warns) (letStmt ts n k t e o)
+  let-adds t e (some b) = alone _
+  let-adds t e none =
+      let j = judge ts n k e in
+      each-side (AddsTo (j .warns)) (ltb (length (k .bindings)) mostNames) (bound-adds t (j .out) (j .warns)) tt
+
+  discarded-adds : (at : ℕ) (o : Option Value) (ws : List Diag) → AddsTo ws (discarded ts n k at o ws)
+  discarded-adds at (some v) ws = holding _ _
+  discarded-adds at none ws = finding _
+
+  told-adds : (at : ℕ) (o : Judged) (ws : List Diag) → AddsTo ws (told ts n k at o ws)
+  told-adds at (val v) ws = discarded-adds at (narrowed v) ws
+  told-adds at (err p w) ws = finding _
+  told-adds at poisoned ws = nothing
+
+  pub adds : (s : Stmt) → AddsTo (warnsOf s) (stmt ts n k s)
+  unfolding stmt
+  adds (import′ t) = import-adds t (findImport (k .imports) (nameAt ts t))
+  adds (let′ t e) = let-adds t e (find (k .bindings) (nameAt ts t))
+  adds (expr′ e) = told-adds (firstOf e) (judge ts n k e .out) (judge ts n k e .warns)
 
 -- as many errors as one at the most, and as many statements
 Few : Turn → Type 0
@@ -97,53 +147,26 @@ one-at-most d = elim (isError (d .what)) as (λ b. if′ b 1 0 + 0 ≤ 1) [ true
 one-more : (ws : List Diag) (d : Diag) → errorsIn ws ≡ 0 → errorsIn (ws ++ d ∷ []) ≤ 1
 one-more ws d h = rw (errors-append ws (d ∷ [])) (omega (arith, h, one-at-most d))
 
-none-is-few : errorsIn [] ≤ 1
-unfolding errorsIn
-none-is-few = omega arith
+few-added : {ws ds : List Diag} {hs : List Held} → errorsIn ws ≡ 0 → Adds ws ds hs → (errorsIn ds ≤ 1) × (length hs ≤ 1)
+few-added h nothing = (omega (arith, h), omega arith)
+few-added h (alone d) = (one-at-most d, omega arith)
+few-added {ws} h (finding d) = (one-more ws d h, omega arith)
+few-added {ws} h (holding d x) = (one-more ws d h, omega arith)
 
-silent-is-few : (ws : List Diag) → errorsIn ws ≡ 0 → errorsIn ws ≤ 1
-silent-is-few ws h = omega (arith, h)
+few-turn : (ws : List Diag) (t : Turn) → errorsIn ws ≡ 0 → AddsTo ws t → Few t
+unfolding Few
+few-turn ws (goes k ds hs) h a = few-added h a
+few-turn ws (full t) h a = tt
 
 module _ (ts : List Content) (n : ℕ) (k : Known) where
-  imported-few : (t : ℕ) (o : Option ℕ) → Few (imported ts n k t o)
-  unfolding Few
-  imported-few t (some m) = (none-is-few, omega arith)
-  imported-few t none = (one-at-most _, omega arith)
-
-  import-few : (t : ℕ) (o : Option Import) → Few (importStmt ts n k t o)
-  unfolding Few
-  import-few t (some i) = (one-at-most _, omega arith)
-  import-few t none = each-side Few (ltb (length (k .imports)) mostImports) (imported-few t (lookup 0 (nameAt ts t))) tt
-
-  bound-few : (t : ℕ) (o : Judged) (ws : List Diag) → errorsIn ws ≡ 0 → Few (bound ts n k t o ws)
-  unfolding Few
-  bound-few t (val v) ws h = (silent-is-few ws h, omega arith)
-  bound-few t (err at w) ws h = (one-more ws _ h, omega arith)
-  bound-few t poisoned ws h = (silent-is-few ws h, omega arith)
-
-  let-few : (t : ℕ) (e : Expr) (o : Option Binding) → Few (letStmt ts n k t e o)
-  unfolding Few Silent
-  let-few t e (some b) = (one-at-most _, omega arith)
-  let-few t e none =
-      each-side Few (ltb (length (k .bindings)) mostNames)
-      (bound-few t (judge ts n k e .out) (judge ts n k e .warns) (judge-silent ts n k e)) tt
-
-  discarded-few : (at : ℕ) (o : Option Value) (ws : List Diag) → errorsIn ws ≡ 0 → Few (discarded ts n k at o ws)
-  unfolding Few
-  discarded-few at (some v) ws h = (one-more ws _ h, omega arith)
-  discarded-few at none ws h = (one-more ws _ h, omega arith)
-
-  told-few : (at : ℕ) (o : Judged) (ws : List Diag) → errorsIn ws ≡ 0 → Few (told ts n k at o ws)
-  unfolding Few
-  told-few at (val v) ws h = discarded-few at (narrowed v) ws h
-  told-few at (err p w) ws h = (one-more ws _ h, omega arith)
-  told-few at poisoned ws h = (silent-is-few ws h, omega arith)
+  silent : (s : Stmt) → errorsIn (warnsOf ts n k s) ≡ 0
+  unfolding Silent errorsIn
+  silent (import′ t) = refl
+  silent (let′ t e) = judge-silent ts n k e
+  silent (expr′ e) = judge-silent ts n k e
 
   few : (s : Stmt) → Few (stmt ts n k s)
-  unfolding stmt Silent
-  few (import′ t) = import-few t (findImport (k .imports) (nameAt ts t))
-  few (let′ t e) = let-few t e (find (k .bindings) (nameAt ts t))
-  few (expr′ e) = told-few (firstOf e) (judge ts n k e .out) (judge ts n k e .warns) (judge-silent ts n k e)
+  few s = few-turn (warnsOf ts n k s) (stmt ts n k s) (silent s) (adds ts n k s)
 
 pub one-error : OneError
 unfolding Few

@@ -123,11 +123,11 @@ string-fits s =
     fits (eqb (getD s n 0) 34) (λ e. closed s n 34 refl e) (λ _. sized (n + 1) (omega arith) (omega (arith, run-fits isBody s)))
 
 -- letters and digits are word characters
-start-is-word : (b : ℕ) → isWordStart b ≡ true → isWord b ≡ true
+pub start-is-word : (b : ℕ) → isWordStart b ≡ true → isWord b ≡ true
 unfolding isWord
 start-is-word b e = rw e
 
-digit-is-word : (b : ℕ) → isDigit b ≡ true → isWord b ≡ true
+pub digit-is-word : (b : ℕ) → isDigit b ≡ true → isWord b ≡ true
 unfolding isWord
 digit-is-word b e = rw e (or-true (isWordStart b))
 

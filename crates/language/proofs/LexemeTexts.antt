@@ -14,10 +14,9 @@ use Rattle.language.specs.Lexemes as lexemes
 use Rattle.language.specs.Tokens.{contentOf}
 use Rattle.language.specs.Canonical.{spellTok, spell}
 use Rattle.language.proofs.Tests.{same-equal, by-cases}
-use Rattle.language.proofs.LexemeSizes.{stands}
+use Rattle.language.proofs.LexemeSizes.{stands, digit-is-word}
 use Rattle.language.proofs.SpellingDigits.{read-again}
 use Rattle.language.proofs.SpellingQuads.{QuadSpelt, quad-read, quad-again}
-use Rattle.language.proofs.CanonicalGood.{digit-is-word}
 
 -- a token and its bytes
 abbrev Spelt : Tok → List ℕ → Type 0

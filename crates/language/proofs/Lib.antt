@@ -2,6 +2,8 @@
 pub mod Examples
 pub mod Tests
 pub mod Each
+pub mod Sames
+pub mod Parts
 pub mod Forms
 pub mod Utf8Rows
 pub mod Utf8

@@ -11,7 +11,7 @@ use Rattle.language.specs.Tokens.{mostBytes, Content, tokens, contents}
 use Rattle.language.specs.Tables.{tokenWidth}
 use Rattle.language.specs.Sentences.{Out, ok, no, Stmt, program, nodes, nodeWidth}
 use Rattle.language.specs.Canonical.{text, Lexes}
-use Rattle.language.specs.Numbers.{Verdict, verdict, lexed, lexAnswer, lexedWithin, Parsed, parsed, parsedAs, parseAnswer, parseNodes, nowhere, at-token, SameParse, ParsedByContents, TextParsed}
+use Rattle.language.specs.Numbers.{Verdict, verdict, lexed, lexAnswer, lexedWithin, Parsed, parsed, tokenPlace, parsedAs, parseAnswer, parseNodes, nowhere, at-token, SameVerdict, SameParse, ParsedByContents, TextParsed}
 use Rattle.language.proofs.TokenContents.{as-many}
 use Rattle.language.proofs.Canonical.{round-trip}
 
@@ -37,8 +37,17 @@ parsed-by s h t n =
     rw (lexed-within s h t, ← as-many (tokens s))
     (after-lexing (ltb t (length (tokens s))) (length (tokens s)) (λ c. parsedAs s n c (program (contents (tokens s)))))
 
+-- verdicts that name no place, and verdicts that name the same token
+pub same-nowhere : {s u : List ℕ} (v : Verdict) → v .line ≡ 0 → v .column ≡ 0 → SameVerdict s u v v
+same-nowhere v l c = record { number = refl; kind = refl; place = nowhere l c l c; character = refl }
+
+pub same-token : (s u : List ℕ) (n k at : ℕ)
+    → SameVerdict s u (record { number = n; kind = k; line = tokenPlace s at .line; column = tokenPlace s at .column; character = 0 })
+    (record { number = n; kind = k; line = tokenPlace u at .line; column = tokenPlace u at .column; character = 0 })
+same-token s u n k at = record { number = refl; kind = refl; place = at-token at refl refl refl refl; character = refl }
+
 same : {s u : List ℕ} (v : Verdict) (t n : ℕ) → v .line ≡ 0 → v .column ≡ 0 → SameParse s u (parsed v t n) (parsed v t n)
-same v t n l c = record { number = refl; kind = refl; place = nowhere l c l c; character = refl; tokens = refl; nodes = refl }
+same v t n l c = record { verdict = same-nowhere v l c; tokens = refl; nodes = refl }
 
 -- of the same contents the answers are the same
 same-within : {s u : List ℕ} (over : Bool) (t n : ℕ)
@@ -48,8 +57,7 @@ same-within false t n = same (verdict 0 0 0) t n refl refl
 
 same-as : (s u : List ℕ) (n c : ℕ) (o : Out (List Stmt)) → SameParse s u (parsedAs s n c o) (parsedAs u n c o)
 same-as s u n c (ok ss at x) = same-within (ltb n (length (nodes ss))) c (length (nodes ss))
-same-as s u n c (no m k at) =
-    record { number = refl; kind = refl; place = at-token at refl refl refl refl; character = refl; tokens = refl; nodes = refl }
+same-as s u n c (no m k at) = record { verdict = same-token s u m k at; tokens = refl; nodes = refl }
 
 same-after : (s u : List ℕ) (t n : ℕ) (cs : List Content) → SameParse s u (parsed-after s t n cs) (parsed-after u t n cs)
 unfolding parsed-after
@@ -68,7 +76,7 @@ pub parsed-by-contents : ParsedByContents
 unfolding parseNodes
 parsed-by-contents s u h l e = (
   λ t n.
-      let same-number = same-answer s u h l e (t / tokenWidth) (n / nodeWidth) .number in
+      let same-number = same-answer s u h l e (t / tokenWidth) (n / nodeWidth) .verdict .number in
       rw (same-number, e),
   λ t n. same-answer s u h l e t n,
 )

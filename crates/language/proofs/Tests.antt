@@ -10,7 +10,7 @@ use types.Run.{OneOf}
 use borrow.Author.Tests.{eqb-true, leb-true, le-leb, lt-leb}
 use lib.Dec.{leb, eqb}
 use Rattle.language.specs.Choice.{if′, within}
-use Rattle.language.specs.Lexemes.{same}
+use Rattle.language.specs.Lexemes.{same, all}
 
 -- what would make 0 and 1 equal cannot be
 pub never : {A : Type 0} → _≡_ {A = ℕ} 0 1 → A
@@ -27,10 +27,6 @@ either true b e = inl refl
 either false b e = inr e
 
 -- what holds of every key of an arm holds of one of them
-abbrev pub all : (ℕ → Bool) → List ℕ → Bool
-all f [] = true
-all f (k ∷ ks) = f k && all f ks
-
 pub of-each : (f : ℕ → Bool) (ks : List ℕ) (x : ℕ) → all f ks ≡ true → OneOf ks x → f x ≡ true
 of-each f [] x a h = absurd h
 of-each f (k ∷ []) x a h = rw h (both (f k) true a .0)

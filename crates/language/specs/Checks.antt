@@ -14,16 +14,13 @@ use Rattle.language.specs.Canonical.{text, Lexes, Fits}
 use Rattle.language.specs.Values.{Value, isString, tableText}
 use Rattle.language.specs.Judgements.{What, unknownItem, alreadyBound, Diag, errorsIn, Held, nameAt}
 use Rattle.language.specs.Findings.{Detail, detail, diagRow, diagWidth, valueText, shownLow, shownHigh, stmtRow, stmtWidth}
-use Rattle.language.specs.Numbers.{Checked, checkAnswer, checkNodes, checkDiags, checkStmts, checked, foundBy, heldBy, tokenOf, whereDone, SamePlace}
+use Rattle.language.specs.Numbers.{Checked, checkAnswer, checkNodes, checkDiags, checkStmts, checked, foundBy, heldBy, tokenOf, whereDone, SameVerdict}
 
 -- ---- answers
 
 -- "the same answer (refusals too, with the same number and kind), the same counts"; a refusal names the same token
 pub record SameCheck (s u : List ℕ) (a b : Checked) : Type 0 where
-  pub number : a .verdict .number ≡ b .verdict .number
-  pub kind : a .verdict .kind ≡ b .verdict .kind
-  pub place : SamePlace s u (a .verdict) (b .verdict)
-  pub character : a .verdict .character ≡ b .verdict .character
+  pub verdict : SameVerdict s u (a .verdict) (b .verdict)
   pub tokens : a .tokens ≡ b .tokens
   pub nodes : a .nodes ≡ b .nodes
   pub errors : a .errors ≡ b .errors

@@ -5,7 +5,7 @@ use mathlib.Core.List.{List, [], _∷_}
 use Rattle.language.specs.Choice.{if′}
 use Rattle.language.specs.Integers.{IntType, u8, u16, u32, u64}
 use Rattle.language.specs.Tokens.{Token}
-use Rattle.language.specs.Tables.{bit, word}
+use Rattle.language.specs.Tables.{bit, wordLimit}
 use Rattle.language.specs.Values.{Value, isInteger, isBool, isSized, isIp4, isSock4, isString, isText, isFunction, Ty, tyBool, tyInt, tyIp4, tySock4, tyBytes, tyFunction, tyInteger, typeOf, entryAt}
 use Rattle.language.specs.Judgements.{Side, left, right, What, unknownName, unknownItem, unknownModule, notImported, notAModule, notAValue, alreadyBound, noMembers, operandType, integralTooLarge, multipleImports, discardedValue, truncated, Diag, isError, Held}
 
@@ -58,7 +58,7 @@ valueKind (isFunction k) = 14
 
 -- the low word and the high one, given what stands for a function
 abbrev low : (ℕ → ℕ) → Value → ℕ
-low shown (isInteger n) = n % word
+low shown (isInteger n) = n % wordLimit
 low shown (isBool b) = bit b
 low shown (isSized t n) = n
 low shown (isIp4 n) = n
@@ -68,7 +68,7 @@ low shown (isText a b) = a
 low shown (isFunction k) = shown k
 
 abbrev high : (ℕ → ℕ) → Value → ℕ
-high shown (isInteger n) = n / word
+high shown (isInteger n) = n / wordLimit
 high shown (isBool b) = 0
 high shown (isSized t n) = 0
 high shown (isIp4 n) = 0
@@ -122,27 +122,17 @@ pub record Detail : Type 0 where
   pub second : ℕ
   pub third : ℕ
 
--- shows the name of a token, and perhaps two numbers
-abbrev pub named : What → Token → ℕ → ℕ → Detail
-named w t a b =
-    record {
-      severity = if′ (isError w) 1 2;
-      kind = whatKind w;
-      text = 1;
-      start = t .start;
-      end = t .end;
-      type = 0;
-      first = a;
-      second = b;
-      third = 0;
-    }
+-- by severity and kind: one that shows a name from `start` to `end` of the source, and perhaps two numbers
+abbrev pub showsName : ℕ → ℕ → ℕ → ℕ → ℕ → ℕ → Detail
+showsName severity kind start end a b =
+    record { severity = severity; kind = kind; text = 1; start = start; end = end; type = 0; first = a; second = b; third = 0 }
 
--- shows a type, a function with its name in the table's text, and perhaps three numbers
-abbrev pub typed : What → Ty → ℕ → ℕ → ℕ → Detail
-typed w ty a b c =
+-- a type, a function with its name in the table's text, and perhaps three numbers
+abbrev pub showsType : ℕ → ℕ → Ty → ℕ → ℕ → ℕ → Detail
+showsType severity kind ty a b c =
     record {
-      severity = if′ (isError w) 1 2;
-      kind = whatKind w;
+      severity = severity;
+      kind = kind;
       text = tyText ty;
       start = entryAt (tyEntry ty) .start;
       end = entryAt (tyEntry ty) .end;
@@ -152,20 +142,23 @@ typed w ty a b c =
       third = c;
     }
 
--- shows nothing more
+-- nothing more
+abbrev pub showsNothing : ℕ → ℕ → Detail
+showsNothing severity kind =
+    record { severity = severity; kind = kind; text = 0; start = 0; end = 0; type = 0; first = 0; second = 0; third = 0 }
+
+-- 1 an error, 2 a warning
+abbrev pub severityOf : What → ℕ
+severityOf w = if′ (isError w) 1 2
+
+abbrev pub named : What → Token → ℕ → ℕ → Detail
+named w t a b = showsName (severityOf w) (whatKind w) (t .start) (t .end) a b
+
+abbrev pub typed : What → Ty → ℕ → ℕ → ℕ → Detail
+typed w ty a b c = showsType (severityOf w) (whatKind w) ty a b c
+
 abbrev pub bare : What → Detail
-bare w =
-    record {
-      severity = if′ (isError w) 1 2;
-      kind = whatKind w;
-      text = 0;
-      start = 0;
-      end = 0;
-      type = 0;
-      first = 0;
-      second = 0;
-      third = 0;
-    }
+bare w = showsNothing (severityOf w) (whatKind w)
 
 abbrev pub detailRow : Token → Detail → List ℕ
 detailRow t d =
@@ -187,7 +180,7 @@ module _ (tokenAt : ℕ → Token) where
   detail at integralTooLarge = bare integralTooLarge
   detail at multipleImports = named multipleImports (tokenAt at) 0 0
   detail at (discardedValue ty) = typed (discardedValue ty) ty 0 0 0
-  detail at (truncated n ty) = typed (truncated n ty) ty (n % word) (n / word) 0
+  detail at (truncated n ty) = typed (truncated n ty) ty (n % wordLimit) (n / wordLimit) 0
 
   unfoldable pub diagRow : Diag → List ℕ
   diagRow d = detailRow (tokenAt (d .at)) (detail (d .at) (d .what))

@@ -12,6 +12,7 @@ pub mod Values
 pub mod Judgements
 pub mod Findings
 pub mod Numbers
+pub mod Entries
 -- What is proved of them: claims, and the words that these are said with. Nobody need believe more than what a claim says.
 pub mod Grammar
 pub mod Bounds

@@ -253,12 +253,16 @@ pub data SamePlace (s u : List ℕ) (v w : Verdict) : Type 0 where
   at-token : (at : ℕ) → v .line ≡ tokenPlace s at .line → v .column ≡ tokenPlace s at .column → w .line ≡ tokenPlace u at .line
       → w .column ≡ tokenPlace u at .column → SamePlace s u v w
 
--- two answers that differ in places at most
+-- two verdicts that differ in places at most
+pub record SameVerdict (s u : List ℕ) (v w : Verdict) : Type 0 where
+  pub number : v .number ≡ w .number
+  pub kind : v .kind ≡ w .kind
+  pub place : SamePlace s u v w
+  pub character : v .character ≡ w .character
+
+-- and two answers
 pub record SameParse (s u : List ℕ) (a b : Parsed) : Type 0 where
-  pub number : a .verdict .number ≡ b .verdict .number
-  pub kind : a .verdict .kind ≡ b .verdict .kind
-  pub place : SamePlace s u (a .verdict) (b .verdict)
-  pub character : a .verdict .character ≡ b .verdict .character
+  pub verdict : SameVerdict s u (a .verdict) (b .verdict)
   pub tokens : a .tokens ≡ b .tokens
   pub nodes : a .nodes ≡ b .nodes
 

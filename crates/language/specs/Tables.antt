@@ -33,8 +33,8 @@ bit true = 1
 bit false = 0
 
 -- 2^64: a number takes two words, the low one first
-abbrev pub word : ℕ
-word = 0x10000000000000000
+abbrev pub wordLimit : ℕ
+wordLimit = 0x10000000000000000
 
 -- the value that a token carries, 0 where it carries none
 abbrev pub tokLow : Tok → ℕ
@@ -52,8 +52,8 @@ tokLow letKeyword = 0
 tokLow identifier = 0
 tokLow (booleanLiteral b) = bit b
 tokLow (ipv4Literal n) = n
-tokLow (hexLiteral n) = n % word
-tokLow (decLiteral n) = n % word
+tokLow (hexLiteral n) = n % wordLimit
+tokLow (decLiteral n) = n % wordLimit
 
 abbrev pub tokHigh : Tok → ℕ
 tokHigh lParen = 0
@@ -70,8 +70,8 @@ tokHigh letKeyword = 0
 tokHigh identifier = 0
 tokHigh (booleanLiteral b) = 0
 tokHigh (ipv4Literal n) = 0
-tokHigh (hexLiteral n) = n / word
-tokHigh (decLiteral n) = n / word
+tokHigh (hexLiteral n) = n / wordLimit
+tokHigh (decLiteral n) = n / wordLimit
 
 -- the kinds of lexical errors, in the order of lex.rs without its `StringLiteral`
 abbrev pub errorKind : LexErrorKind → ℕ

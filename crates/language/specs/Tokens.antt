@@ -206,10 +206,11 @@ placeFrom l c (b ∷ s) (suc at) = if′ (eqb b 10) (placeFrom (suc l) 1 s at) (
 abbrev pub placeOf : List ℕ → ℕ → Place
 placeOf s at = placeFrom 1 1 s at
 
--- ---- the claims
-
+-- the bytes from `at` up to e
 abbrev pub between : List ℕ → ℕ → ℕ → List ℕ
 between s at e = take (e - at) (drop at s)
+
+-- ---- the claims
 
 -- a token stands at the place of its first byte; its span is not empty and lies in the source
 abbrev pub PlacesRight : Type 0

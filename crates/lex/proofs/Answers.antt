@@ -19,7 +19,7 @@ use Rattle.utf8.specs.Decoding.{badOf}
 use Rattle.utf8.specs.declared.Bad.the-variants.{At, Nowhere}
 use Rattle.scan.specs.declared.Verdict.{Verdict}
 use Rattle.scan.specs.Scanning.{verdictAs}
-use Rattle.scan.proofs.Answers.{bad-at, bad-nowhere}
+use Rattle.utf8.proofs.Places.{bad-at, bad-nowhere}
 use Rattle.lex.specs.declared.Lexer.{Lexer}
 use Rattle.lex.specs.declared.Fed.{Fed}
 use Rattle.lex.specs.declared.Fed.the-variants.{Goes, Stops}

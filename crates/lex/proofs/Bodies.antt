@@ -9,11 +9,12 @@ use native.Mathlib.Omega.{arith}
 use borrow.Author.Tests.{le-leb, lt-leb}
 use types.Run.{OneOf}
 use denote.Enum.Declared.{tagOf}
-use lib.ListN.{length, getD, drop, length-drop}
-use lib.Seq.{drop-cons, take-take, length-take-le}
+use lib.ListN.{length, getD, drop}
+use lib.Seq.{drop-cons, take-take}
 use Rattle.language.specs.Lexemes.{Kind, trivia, str, tok, error, scanFrom, lexeme}
 use Rattle.language.specs.Tokens.{unquoted, between, bodyOf, bodiesOf, bodiesIn}
 use Rattle.language.proofs.Tests.{never}
+use Rattle.language.proofs.Parts.{part-size}
 use Rattle.lexemes.specs.declared.Lexeme.{Lexeme}
 use Rattle.lexemes.specs.declared.LexemeKind.the-variants as kind-is
 use Rattle.scan.specs.declared.Scanner.{Scanner}
@@ -24,26 +25,23 @@ use Rattle.scan.specs.Scanning.{stepAt}
 use Rattle.lexemes.proofs.LexemeKind as kind
 use Rattle.scan.proofs.Parts.{some-body, no-body}
 use Rattle.lex.specs.Lexing.{nth, bodyAt}
-use Rattle.lex.proofs.Feeding.{turn, at-end}
+use Rattle.scan.proofs.Turns.{turn, at-end}
 
 -- ---- the loop
 
 -- what stands between the quotes
 module _ (s : List ℕ) (at e : ℕ) (h : e ≤ length s) where
-  pub part-size : length (between s at e) ≡ e - at
-  part-size = length-take-le (e - at) (drop at s) (omega (arith, length-drop at s))
-
   pub unquoted-is : unquoted (between s at e) ≡ scanning.bodyOf s at e
   unquoted-is =
       elim (decLe (at + 2) e) [
-        | no k ↦ let z : e - at - 2 ≡ 0 = omega arith in rw (part-size, z) (no-body s at e (omega arith))
+        | no k ↦ let z : e - at - 2 ≡ 0 = omega arith in rw (part-size s at e h, z) (no-body s at e (omega arith))
         | yes k ↦
             let m = e - (at + 1) in
             let r = drop (suc at) s in
             let d : drop at s ≡ getD s at 0 ∷ r = drop-cons s at 0 (omega arith) in
             let n : e - at ≡ suc m = omega arith in
             let p : suc m - 2 ≡ e - 1 - (at + 1) = omega arith in
-            rw (part-size, n, p, d) (take-take (e - 1 - (at + 1)) m r (omega arith) ∙ rw (← add-one at) (some-body s at e h (omega arith)))
+            rw (part-size s at e h, n, p, d) (take-take (e - 1 - (at + 1)) m r (omega arith) ∙ rw (← add-one at) (some-body s at e h (omega arith)))
       ]
 
 -- the code's kind of a literal, and of what is none

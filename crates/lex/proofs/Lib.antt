@@ -5,3 +5,4 @@ pub mod Lines
 pub mod Places
 pub mod Answers
 pub mod Bodies
+pub mod Left

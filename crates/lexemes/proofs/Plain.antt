@@ -7,7 +7,8 @@ use borrow.Author.Tests.{eq-eqb}
 use lib.Dec.{eqb}
 use types.Run.{OneOf}
 use denote.Enum.Declared.{tagOf}
-use Rattle.language.proofs.Tests.{all, of-each}
+use Rattle.language.specs.Lexemes.{all}
+use Rattle.language.proofs.Tests.{of-each}
 use Rattle.lexemes.specs.declared.Tok.{Tok}
 use Rattle.lexemes.specs.declared.Tok.the-variants as tok-is
 use Rattle.lexemes.specs.declared.LexErrorKind.{LexErrorKind}

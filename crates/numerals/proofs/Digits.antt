@@ -16,10 +16,10 @@ use Rattle.wide.specs.declared.Wide.{Wide}
 use Rattle.wide.specs.declared.Scaled.{Scaled}
 use Rattle.wide.specs.declared.Scaled.the-variants.{Fits, Over}
 use Rattle.wide.specs.Wide.{valueOf, wideOf, fitted, scaled}
-use Rattle.runs.proofs.Places.{between-cons, between-none}
+use Rattle.language.proofs.Parts.{part-cons, part-none}
 use Rattle.lexemes.specs.declared.LexErrorKind.the-variants.{IntOutOfRange, IntInvalidSuffix}
 use Rattle.numerals.specs.declared.Number.the-variants.{Value, Wrong}
-use Rattle.runs.specs.Runs.{between}
+use Rattle.language.specs.Tokens.{between}
 use Rattle.numerals.specs.Numerals.{Base, numberAs}
 
 -- the base that is not ten
@@ -78,7 +78,7 @@ start base s at e v h z =
 module _ {base : ℕ} {s : List ℕ} {at e : ℕ} {v : Wide} {i : ℕ} (r : Reading base s at e v i) where
   pub finished : e ≤ i → Value v ≡ numberAs (readDigits base 0 (between s at e))
   unfolding readDigits
-  finished h = rw (← r .same, between-none s i e, r .whole)
+  finished h = rw (← r .same, part-none s i e, r .whole)
 
   module _ (h : i < e) (fits : e ≤ length s) (d : ℕ) (given : d ≡ digitOf (getD s i 0)) where
     step :
@@ -87,7 +87,7 @@ module _ {base : ℕ} {s : List ℕ} {at e : ℕ} {v : Wide} {i : ℕ} (r : Read
         (if′ (ltb (valueOf v * base + d) limit) (readDigits base (valueOf v * base + d) (between s (i + 1) e)) (wrong intOutOfRange))
         (wrong intInvalidSuffix)
     unfolding readDigits
-    step = sym (r .same) ∙ rw (between-cons s i e, given)
+    step = sym (r .same) ∙ rw (part-cons s i e, given)
 
     pub suffix : base ≤ d → Wrong IntInvalidSuffix ≡ numberAs (readDigits base 0 (between s at e))
     suffix l = rw (step, le-ltb d base)

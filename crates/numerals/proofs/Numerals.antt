@@ -9,7 +9,7 @@ use borrow.Author.Tests.{ltb-true, eqb-true, eq-eqb, ne-eqb}
 use lib.Dec.{ltb, eqb}
 use lib.ListN.{length, getD, take, drop, length-drop}
 use lib.Seq.{getD-drop}
-use Rattle.language.proofs.LexemeSizes.{run-fits}
+use Rattle.language.proofs.LexemeSizes.{run-fits, digit-is-word}
 use Rattle.language.specs.Choice.{if′, within}
 use Rattle.language.specs.Lexemes as language
 use Rattle.language.specs.Lexemes.{isDigit, isWordStart, isWord, run, digitOf, readDigits, value, wrong, numbered, hexLiteral, decLiteral, startsHex, startsZero, integer}
@@ -24,9 +24,11 @@ use Rattle.lexemes.specs.declared.LexemeKind.the-variants as kind-is
 use Rattle.numerals.specs.declared.Number.{Number}
 use Rattle.numerals.specs.declared.Number.the-variants.{Value, Wrong}
 use Rattle.lexemes.specs.Kinds.{tokAs, kindAs}
-use Rattle.runs.specs.Runs.{between, runEnd}
+use Rattle.language.specs.Tokens.{between}
+use Rattle.runs.specs.Runs.{runEnd}
 use Rattle.numerals.specs.Numerals.{numberAs}
-use Rattle.runs.proofs.Places.{between-cons, run-between}
+use Rattle.language.proofs.Parts.{part-cons}
+use Rattle.runs.proofs.Places.{run-between}
 
 -- ---- starts, as the code tests them
 
@@ -102,10 +104,6 @@ module _ (p : ℕ → Bool) where
 
 -- ---- the tests of a start
 
-digit-word : (b : ℕ) → isDigit b ≡ true → isWord b ≡ true
-unfolding isWord
-digit-word b e = rw (e, or-true (isWordStart b))
-
 is-digit-zero : (b : ℕ) → eqb b 48 ≡ true → isDigit b ≡ true
 unfolding isDigit
 is-digit-zero b e = rw (eqb-true b 48 e)
@@ -119,7 +117,7 @@ unfolding digitOf isWord isWordStart isDigit
 is-word-hex b e = go (within 48 57 b) (within 97 102 b) (within 65 70 b) refl refl refl e
   where
     go : (x y z : Bool) → within 48 57 b ≡ x → within 97 102 b ≡ y → within 65 70 b ≡ z → ltb (if′ x (b - 48) (if′ y (b - 87) (if′ z (b - 55) 16))) 16 ≡ true → isWord b ≡ true
-    go true y z p q r e = digit-word b p
+    go true y z p q r e = digit-is-word b p
     go false true z p q r e =
         let h = inside 97 102 b q in
         rw (inside-test 97 122 b (omega arith) (omega arith))
@@ -156,13 +154,13 @@ module _ (p : ℕ → Bool) (digits : (b : ℕ) → isDigit b ≡ true → p b �
 
 module _ (t : List ℕ) where
   after-x : is0 (getD t 0 0) ≡ true → isX (getD t 1 0) ≡ true → 1 < run isWord t
-  after-x e f = taken isWord isX is-word-x refl 1 t (after-zero isWord digit-word t e) f
+  after-x e f = taken isWord isX is-word-x refl 1 t (after-zero isWord digit-is-word t e) f
 
   hex-run : startsHex (take (run isWord t) t) ≡ startsHex t
   unfolding startsHex digitOf
   hex-run =
-      both-same _ _ _ _ (seen isWord is0 (zeros isWord digit-word) refl 0 t zero-le)
-      (λ e. both-same _ _ _ _ (seen isWord isX is-word-x refl 1 t (after-zero isWord digit-word t e))
+      both-same _ _ _ _ (seen isWord is0 (zeros isWord digit-is-word) refl 0 t zero-le)
+      (λ e. both-same _ _ _ _ (seen isWord isX is-word-x refl 1 t (after-zero isWord digit-is-word t e))
       (λ f. seen isWord isHex is-word-hex refl 2 t (after-x e f)))
 
   two-taken : startsHex t ≡ true → 1 < run isWord t
@@ -203,7 +201,7 @@ module _ (s : List ℕ) (at e : ℕ) (h : (at < length s) × (e ≡ runEnd isWor
           let n : at + 1 + 1 ≡ at + 2 = omega arith in
           let l = two-digits in
           let f = word-ends .1 in
-          rw (between-cons s at e (omega arith) f, between-cons s (at + 1) e (omega arith) f, n)
+          rw (part-cons s at e (omega arith) f, part-cons s (at + 1) e (omega arith) f, n)
 
       pub hexadecimal : (o n : Number) → o ≡ numberAs (readDigits 16 0 (between s (at + 2) e)) → o ≡ n → literal HexLiteral n ≡ kindAs (integer (between s at e))
       unfolding integer
@@ -211,7 +209,7 @@ module _ (s : List ℕ) (at e : ℕ) (h : (at < length s) × (e ≡ runEnd isWor
 
     module _ (f : x ≡ false) (z : Bool) (z-said : z ≡ startsZero (drop at s)) where
       zero-same : startsZero (between s at e) ≡ z
-      zero-same = zero-between isWord digit-word s at e (h .1) ∙ sym z-said
+      zero-same = zero-between isWord digit-is-word s at e (h .1) ∙ sym z-said
 
       pub leading-zero : z ≡ true → kind-is.Error IntLeadingZero ≡ kindAs (integer (between s at e))
       unfolding integer

@@ -8,8 +8,8 @@ use native.Mathlib.Decide.{decLt}
 use native.Mathlib.Omega.{arith}
 use borrow.Author.Tests.{le-leb, lt-leb, leb-true, eq-eqb, ne-eqb}
 use lib.Dec.{leb}
-use lib.ListN.{length, getD, take, drop, length-drop, List·getD-eq-default}
-use lib.Seq.{length-take-le, getD-drop, drop-drop}
+use lib.ListN.{length, getD, take, drop, List·getD-eq-default}
+use lib.Seq.{getD-drop, drop-drop}
 use Rattle.language.specs.Choice.{if′}
 use Rattle.language.specs.Lexemes as language
 use Rattle.language.specs.Lexemes.{isDigit, run, readDigits, value, wrong, startsZero, octet, quad, notQuad, joined, further, quadFrom}
@@ -23,9 +23,11 @@ use Rattle.numerals.specs.declared.Octet.{Octet}
 use Rattle.numerals.specs.declared.Octet.the-variants.{Good, Bad}
 use Rattle.numerals.specs.declared.Quad.{Quad}
 use Rattle.numerals.specs.declared.Quad.the-variants.{Dotted, Not}
-use Rattle.runs.specs.Runs.{between, runEnd}
+use Rattle.language.specs.Tokens.{between}
+use Rattle.runs.specs.Runs.{runEnd}
 use Rattle.numerals.specs.Numerals.{numberAs, octetAs, Below, joinedAs, quadAs}
 use Rattle.numerals.proofs.Digits.{value-wide}
+use Rattle.language.proofs.Parts.{part-size}
 use Rattle.runs.proofs.Places.{run-starts, run-between}
 use Rattle.numerals.proofs.Numerals.{zero-between}
 
@@ -53,9 +55,7 @@ module _ (s : List ℕ) (at e : ℕ) (h : (at < e) × (e ≡ runEnd isDigit s at
   part-ends = run-starts isDigit s at e (h .0) (h .1)
 
   size : length (between s at e) ≡ e - at
-  size =
-      let l = part-ends in
-      length-take-le (e - at) (drop at s) (omega (arith, length-drop at s))
+  size = part-size s at e (part-ends .1)
 
   pub too-long : 3 < e - at → Bad ≡ octetAs (octet (between s at e))
   unfolding octet

@@ -2,31 +2,26 @@
 use mathlib.Core.Path.{_≡_, refl, sym, ap, _∙_}
 use mathlib.Core.Bool.{false}
 use mathlib.Core.List.{List, []}
-use mathlib.Core.Option.{Option, none, some}
 use mathlib.Core.Logic.{_⊎_, inl, inr}
 use Prim.Native.Nat.{ℕ, _*_, _/_, _≤_, _<_}
 use native.Mathlib.Omega.{arith}
-use native.Mathlib.Decide.{decLe}
 use borrow.Author.Tests.{ne-eqb, lt-ltb, le-ltb}
 use lib.Dec.{eqb}
 use lib.ListN.{length, take}
 use Rattle.table.specs.Table.{padTo, tabled}
-use Rattle.table.proofs.Laws.{length-pad, length-tabled, tabled-none, tabled-own}
-use Rattle.language.specs.Utf8.{firstBad}
+use Rattle.table.proofs.Laws.{length-pad, tabled-none, tabled-own}
 use Rattle.language.specs.Tables.{tokenRow}
-use Rattle.language.specs.Tokens.{contents, items, tokens, Wrong, firstWrong}
+use Rattle.language.specs.Tokens.{contents, tokens}
 use Rattle.language.specs.Sentences.{Stmt, Out, ok, program, nodes, nodeRow}
 use Rattle.language.specs.Sentences as sentences
 use Rattle.language.specs.Numbers as numbers
-use Rattle.language.specs.Numbers.{verdict, lexed, lexAnswer, lexTable, parsed, tokenPlace, parseAnswer, parseTokens, parseNodes}
+use Rattle.language.specs.Numbers.{verdict, lexAnswer, parsed, tokenPlace, parseAnswer, parseTokens, parseNodes}
 use Rattle.language.proofs.Tests.{never}
-use Rattle.utf8.specs.Decoding.{badOf}
-use Rattle.utf8.specs.declared.Bad.the-variants.{Nowhere}
 use Rattle.scan.specs.declared.Verdict.{Verdict}
 use Rattle.scan.specs.Scanning.{verdictAs}
 use Rattle.lex.specs.declared.Lexed.{Lexed}
 use Rattle.lex.specs.Entry.{LexSource}
-use Rattle.lex.proofs.Answers.{too-long, bad-byte, wrong-one, full, fits}
+use Rattle.lex.proofs.Left.{verdict-is, not-done, no-tokens, table-size, lexes}
 use Rattle.parse.specs.declared.Parsed.{Parsed}
 use Rattle.parse.specs.declared.Parsed.the-variants.{Done, Refused}
 use Rattle.parse.specs.declared.ParseAnswer.{ParseAnswer}
@@ -43,78 +38,17 @@ not-zero (inr e) z = omega arith
 
 -- ---- what lexing leaves where its number is 0
 
-module _ (s : List ℕ) (room : ℕ) (z : lexAnswer s room .verdict .number ≡ 0) where
-  number-0 : {v : numbers.Verdict} {k : ℕ} → lexAnswer s room ≡ lexed v k → v .number ≡ 0
-  number-0 e = rw e at z
+module _ {s : List ℕ} {t : ℕ} {q : Lexed} {a : List ℕ} (o : LexSource s t q a) (z : q .verdict .number ≡ 0) where
+  pub bounds : (1 ≤ q .count) × (7 * q .count ≤ length a) × (q .count ≤ 65537)
+  bounds =
+      let l = lexes o z in
+      let f = few-tokens s in
+      let g = some-token s in
+      (omega (arith, l .counted), omega (arith, l .room), omega (arith, l .counted, l .short))
 
-  pub short : length s ≤ 65536
-  short =
-      elim (decLe (length s) 65536) [
-        | yes h ↦ h
-        | no h ↦ let x : _≡_ {A = ℕ} 1 0 = number-0 (too-long s room (omega arith)) in absurd (omega arith)
-      ]
-
-  pub all-good : (o : Option ℕ) → firstBad s ≡ o → Nowhere ≡ badOf (firstBad s)
-  all-good (some at) e = let x : _≡_ {A = ℕ} 2 0 = number-0 (bad-byte s room short at (rw e)) in absurd (omega arith)
-  all-good none e = rw e
-
-  pub no-wrong : (o : Option Wrong) → firstWrong (items s) ≡ o → firstWrong (items s) ≡ none
-  no-wrong (some w) e =
-      let x : _≡_ {A = ℕ} 3 0 = number-0 (wrong-one s room short (all-good (firstBad s) refl) w e) in absurd (omega arith)
-  no-wrong none e = e
-
-  pub in-room : length (tokens s) ≤ room
-  in-room =
-      elim (decLe (length (tokens s)) room) [
-        | yes h ↦ h
-        | no h ↦
-            let x : _≡_ {A = ℕ} 4 0 = number-0 (full s room short (all-good (firstBad s) refl) (no-wrong (firstWrong (items s)) refl) (length (tokens s)) refl (omega arith)) in
-            absurd (omega arith)
-      ]
-
-  pub all-lexed : lexAnswer s room ≡ lexed (verdict 0 0 0) (length (tokens s))
-  all-lexed = fits s room short (all-good (firstBad s) refl) (no-wrong (firstWrong (items s)) refl) (length (tokens s)) refl in-room
-
-module _ {s : List ℕ} {t : ℕ} {q : Lexed} {a : List ℕ} (o : LexSource s t q a) where
-  number-is : q .verdict .number ≡ lexAnswer s (t / 7) .verdict .number
-  number-is = ap (λ (x : Lexed). x .verdict .number) (o .answer)
-
-  module _ (z : q .verdict .number ≡ 0) where
-    answered : lexAnswer s (t / 7) ≡ lexed (verdict 0 0 0) (length (tokens s))
-    answered = all-lexed s (t / 7) (sym number-is ∙ z)
-
-    counted-is : q .count ≡ length (tokens s)
-    counted-is = ap (λ (x : Lexed). x .count) (o .answer) ∙ ap (λ (x : numbers.Lexed). x .count) answered
-
-    table-is : a ≡ tabled tokenRow 7 t (tokens s)
-    unfolding lexTable
-    table-is = o .table ∙ rw answered
-
-    long-is : length a ≡ t
-    long-is = ap length table-is ∙ length-tabled tokenRow 7 t (tokens s)
-
-    pub lexes : Lexes s a (q .count)
-    lexes =
-        record {
-          answer = rw (long-is, counted-is) answered;
-          counted = counted-is;
-          table = tabled-own tokenRow 7 t (length a) (tokens s) table-is refl;
-        }
-
-    pub bounds : (1 ≤ q .count) × (7 * q .count ≤ length a) × (q .count ≤ 65537)
-    bounds =
-        let z′ = sym number-is ∙ z in
-        let c = counted-is in
-        let l = long-is in
-        let r = in-room s (t / 7) z′ in
-        let m = short s (t / 7) z′ in
-        let f = few-tokens s in
-        let g = some-token s in
-        (omega arith, omega arith, omega arith)
-
-    -- the tables' lengths are those before lexing
-    pub as-before : {n k : ℕ} {r : ParseAnswer} {b c : List ℕ} → k ≡ n → ParseSource s (length a) k r b c → ParseSource s t n r b c
-    as-before e h = rw (long-is, e) at h
+  -- the tables' lengths are those before lexing
+  pub as-before : {n k : ℕ} {r : ParseAnswer} {b c : List ℕ} → k ≡ n → ParseSource s (length a) k r b c → ParseSource s t n r b c
+  as-before e h = rw (table-size o z, e) at h
 
 -- a cleared table has no nodes
 pub no-nodes : {b : List ℕ} {n : ℕ} → b ≡ padTo n [] → Holds b [] × (length b ≡ n)
@@ -136,11 +70,10 @@ module _ (s : List ℕ) (t n : ℕ) where
   -- lexing refused: its table is all zero already
   pub not-lexed : {q : Lexed} {a b : List ℕ} {r : ParseAnswer} → LexSource s t q a → (q .verdict .number ≡ 0 → ⊥) → r ≡ refusal (q .verdict)
       → b ≡ padTo n [] → ParseSource s t n r a b
-  unfolding parseAnswer lexTable
+  unfolding parseAnswer
   not-lexed o z e c =
-      let f : eqb (lexAnswer s (t / 7) .verdict .number) 0 ≡ false = ne-eqb _ _ (λ x. z (number-is o ∙ x)) in
-      gave-up (lexAnswer s (t / 7) .verdict) (rw f) f (ap (λ (x : Lexed). x .verdict) (o .answer))
-      (record { answer = e; tokens = o .table ∙ rw f (tabled-none tokenRow 7 t); nodes = c })
+      let f = not-done o z in
+      gave-up (lexAnswer s (t / 7) .verdict) (rw f) f (verdict-is o) (record { answer = e; tokens = no-tokens o z; nodes = c })
 
 -- ---- tokens that were parsed
 

@@ -9,7 +9,7 @@ use lib.ListN.{length, getD, List·getD-map, List·getD-eq-default}
 use Rattle.table.specs.Table.{flat}
 use Rattle.table.proofs.Laws.{length-flat, flat-word}
 use Rattle.language.specs.Lexemes.{lParen, rParen, dot, doubleColon, colon, semiColon, equals, comma, slash, importKeyword, letKeyword, identifier, booleanLiteral, ipv4Literal, hexLiteral, decLiteral}
-use Rattle.language.specs.Tables.{word, contentKind, contentLow, contentHigh, tokenRow}
+use Rattle.language.specs.Tables.{wordLimit, contentKind, contentLow, contentHigh, tokenRow}
 use Rattle.language.specs.Tokens.{Content, eof, plain, name, string, Token, contents}
 use Rattle.language.specs.Sentences.{portOf}
 use Rattle.language.proofs.TokenContents.{as-many}
@@ -29,13 +29,13 @@ content-at : (ts : List Token) (at : ℕ) → getD (contents ts) at eof ≡ getD
 content-at ts at = List·getD-map (λ (t : Token). t .content) ts at end
 
 -- a value of two words is a port where it fits in 16 bits
-port-value : (n : ℕ) → portOfTok (portTokOf 18 (n % word) (n / word)) ≡ portOf (plain (decLiteral n))
+port-value : (n : ℕ) → portOfTok (portTokOf 18 (n % wordLimit) (n / wordLimit)) ≡ portOf (plain (decLiteral n))
 unfolding portOfTok portTokOf
 port-value n = elim (decLe n 65535) [
-  | yes h ↦ rw (eq-eqb (n / word) 0 (omega arith), le-leb (n % word) 65535 (omega arith), le-leb n 65535 h)
-  | no h ↦ rw (lt-leb n 65535 (omega arith)) (elim (decLe word n) [
-    | yes g ↦ rw (ne-eqb (n / word) 0 (λ z. omega arith))
-    | no g ↦ rw (eq-eqb (n / word) 0 (omega arith), lt-leb (n % word) 65535 (omega arith))
+  | yes h ↦ rw (eq-eqb (n / wordLimit) 0 (omega arith), le-leb (n % wordLimit) 65535 (omega arith), le-leb n 65535 h)
+  | no h ↦ rw (lt-leb n 65535 (omega arith)) (elim (decLe wordLimit n) [
+    | yes g ↦ rw (ne-eqb (n / wordLimit) 0 (λ z. omega arith))
+    | no g ↦ rw (eq-eqb (n / wordLimit) 0 (omega arith), lt-leb (n % wordLimit) 65535 (omega arith))
   ])
 ]
 

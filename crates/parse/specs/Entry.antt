@@ -1,16 +1,13 @@
 -- What the entry promises.
 use mathlib.Core.Path.{_≡_}
 use mathlib.Core.List.{List, []}
-use Prim.Native.Nat.{ℕ, _/_}
-use lib.ListN.{length}
-use Rattle.table.specs.Table.{padTo, tabled}
-use Rattle.language.specs.Tables.{tokenRow, tokenWidth}
-use Rattle.language.specs.Tokens.{tokens}
-use Rattle.language.specs.Sentences.{nodeWidth}
+use Prim.Native.Nat.{ℕ}
+use Rattle.table.specs.Table.{padTo}
 use Rattle.language.specs.Numbers as numbers
-use Rattle.language.specs.Numbers.{verdict, lexed, lexAnswer, parseAnswer, parseTokens, parseNodes}
+use Rattle.language.specs.Entries.{ParsePromise}
 use Rattle.scan.specs.declared.Verdict.{Verdict}
 use Rattle.scan.specs.Scanning.{verdictAs}
+pub use Rattle.lex.specs.Entry.{Lexes}
 use Rattle.parse.specs.declared.ParseAnswer.{ParseAnswer}
 
 abbrev pub parsedAs : numbers.Parsed → ParseAnswer
@@ -26,14 +23,6 @@ pub record GivesUp (v : Verdict) (t n : ℕ) (r : ParseAnswer) (toks left : List
   pub tokens : toks ≡ padTo t []
   pub nodes : left ≡ padTo n []
 
--- what lexing leaves where it refuses nothing: a table of the tokens, `count` of them
-pub record Lexes (source toks : List ℕ) (count : ℕ) : Type 0 where
-  pub answer : lexAnswer source (length toks / tokenWidth) ≡ lexed (verdict 0 0 0) count
-  pub counted : count ≡ length (tokens source)
-  pub table : toks ≡ tabled tokenRow tokenWidth (length toks) (tokens source)
-
 -- of a source, a token table of t words and a node table of n words: the answer r, and what is left in both
-pub record ParseSource (source : List ℕ) (t n : ℕ) (r : ParseAnswer) (toks left : List ℕ) : Type 0 where
-  pub answer : r ≡ parsedAs (parseAnswer source (t / tokenWidth) (n / nodeWidth))
-  pub tokens : toks ≡ parseTokens source t n
-  pub nodes : left ≡ parseNodes source t n
+abbrev pub ParseSource : List ℕ → ℕ → ℕ → ParseAnswer → List ℕ → List ℕ → Type 0
+ParseSource source t n r toks left = ParsePromise parsedAs source t n r toks left

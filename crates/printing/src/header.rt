@@ -3,6 +3,7 @@ ghost use Prim.Native.Nat.{_≤_};
 ghost use lib.ListN.{length};
 use crate::input::digit;
 use crate::words::find;
+use constants::same;
 
 pub enum Mode {
     // rows
@@ -35,20 +36,6 @@ pub struct Header {
 enum Number {
     Is(u64),
     Not,
-}
-
-fn same(text: &[u8], key: &[u8]) -> bool {
-    if text.len() != key.len() {
-        return false;
-    }
-    let mut i = 0;
-    while i < key.len() {
-        if text[i] != key[i] {
-            return false;
-        }
-        i += 1;
-    }
-    true
 }
 
 fn mode_of(name: &[u8]) -> Mode {

@@ -1,9 +1,9 @@
 // Text for standard output, gathered in a buffer. Each function takes the place in the buffer where text goes next, and
 // answers the place after it. A buffer that is full is written.
-ghost use Prim.Native.Nat.{_<_};
 use crate::words;
 use libc::STDOUT_FILENO;
 use wide::Wide;
+use wide::spell_digit;
 
 pub fn byte(out: &mut [u8], at: usize, b: u8) -> usize {
     if at < out.len() {
@@ -41,7 +41,7 @@ pub fn bad_input(out: &mut [u8], at: usize) {
 }
 
 fn last_digits(out: &mut [u8], at: usize, digits: &[u8; Wide::MOST_DIGITS], start: usize) -> usize {
-    text(out, at, words::part(digits, start, Wide::MOST_DIGITS))
+    text(out, at, constants::part(digits, start, Wide::MOST_DIGITS))
 }
 
 // A number in decimal.
@@ -55,16 +55,9 @@ pub fn number(out: &mut [u8], at: usize, n: u64) -> usize {
     wide(out, at, Wide { hi: 0, lo: n })
 }
 
-// A hex digit, in lower case.
-fn hex_digit(n: u8) -> u8
-    requires { ⌜ n < 16 ⌝ }
-{
-    if n < 10 { b'0' + n } else { b'a' - 10 + n }
-}
-
 fn hex_byte(out: &mut [u8], at: usize, b: u8) -> usize {
-    let p = byte(out, at, hex_digit(b / 16));
-    byte(out, p, hex_digit(b % 16))
+    let p = byte(out, at, spell_digit((b / 16) as u64));
+    byte(out, p, spell_digit((b % 16) as u64))
 }
 
 pub fn hex(out: &mut [u8], at: usize, s: &[u8]) -> usize {

@@ -2,7 +2,7 @@
 ghost use Prim.Native.Nat.{_+_, _≤_};
 ghost use lib.ListN.{length};
 use crate::output;
-use crate::words::part;
+use constants::part;
 use lexemes::LexErrorKind;
 use rows::TokKind;
 use rows::TokenRow;

@@ -43,11 +43,3 @@ pub fn word(list: &[u8], n: u64) -> &[u8] {
     let end = find(list, start, b' ');
     &list[start..end]
 }
-
-// The bytes from `start` to `end`: none where the text does not have them all.
-pub fn part(text: &[u8], start: usize, end: usize) -> &[u8] {
-    if start <= end && end <= text.len() {
-        return &text[start..end];
-    }
-    &text[0..0]
-}

@@ -14,8 +14,8 @@ use lib.ListN.{getD}
 use types.Run.{OneOf}
 use Rattle.language.specs.Choice.{within}
 use Rattle.language.specs.Utf8.{Range, to}
-use Rattle.language.specs.Lexemes.{inOne, isBlank, isWordStart, isBody, notNewline}
-use Rattle.language.proofs.Tests.{all, of-each, inside-test, outside-test}
+use Rattle.language.specs.Lexemes.{inOne, blanks, all, isBlank, isWordStart, isBody, notNewline}
+use Rattle.language.proofs.Tests.{of-each, inside-test, outside-test}
 
 -- ---- one of several numbers
 
@@ -39,12 +39,6 @@ in-one :
 in-one [] k n h g = absurd (omega arith)
 in-one (r ∷ rs) zero n h g = rw (inside-test (r .low) (r .high) n h g)
 in-one (r ∷ rs) (suc k) n h g = rw (in-one rs k n h g) (or-true (within (r .low) (r .high) n))
-
--- as `isBlank` has them
-abbrev blanks : List Range
-blanks =
-    to 0x09 0x09 ∷ to 0x0B 0x0D ∷ to 0x20 0x20 ∷ to 0x85 0x85 ∷ to 0xA0 0xA0 ∷ to 0x1680 0x1680 ∷ to 0x2000 0x200A
-    ∷ to 0x2028 0x2029 ∷ to 0x202F 0x202F ∷ to 0x205F 0x205F ∷ to 0x3000 0x3000 ∷ []
 
 module _ (n : ℕ) where
   pub blank-one : (ks : List ℕ) → all isBlank ks ≡ true → OneOf ks n → true ≡ isBlank n

@@ -1,15 +1,16 @@
--- Places of a line: the byte there, the part up to another place, and where a run from there ends.
-use Prim.Native.Nat.{ℕ, suc, _+_, _-_, _<_, _≤_}
+-- Places of a line: the byte there, and where a run from there ends.
+use Prim.Native.Nat.{ℕ, _+_, _-_, _<_, _≤_}
 use mathlib.Core.Path.{_≡_}
 use mathlib.Core.Bool.{Bool}
-use mathlib.Core.List.{List, [], _∷_}
+use mathlib.Core.List.{List, _∷_}
 use native.Mathlib.Numerals.{add-one}
 use native.Mathlib.Omega.{arith}
 use lib.ListN.{length, getD, take, drop, length-drop}
 use lib.Seq.{drop-cons}
 use Rattle.language.specs.Lexemes.{run}
+use Rattle.language.specs.Tokens.{between}
 use Rattle.language.proofs.LexemeSizes.{run-fits}
-use Rattle.runs.specs.Runs.{between, runEnd}
+use Rattle.runs.specs.Runs.{runEnd}
 
 module _ (line : List ℕ) (at : ℕ) where
   -- where the line has a byte here, the rest begins with it
@@ -20,17 +21,6 @@ module _ (line : List ℕ) (at : ℕ) where
   pub run-ends : (p : ℕ → Bool) → at ≤ length line → (at ≤ runEnd p line at) × (runEnd p line at ≤ length line)
   unfolding runEnd
   run-ends p h = (omega arith, omega (arith, run-fits p (drop at line), length-drop at line))
-
--- the bytes up to e, the first of them apart
-pub between-cons : (s : List ℕ) (i e : ℕ) → i < e → e ≤ length s → between s i e ≡ getD s i 0 ∷ between s (i + 1) e
-between-cons s i e h f =
-    let n : e - i ≡ suc (e - (i + 1)) = omega arith in
-    rw (n, drop-cons s i 0 (omega arith), add-one)
-
-pub between-none : (s : List ℕ) (i e : ℕ) → e ≤ i → between s i e ≡ []
-between-none s i e h =
-    let n : e - i ≡ 0 = omega arith in
-    rw n
 
 -- a run of bytes with p
 module _ (p : ℕ → Bool) where

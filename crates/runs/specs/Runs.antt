@@ -1,13 +1,10 @@
--- What the code says of places in a line: a part of it, and where a run ends.
-use Prim.Native.Nat.{ℕ, _+_, _-_}
+-- What the code says of places in a line: where a run ends, and whether a key stands there.
+use Prim.Native.Nat.{ℕ, _+_}
 use mathlib.Core.Bool.{Bool}
 use mathlib.Core.List.{List}
-use lib.ListN.{take, drop}
+use lib.ListN.{drop}
 use Rattle.language.specs.Lexemes.{run, blankRun, same}
-
--- the bytes from `at` up to e
-abbrev pub between : List ℕ → ℕ → ℕ → List ℕ
-between s at e = take (e - at) (drop at s)
+use Rattle.language.specs.Tokens.{between}
 
 -- where a run of bytes with p that starts at `at` ends
 unfoldable pub runEnd : (ℕ → Bool) → List ℕ → ℕ → ℕ

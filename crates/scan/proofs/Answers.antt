@@ -1,8 +1,7 @@
 -- What scanning a line answers and leaves, for each way that it goes.
-use mathlib.Core.Path.{_≡_, refl, sym, _∙_}
+use mathlib.Core.Path.{_≡_, sym, _∙_}
 use mathlib.Core.Bool.{false}
 use mathlib.Core.List.{List, []}
-use mathlib.Core.Option.{Option, none, some}
 use Prim.Native.Nat.{ℕ, _+_, _≤_, _<_, _/_}
 use native.Mathlib.Numerals.{add-one}
 use borrow.Author.Tests.{lt-ltb, le-ltb}
@@ -15,21 +14,13 @@ use Rattle.language.specs.Lexemes.{scan}
 use Rattle.language.specs.Tables.{lexemeRow, lexemeWidth}
 use Rattle.language.specs.Numbers as numbers
 use Rattle.language.specs.Numbers.{verdict, scanned, scanAnswer, scanTable}
-use Rattle.language.proofs.Tests.{never}
 use Rattle.utf8.specs.Decoding.{badOf}
 use Rattle.utf8.specs.declared.Bad.the-variants.{At, Nowhere}
+use Rattle.utf8.proofs.Places.{bad-at, bad-nowhere}
 use Rattle.scan.specs.declared.Verdict.{Verdict}
 use Rattle.scan.specs.declared.Scanned.{Scanned}
 use Rattle.scan.specs.Scanning.{verdictAs}
 use Rattle.scan.specs.Entry.{ScanLine}
-
-pub bad-at : (o : Option ℕ) (at : ℕ) → At at ≡ badOf o → o ≡ some at
-bad-at (some x) at e = cc
-bad-at none at e = never (cc)
-
-pub bad-nowhere : (o : Option ℕ) → Nowhere ≡ badOf o → o ≡ none
-bad-nowhere (some x) e = never (cc)
-bad-nowhere none e = refl
 
 module _ (line : List ℕ) (room : ℕ) where
   pub too-long : 65536 < length line → scanAnswer line room ≡ scanned (verdict 1 0 0) 0

@@ -3,5 +3,6 @@ pub mod Parts
 pub mod Tokens
 pub mod Numbers
 pub mod Starts
+pub mod Turns
 pub mod Filling
 pub mod Answers

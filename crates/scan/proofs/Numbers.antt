@@ -21,7 +21,8 @@ use Rattle.lexemes.specs.declared.Lexeme.{Lexeme}
 use Rattle.lexemes.specs.declared.LexemeKind.{LexemeKind}
 use Rattle.lexemes.specs.declared.LexemeKind.the-variants as kind-is
 use Rattle.lexemes.specs.Kinds.{kindAs, lexemeAs}
-use Rattle.runs.specs.Runs.{between, runEnd}
+use Rattle.language.specs.Tokens.{between}
+use Rattle.runs.specs.Runs.{runEnd}
 use Rattle.runs.proofs.Places.{run-between}
 use Rattle.numerals.specs.declared.Octet.{Octet}
 use Rattle.numerals.specs.declared.Octet.the-variants.{Good, Bad}
@@ -29,6 +30,7 @@ use Rattle.numerals.specs.declared.Quad.{Quad}
 use Rattle.numerals.specs.declared.Quad.the-variants.{Dotted, Not}
 use Rattle.numerals.specs.Numerals.{octetAs, quadAs}
 use Rattle.numerals.proofs.Quads.{stands}
+use Rattle.scan.proofs.Starts.{made}
 
 -- a quad takes n bytes at the most
 abbrev Within : ℕ → language.Quad → Type 0
@@ -89,10 +91,6 @@ not-found : (at : ℕ) (q : language.Quad) → quadAs at q ≡ Not → q ≡ not
 not-found at (quad m a) w = never (cc)
 not-found at notQuad w = refl
 
--- what the code makes of it
-abbrev lexemeFrom : ℕ → ℕ → LexemeKind → Lexeme
-lexemeFrom at e k = record { start = at; end = e; kind = k }
-
 -- r is what the code finds at `at`
 module _ (s : List ℕ) (at : ℕ) (r : Quad) (r-said : r ≡ quadAs at (quadFrom 3 (some 0) (drop at s))) where
   number-from : {q : language.Quad} → quadFrom 3 (some 0) (drop at s) ≡ q → number (drop at s) ≡ numberFrom q (drop at s)
@@ -111,20 +109,20 @@ module _ (s : List ℕ) (at : ℕ) (r : Quad) (r-said : r ≡ quadAs at (quadFro
       number-is : number (drop at s) ≡ quadLexeme (here .bytes) (here .address) (run isWord (drop d s))
       number-is = number-from (here .is) ∙ rw (drop-drop, here .end)
 
-      pub address : (a : ℕ) → o ≡ Good a → e ≡ d → lexemeFrom at e (kind-is.Tok (IPv4Literal a)) ≡ lexemeAs at (number (drop at s))
+      pub address : (a : ℕ) → o ≡ Good a → e ≡ d → made at e (kind-is.Tok (IPv4Literal a)) ≡ lexemeAs at (number (drop at s))
       unfolding runEnd
       address a g z =
           let n : run isWord (drop d s) ≡ 0 = omega arith in
           rw (number-is, good-said (here .address) a (here .said ∙ g), n, here .end, z)
 
-      pub malformed : (o ≡ Bad) ⊎ (e ≡ d → ⊥) → lexemeFrom at e (kind-is.Error error-is.IPv4Literal) ≡ lexemeAs at (number (drop at s))
+      pub malformed : (o ≡ Bad) ⊎ (e ≡ d → ⊥) → made at e (kind-is.Error error-is.IPv4Literal) ≡ lexemeAs at (number (drop at s))
       unfolding runEnd
       malformed h =
           let p : e ≡ at + (here .bytes + run isWord (drop d s)) = omega (arith, here .end) in
           let c : (octetAs (here .address) ≡ Bad) ⊎ (run isWord (drop d s) ≡ 0 → ⊥) = ⊎-elim (λ x. inl (here .said ∙ x)) (λ x. inr (λ y. x (omega arith))) h in
           rw (number-is, bad-quad (here .bytes) (run isWord (drop d s)) (here .address) c, p)
 
-  pub no-quad : r ≡ Not → (e : ℕ) → e ≡ runEnd isWord s at → (k : LexemeKind) → k ≡ kindAs (integer (between s at e)) → lexemeFrom at e k ≡ lexemeAs at (number (drop at s))
+  pub no-quad : r ≡ Not → (e : ℕ) → e ≡ runEnd isWord s at → (k : LexemeKind) → k ≡ kindAs (integer (between s at e)) → made at e k ≡ lexemeAs at (number (drop at s))
   unfolding runEnd
   no-quad w e f k g =
       rw (number-from (not-found at (quadFrom 3 (some 0) (drop at s)) (sym r-said ∙ w)), g, run-between isWord s at e f, f)

@@ -6,7 +6,7 @@ use native.Mathlib.Omega.{arith}
 use native.Mathlib.Decide.{decLe}
 use borrow.Author.Tests.{le-leb, lt-leb}
 use lib.ListN.{length}
-use Rattle.runs.specs.Runs.{between}
+use Rattle.language.specs.Tokens.{between}
 use Rattle.scan.specs.Scanning.{bodyOf}
 
 module _ (s : List ℕ) (at e : ℕ) where

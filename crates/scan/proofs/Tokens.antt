@@ -1,7 +1,7 @@
 -- Which token a word is, and a byte.
 use Prim.Native.Nat.{ℕ}
-use mathlib.Core.Path.{_≡_}
-use mathlib.Core.Bool.{true, false}
+use mathlib.Core.Path.{_≡_, sym, _∙_}
+use mathlib.Core.Bool.{Bool, true, false}
 use mathlib.Core.List.{List}
 use borrow.Author.Tests.{ne-eqb}
 use Rattle.language.specs.Lexemes.{same, import′, let′, true′, false′, word, punctuation}
@@ -9,6 +9,10 @@ use Rattle.lexemes.specs.declared.Tok.the-variants as tok-is
 use Rattle.lexemes.specs.Kinds.{tokAs}
 use Rattle.scan.specs.declared.Mark.the-variants as mark-is
 use Rattle.scan.specs.Scanning.{markAs}
+
+-- what a test came to is so of what it tests
+pub told : {t u v : Bool} → t ≡ u → t ≡ v → u ≡ v
+told e h = sym e ∙ h
 
 module _ (w : List ℕ) where
   pub word-import : same w import′ ≡ true → tok-is.ImportKeyword ≡ tokAs (word w)

@@ -10,7 +10,7 @@ use Rattle.language.specs.Numbers as numbers
 use Rattle.language.specs.Lexemes.{doubleColon, colon, slash, unexpectedChar, tok, error, word, lexemeOf, comment, string, lexeme}
 use Rattle.lexemes.specs.declared.Tok.{Tok}
 use Rattle.lexemes.specs.Kinds.{tokAs, lexemeAs}
-use Rattle.runs.specs.Runs.{between}
+use Rattle.language.specs.Tokens.{between}
 use Rattle.scan.specs.declared.Mark.{Mark}
 use Rattle.scan.specs.declared.Mark.the-variants as mark-is
 use Rattle.scan.specs.declared.Step.{Step}

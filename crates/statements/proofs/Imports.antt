@@ -16,52 +16,18 @@ use Rattle.language.specs.Tokens.{Content, contents, between}
 use Rattle.language.specs.Sentences.{import′}
 use Rattle.language.specs.Values.{lookup}
 use Rattle.language.specs.Judgements as judgements
-use Rattle.language.specs.Judgements.{diag, Known, known, Import, What, multipleImports, unknownModule, mostImports, errorsIn, warningsIn, goes, full, imported, findImport, nameAt, stmt}
-use Rattle.language.specs.Findings.{diagRow, stmtRow}
+use Rattle.language.specs.Judgements.{diag, Known, known, Import, multipleImports, unknownModule, mostImports, goes, full, imported, findImport, nameAt, stmt}
 use Rattle.language.specs.Numbers.{tokenOf}
 use Rattle.language.proofs.Tests.{never}
 use Rattle.judging.specs.declared.Token.{Token}
 use Rattle.judging.specs.declared.Fault.{Fault}
 use Rattle.judging.specs.declared.Counts.{Counts}
-use Rattle.judging.specs.Judging.{tokenAs, namedAs, faultAs, faultRow, putRows, plusWarnings, namesIn, place, importsIn, boundIn, orNone, knownIn, Knows, keyOf, Keyed, Ready}
-use Rattle.judging.proofs.Rows.{no-rows, one-row}
-use Rattle.judging.proofs.Names.{import-found, import-lost, found-module}
+use Rattle.judging.specs.Judging.{tokenAs, namedAs, faultAs, faultRow, plusWarnings, namesIn, place, importsIn, orNone, knownIn, Knows, keyOf, Keyed, Ready}
+use Rattle.judging.proofs.Names.{same-place, import-found, import-lost, found-module}
 use Rattle.statements.specs.declared.Turn.the-variants.{Went, Full}
-use Rattle.statements.specs.Checking.{plusError, plusImport, entryRow, Grows, Steps, TurnOf, Turns}
-use Rattle.statements.proofs.Statements.{fault-row}
-use Rattle.statements.proofs.Stores.{store-import, store-key, imports-long}
-
--- ---- what one finding adds
-
-pub grows-none : (s : List ℕ) {c c′ : Counts} {x u : List ℕ} → c′ .errors ≡ c .errors → c′ .warnings ≡ c .warnings → c′ .statements ≡ c .statements → Grows s c x u c′ x u [] []
-unfolding errorsIn warningsIn
-grows-none s {c} {c′} {x} {u} p q r =
-    record {
-      errors = omega (arith, p);
-      warnings = omega (arith, q);
-      statements = omega (arith, r);
-      diags = no-rows (diagRow (tokenOf s)) x (c .errors + c .warnings);
-      stmts = no-rows (stmtRow (tokenOf s)) u (c .statements);
-    }
-
-module _ (s : List ℕ) (n t : ℕ) (m : What) (c c′ : Counts) (x u y : List ℕ) {f : Fault} (g : f ≡ faultAs s t m)
-    (b : y ≡ putRow x (c .errors + c .warnings) (faultRow f)) (r : c′ .statements ≡ c .statements) where
-  row-is : y ≡ putRows (diagRow (tokenOf s)) x (c .errors + c .warnings) (diag n t m ∷ [])
-  row-is = b ∙ ap (putRow x (c .errors + c .warnings)) (ap faultRow g ∙ fault-row s n t m) ∙ one-row (diagRow (tokenOf s)) x (c .errors + c .warnings) (diag n t m)
-
-  pub grows-error : judgements.isError m ≡ true → c′ .errors ≡ c .errors + 1 → c′ .warnings ≡ c .warnings → Grows s c x u c′ y u (diag n t m ∷ []) []
-  unfolding errorsIn warningsIn
-  grows-error h p q =
-      let one : _≡_ {A = ℕ} (if′ (judgements.isError m) 1 0) 1 = ap (λ (l : Bool). if′ l 1 0) h in
-      let rest : _≡_ {A = ℕ} (if′ (judgements.isError m) 0 1) 0 = ap (λ (l : Bool). if′ l 0 1) h in
-      record { errors = omega (arith, p, one); warnings = omega (arith, q, rest); statements = omega (arith, r); diags = row-is; stmts = no-rows (stmtRow (tokenOf s)) u (c .statements) }
-
-  pub grows-warning : judgements.isError m ≡ false → c′ .errors ≡ c .errors → c′ .warnings ≡ c .warnings + 1 → Grows s c x u c′ y u (diag n t m ∷ []) []
-  unfolding errorsIn warningsIn
-  grows-warning h p q =
-      let one : _≡_ {A = ℕ} (if′ (judgements.isError m) 1 0) 0 = ap (λ (l : Bool). if′ l 1 0) h in
-      let rest : _≡_ {A = ℕ} (if′ (judgements.isError m) 0 1) 1 = ap (λ (l : Bool). if′ l 0 1) h in
-      record { errors = omega (arith, p, one); warnings = omega (arith, q, rest); statements = omega (arith, r); diags = row-is; stmts = no-rows (stmtRow (tokenOf s)) u (c .statements) }
+use Rattle.statements.specs.Checking.{plusError, plusImport, entryRow, SameNames, Steps, TurnOf, Turns}
+use Rattle.statements.proofs.Grows.{grows-none, grows-error, grows-warning, no-name, same-knows, same-ready}
+use Rattle.statements.proofs.Stores.{store-import, store-key, bindings-are, imports-are, imports-many}
 
 -- ---- the definition's steps
 
@@ -83,33 +49,27 @@ module _ (s toks : List ℕ) (n t : ℕ) (k : Known) (b is : List (List ℕ)) (u
   ts = contents (tokens.tokens s)
 
   at : i ≡ place (namesIn s is (c .imported) 0) (nameAt ts t)
-  at = p ∙ ap (place (namesIn s is (c .imported) 0)) o
-
-  imports-are : k .imports ≡ importsIn s is (c .imported) 0
-  imports-are = ap (λ (l : Known). l .imports) (kn .is)
+  at = same-place (namesIn s is (c .imported) 0) p o
 
   pub turn-again : {f : Fault} {c′ : Counts} {y : List ℕ} → i < c .imported → f ≡ faultAs s t multipleImports → c′ ≡ plusWarnings c 1
       → y ≡ putRow x (c .errors + c .warnings) (faultRow f) → Turns s toks c x u (Went c′) b is y u (stmt ts n k (import′ t))
   turn-again {f} {c′} {y} h g q r =
-      let e = ap (λ (l : List Import). findImport l (nameAt ts t)) imports-are ∙ import-found s is (nameAt ts t) (c .imported) i at h in
-      let ready : Ready s toks b is (plusWarnings c 1) = record { lexed = rd .lexed; bound = rd .bound; modules = rd .modules; sound = rd .sound; keyed = rd .keyed; keyed-modules = rd .keyed-modules } in
+      let e = ap (λ (l : List Import). findImport l (nameAt ts t)) (imports-are kn) ∙ import-found s is (nameAt ts t) (c .imported) i at h in
+      let names : SameNames c c′ = no-name q refl refl in
       let steps : Steps s toks c x u c′ b is y u k (diag n t multipleImports ∷ []) [] = record {
-        knows = record { is = kn .is ∙ ap (knownIn s b is) (sym q) };
-        ready = subst (λ (l : Counts). Ready s toks b is l) (sym q) ready;
+        knows = same-knows names kn;
+        ready = same-ready names rd;
         grows = grows-warning s n t multipleImports c c′ x u y g r (ap (λ (l : Counts). l .statements) q) refl (ap (λ (l : Counts). l .errors) q) (ap (λ (l : Counts). l .warnings) q);
       } in
       record { turn = subst (λ (z : judgements.Turn). TurnOf s toks c x u (Went c′) b is y u z) (sym (again ts n k t e)) steps }
 
   module _ (h : c .imported ≤ i) where
     absent : findImport (k .imports) (nameAt ts t) ≡ none
-    absent = ap (λ (l : List Import). findImport l (nameAt ts t)) imports-are ∙ import-lost s is (nameAt ts t) (c .imported) i at h
-
-    many : length (k .imports) ≡ c .imported
-    many = ap length imports-are ∙ imports-long s is (c .imported) 0
+    absent = ap (λ (l : List Import). findImport l (nameAt ts t)) (imports-are kn) ∙ import-lost s is (nameAt ts t) (c .imported) i at h
 
     pub turn-full : 64 ≤ c .imported → Turns s toks c x u (Full t) b is x u (stmt ts n k (import′ t))
     turn-full l =
-        let f : ltb (length (k .imports)) mostImports ≡ false = le-ltb (length (k .imports)) mostImports (omega (arith, many, l)) in
+        let f : ltb (length (k .imports)) mostImports ≡ false = le-ltb (length (k .imports)) mostImports (omega (arith, imports-many kn, l)) in
         let e : stmt ts n k (import′ t) ≡ full t = not-yet ts n k t absent ∙ ap (λ (z : Bool). if′ z (imported ts n k t (lookup 0 (nameAt ts t))) (full t)) f in
         record { turn = subst (λ (z : judgements.Turn). TurnOf s toks c x u (Full t) b is x u z) (sym e) refl }
 
@@ -118,7 +78,7 @@ module _ (s toks : List ℕ) (n t : ℕ) (k : Known) (b is : List (List ℕ)) (u
         (put : is′ ≡ set is (c .imported) (entryRow start end key t (record { kind = kind; lo = 0; hi = 0 }))) where
       stepped : stmt ts n k (import′ t) ≡ imported ts n k t (lookup 0 (nameAt ts t))
       stepped =
-          let f : ltb (length (k .imports)) mostImports ≡ true = lt-ltb (length (k .imports)) mostImports (omega (arith, many, l)) in
+          let f : ltb (length (k .imports)) mostImports ≡ true = lt-ltb (length (k .imports)) mostImports (omega (arith, imports-many kn, l)) in
           not-yet ts n k t absent ∙ ap (λ (z : Bool). if′ z (imported ts n k t (lookup 0 (nameAt ts t))) (full t)) f
 
       now-imports : importsIn s is′ (c .imported + 1) 0 ≡ k .imports ++ record { name = nameAt ts t; found = lookup 0 (nameAt ts t) } ∷ []
@@ -126,16 +86,13 @@ module _ (s toks : List ℕ) (n t : ℕ) (k : Known) (b is : List (List ℕ)) (u
           let f : orNone kind ≡ lookup 0 (nameAt ts t) = ap orNone m ∙ found-module 0 (nameAt ts t) in
           ap (λ (z : List (List ℕ)). importsIn s z (c .imported + 1) 0) put
           ∙ store-import s is (c .imported) start end key t (record { kind = kind; lo = 0; hi = 0 }) (omega (arith, l, long))
-          ∙ rw (name, f, imports-are)
-
-      bindings-are : k .bindings ≡ boundIn s b (c .used) 0
-      bindings-are = ap (λ (z : Known). z .bindings) (kn .is)
+          ∙ rw (name, f, imports-are kn)
 
       known-now : (o : Option ℕ) → lookup 0 (nameAt ts t) ≡ o → known (k .imports ++ record { name = nameAt ts t; found = o } ∷ []) (k .bindings)
           ≡ knownIn s b is′ (plusImport c)
       known-now o e =
           ap (λ (z : Option ℕ). known (k .imports ++ record { name = nameAt ts t; found = z } ∷ []) (k .bindings)) (sym e)
-          ∙ ap (λ (z : List Import). known z (k .bindings)) (sym now-imports) ∙ ap (known (importsIn s is′ (c .imported + 1) 0)) bindings-are
+          ∙ ap (λ (z : List Import). known z (k .bindings)) (sym now-imports) ∙ ap (known (importsIn s is′ (c .imported + 1) 0)) (bindings-are kn)
 
       long-now : length is′ ≡ length is
       long-now =
@@ -161,17 +118,9 @@ module _ (s toks : List ℕ) (n t : ℕ) (k : Known) (b is : List (List ℕ)) (u
       failed-by : (o : Option ℕ) → lookup 0 (nameAt ts t) ≡ o → kind ≡ 0 → {f : Fault} {y : List ℕ} → f ≡ faultAs s t unknownModule
           → y ≡ putRow x (c .errors + c .warnings) (faultRow f) → TurnOf s toks c x u (Went (plusError (plusImport c))) b is′ y u (imported ts n k t o)
       failed-by none e z {f} {y} g r =
-          let rn : Ready s toks b is′ (plusError (plusImport c)) = record {
-            lexed = rd .lexed;
-            bound = rd .bound;
-            modules = ready-now .modules;
-            sound = rd .sound;
-            keyed = rd .keyed;
-            keyed-modules = ready-now .keyed-modules;
-          } in
           record {
             knows = record { is = known-now none e };
-            ready = rn;
+            ready = same-ready (no-name refl refl refl) ready-now;
             grows = grows-error s n t unknownModule c (plusError (plusImport c)) x u y g r refl refl refl refl;
           }
       failed-by (some j) e z g r =

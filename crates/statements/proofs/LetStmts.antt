@@ -20,29 +20,12 @@ use Rattle.judging.specs.declared.Token.{Token}
 use Rattle.judging.specs.declared.Fault.{Fault}
 use Rattle.judging.specs.declared.Counts.{Counts}
 use Rattle.judging.specs.declared.Judgement.{Judgement}
-use Rattle.judging.specs.Judging.{tokenAs, namedAs, faultAs, faultRow, namesIn, nameWord, place, boundIn, Agrees, Knows, Ready}
-use Rattle.judging.proofs.Names.{bound-found, bound-lost}
+use Rattle.judging.specs.Judging.{tokenAs, namedAs, faultAs, faultRow, namesIn, nameWord, place, Agrees, Knows, Ready}
+use Rattle.judging.proofs.Names.{same-place, bound-found, bound-lost}
 use Rattle.statements.specs.declared.Turn.the-variants.{Went, Full}
 use Rattle.statements.specs.Checking.{plusError, SameNames, Steps, TurnOf, Turns}
-use Rattle.statements.proofs.Stores.{bound-long}
-use Rattle.statements.proofs.Imports.{grows-error}
-
--- ---- no name more: what is known stays
-
-module _ {s : List ℕ} {b m : List (List ℕ)} {c c′ : Counts} (h : SameNames c c′) where
-  pub same-knows : {k : Known} → Knows s b m c k → Knows s b m c′ k
-  same-knows kn = record { is = rw (h .used, h .imported) (kn .is) }
-
-  pub same-ready : {toks : List ℕ} → Ready s toks b m c → Ready s toks b m c′
-  same-ready rd =
-      record {
-        lexed = rd .lexed;
-        bound = omega (arith, rd .bound, h .used);
-        modules = omega (arith, rd .modules, h .imported);
-        sound = λ j l. rd .sound j (omega (arith, l, h .used));
-        keyed = rw (h .used) (rd .keyed);
-        keyed-modules = rw (h .imported) (rd .keyed-modules);
-      }
+use Rattle.statements.proofs.Stores.{bindings-are, bindings-many}
+use Rattle.statements.proofs.Grows.{grows-error, no-name, same-knows, same-ready}
 
 -- ---- the definition's steps
 
@@ -64,10 +47,7 @@ module _ (s toks : List ℕ) (n t t′ : ℕ) (read : t ≡ t′) (k : Known) (e
   ts = contents (tokens.tokens s)
 
   at : i ≡ place (namesIn s b (c .used) 0) (nameAt ts t)
-  at = p ∙ ap (place (namesIn s b (c .used) 0)) o
-
-  bindings-are : k .bindings ≡ boundIn s b (c .used) 0
-  bindings-are = ap (λ (l : Known). l .bindings) (kn .is)
+  at = same-place (namesIn s b (c .used) 0) p o
 
   moved : stmt ts n k (let′ t′ e) ≡ stmt ts n k (let′ t e)
   moved = ap (λ (z : ℕ). stmt ts n k (let′ z e)) (sym read)
@@ -75,8 +55,8 @@ module _ (s toks : List ℕ) (n t t′ : ℕ) (read : t ≡ t′) (k : Known) (e
   pub turn-again : {f : Fault} {c′ : Counts} {y : List ℕ} → i < c .used → f ≡ faultAs s t (alreadyBound (nameWord b i 2)) → c′ ≡ plusError c
       → y ≡ putRow x (c .errors + c .warnings) (faultRow f) → Turns s toks c x u (Went c′) b m y u (stmt ts n k (let′ t′ e))
   turn-again {f} {c′} {y} h g q r =
-      let hit = ap (λ (l : List Binding). find l (nameAt ts t)) bindings-are ∙ bound-found s b (nameAt ts t) (c .used) i at h in
-      let names : SameNames c c′ = record { used = ap (λ (l : Counts). l .used) q; imported = ap (λ (l : Counts). l .imported) q } in
+      let hit = ap (λ (l : List Binding). find l (nameAt ts t)) (bindings-are kn) ∙ bound-found s b (nameAt ts t) (c .used) i at h in
+      let names : SameNames c c′ = no-name q refl refl in
       let steps : Steps s toks c x u c′ b m y u k (diag n t (alreadyBound (nameWord b i 2)) ∷ []) [] = record {
         knows = same-knows names kn;
         ready = same-ready names rd;
@@ -87,10 +67,7 @@ module _ (s toks : List ℕ) (n t t′ : ℕ) (read : t ≡ t′) (k : Known) (e
 
   module _ (h : c .used ≤ i) where
     absent : find (k .bindings) (nameAt ts t) ≡ none
-    absent = ap (λ (l : List Binding). find l (nameAt ts t)) bindings-are ∙ bound-lost s b (nameAt ts t) (c .used) i at h
-
-    many : length (k .bindings) ≡ c .used
-    many = ap length bindings-are ∙ bound-long s b (c .used) 0
+    absent = ap (λ (l : List Binding). find l (nameAt ts t)) (bindings-are kn) ∙ bound-lost s b (nameAt ts t) (c .used) i at h
 
     by-room : (z : Bool) → ltb (length (k .bindings)) mostNames ≡ z
         → stmt ts n k (let′ t′ e) ≡ if′ z (bound ts n k t (judge ts n k e .out) (judge ts n k e .warns)) (full t)
@@ -100,7 +77,7 @@ module _ (s toks : List ℕ) (n t t′ : ℕ) (read : t ≡ t′) (k : Known) (e
 
     pub turn-full : 512 ≤ c .used → Turns s toks c x u (Full t) b m x u (stmt ts n k (let′ t′ e))
     turn-full l =
-        let f = le-ltb (length (k .bindings)) mostNames (omega (arith, many, l)) in
+        let f = le-ltb (length (k .bindings)) mostNames (omega (arith, bindings-many kn, l)) in
         record { turn = subst (λ (z : judgements.Turn). TurnOf s toks c x u (Full t) b m x u z) (sym (by-room false f)) refl }
 
     -- after the value was judged
@@ -108,7 +85,7 @@ module _ (s toks : List ℕ) (n t t′ : ℕ) (read : t ≡ t′) (k : Known) (e
         → TurnOf s toks c x u (Went c′) b′ m y u (bound ts n k t (judge ts n k e .out) (judge ts n k e .warns))
         → Turns s toks c x u (Went c′) b′ m y u (stmt ts n k (let′ t′ e))
     turn-bound {c′} {b′} {y} l g =
-        let f = lt-ltb (length (k .bindings)) mostNames (omega (arith, many, l)) in
+        let f = lt-ltb (length (k .bindings)) mostNames (omega (arith, bindings-many kn, l)) in
         record { turn = subst (λ (z : judgements.Turn). TurnOf s toks c x u (Went c′) b′ m y u z) (sym (by-room true f)) g }
 
 -- ---- a name that is bound twice: it shows where it was bound first

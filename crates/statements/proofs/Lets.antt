@@ -17,7 +17,7 @@ use Rattle.judging.specs.declared.Counts.{Counts}
 use Rattle.judging.specs.declared.Fault.{Fault}
 use Rattle.judging.specs.declared.Judgement.{Judgement}
 use Rattle.judging.specs.declared.Judged.the-variants.{Val, Err, Poisoned}
-use Rattle.judging.specs.Judging.{valueAs, faultRow, judgedAs, putRows, plusWarnings, nameWord, opened, Canon, boundIn, importsIn, knownIn, Knows, keyOf, Keyed, Ready}
+use Rattle.judging.specs.Judging.{valueAs, faultRow, judgedAs, putRows, plusWarnings, nameWord, opened, Canon, boundIn, knownIn, Knows, keyOf, Keyed, Ready}
 use Rattle.judging.proofs.Values.{opened-as, canon-of}
 use Rattle.language.specs.Findings.{diagRow}
 use Rattle.language.specs.Numbers.{tokenOf}
@@ -25,7 +25,8 @@ use Rattle.language.proofs.Tests.{never}
 use Rattle.statements.specs.declared.Turn.the-variants.{Went}
 use Rattle.statements.specs.Checking.{plusName, plusError, entryRow, Grows, TurnOf, Binds}
 use Rattle.statements.proofs.Statements.{told-err, told-none, Failing, clean}
-use Rattle.statements.proofs.Stores.{store-name, store-key, old-entry, new-entry}
+use Rattle.statements.proofs.Stores.{store-name, store-key, old-entry, new-entry, bindings-are, imports-are}
+use Rattle.statements.proofs.Grows.{no-name, same-ready}
 
 module _ (s toks : List ℕ) (b i : List (List ℕ)) (n t : ℕ) (k : Known) (c : Counts) (kn : Knows s b i c k) (rd : Ready s toks b i c) (start end key : ℕ)
     (name : between s start end ≡ nameAt (contents (tokens.tokens s)) t) (made : key ≡ keyOf (nameAt (contents (tokens.tokens s)) t)) (l : c .used < 512) (long : 512 ≤ length b) (v : Value) (b′ : List (List ℕ))
@@ -35,8 +36,8 @@ module _ (s toks : List ℕ) (b i : List (List ℕ)) (n t : ℕ) (k : Known) (c 
 
   known-now : (o : Option values.Value) → opened (v .kind) (v .lo) (v .hi) ≡ o → bind (contents (tokens.tokens s)) n k t o ≡ knownIn s b′ i (plusName c)
   known-now o e =
-      let bs : k .bindings ≡ boundIn s b (c .used) 0 = ap (λ (z : Known). z .bindings) (kn .is) in
-      let is : k .imports ≡ importsIn s i (c .imported) 0 = ap (λ (z : Known). z .imports) (kn .is) in
+      let bs = bindings-are kn in
+      let is = imports-are kn in
       let st = ap (λ (z : List (List ℕ)). boundIn s z (c .used + 1) 0) put ∙ store-name s b (c .used) start end key t v fits in
       rw (is, bs, st, name, e)
 
@@ -75,15 +76,7 @@ module _ (s toks : List ℕ) (b i : List (List ℕ)) (n t : ℕ) (k : Known) (c 
     ready-on : Canon (v .kind) (v .lo) (v .hi) → Ready s toks b′ i (plusName c1)
     ready-on d =
         let g = ready-now d in
-        let f : Ready s toks b′ i (plusName (plusWarnings c (length ws))) = record {
-          lexed = g .lexed;
-          bound = g .bound;
-          modules = g .modules;
-          sound = g .sound;
-          keyed = g .keyed;
-          keyed-modules = g .keyed-modules;
-        } in
-        subst (λ (z : Counts). Ready s toks b′ i (plusName z)) (sym a) f
+        same-ready (no-name (ap plusName a) refl refl) g
 
     known-on : (o : Option values.Value) → opened (v .kind) (v .lo) (v .hi) ≡ o → bind ts n k t o ≡ knownIn s b′ i (plusName c1)
     known-on o e = known-now o e ∙ ap (λ (z : Counts). knownIn s b′ i (plusName z)) (sym a)
@@ -118,7 +111,7 @@ module _ (s toks : List ℕ) (b i : List (List ℕ)) (n t : ℕ) (k : Known) (c 
         let g = told-err s n k c c1 x y u ws a r q (err at m) t e h refl p .2 in
         record {
           knows = record { is = known-on none op };
-          ready = record { lexed = rn .lexed; bound = rn .bound; modules = rn .modules; sound = rn .sound; keyed = rn .keyed; keyed-modules = rn .keyed-modules };
+          ready = same-ready (no-name refl refl refl) rn;
           grows = record { errors = g .errors; warnings = g .warnings; statements = g .statements; diags = g .diags; stmts = g .stmts };
         }
     bound-err w poisoned e h p = never (cc)

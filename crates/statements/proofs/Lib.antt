@@ -1,4 +1,5 @@
 -- The laws that the proofs of the functions cite.
+pub mod Grows
 pub mod Statements
 pub mod Stores
 pub mod Imports

@@ -1,95 +1,45 @@
 -- The loop over all rows: what its statements so far came to.
 use mathlib.Core.Path.{_≡_, refl, sym, ap, subst, _∙_}
-use mathlib.Core.Bool.{Bool, true, false}
 use mathlib.Core.List.{List, [], _∷_, _++_}
-use mathlib.Core.Option.{Option, none, some}
 use Prim.Native.Nat.{ℕ, suc, _+_, _/_, _≤_}
 use native.Mathlib.Omega.{arith}
-use lib.Dec.{ltb}
 use lib.ListN.{length, length-append}
-use Rattle.language.specs.Choice.{if′}
 use Rattle.language.specs.Tokens as tokens
 use Rattle.language.specs.Tokens.{Content, contents}
-use Rattle.language.specs.Sentences.{Expr, Stmt, import′, let′, expr′, firstOf, exprSize, stmtSize, programSize}
-use Rattle.language.specs.Values as values
-use Rattle.language.specs.Values.{lookup}
+use Rattle.language.specs.Sentences.{Stmt, import′, let′, expr′, stmtSize, programSize}
 use Rattle.language.specs.Judgements as judgements
-use Rattle.language.specs.Judgements.{Diag, Held, Known, Import, Binding, val, err, poisoned, narrowed, goes, full, onward, mostNames, mostImports, findImport, find, imported, importStmt, bound, letStmt, discarded, told, judge, nameAt, stmt, run, judgeAll}
+use Rattle.language.specs.Judgements.{Diag, Held, Known, goes, full, onward, bound, told, stmt, run, judgeAll}
 use Rattle.language.specs.Findings.{diagRow, stmtRow}
 use Rattle.language.specs.Numbers.{tokenOf}
 use Rattle.language.proofs.Tests.{never}
 use Rattle.language.proofs.NodeClaims.{some-stmt-node}
 use Rattle.judging.specs.declared.Counts.{Counts}
-use Rattle.judging.specs.Judging.{putRows, Lexed, Ready, Knows, knownIn, boundIn, importsIn}
+use Rattle.judging.specs.Judging.{putRows, Lexed, Ready, Knows, knownIn, listed, boundIn, importsIn}
 use Rattle.judging.proofs.Rows.{more-rows}
 use Rattle.judging.proofs.Judging as judging
 use Rattle.statements.specs.declared.Turn.{Turn}
 use Rattle.statements.specs.declared.Turn.the-variants.{Went, Full}
 use Rattle.statements.specs.Checking.{Grows, Steps, TurnOf, StmtsAt, at-end, no-stmt, an-import, a-let, an-expr, RowFits, RowTurns, passes, takes, noCounts, ComesTo, Comes}
 use Rattle.statements.proofs.Statements.{warnings-append, tallied}
-use Rattle.language.proofs.JudgementClaims.{errors-append}
-use Rattle.statements.proofs.Imports.{grows-none}
+use Rattle.language.proofs.JudgementClaims.{errors-append, Adds, nothing, alone, finding, holding, AddsTo, warnsOf, adds}
+use Rattle.statements.proofs.Grows.{grows-none}
 
 -- ---- a statement finds as much as it has rows at the most, and holds one statement at the most
 
-Few : ℕ → judgements.Turn → Type 0
-Few m (goes k ds hs) = (length ds ≤ m) × (length hs ≤ 1)
-Few m (full t) = Unit
-
-few-if : (m : ℕ) (b : Bool) (a c : judgements.Turn) → Few m a → Few m c → Few m (if′ b a c)
-few-if m true a c x y = x
-few-if m false a c x y = y
-
--- one finding more
-one-more : (ws : List Diag) (d : Diag) (m : ℕ) → length ws ≤ m → length (ws ++ d ∷ []) ≤ m + 1
-one-more ws d m h = omega (arith, h, length-append ws (d ∷ []))
+few-added : {ws ds : List Diag} {hs : List Held} {m : ℕ} → length ws + 1 ≤ m → Adds ws ds hs → (length ds ≤ m) × (length hs ≤ 1)
+few-added h nothing = (omega (arith, h), omega arith)
+few-added h (alone d) = (omega (arith, h), omega arith)
+few-added {ws} h (finding d) = (omega (arith, h, length-append ws (d ∷ [])), omega arith)
+few-added {ws} h (holding d x) = (omega (arith, h, length-append ws (d ∷ [])), omega arith)
 
 module _ (ts : List Content) (n : ℕ) (k : Known) where
-  imported-few : (t : ℕ) (o : Option ℕ) → Few 1 (imported ts n k t o)
-  unfolding Few
-  imported-few t (some m) = (omega arith, omega arith)
-  imported-few t none = (omega arith, omega arith)
-
-  import-few : (t : ℕ) (o : Option Import) → Few 1 (importStmt ts n k t o)
-  unfolding Few
-  import-few t (some i) = (omega arith, omega arith)
-  import-few t none =
-      few-if 1 (ltb (length (k .imports)) mostImports) (imported ts n k t (lookup 0 (nameAt ts t))) (full t) (imported-few t (lookup 0 (nameAt ts t))) tt
-
-  bound-few : (m t : ℕ) (o : judgements.Judged) (ws : List Diag) → length ws ≤ m → Few (m + 1) (bound ts n k t o ws)
-  unfolding Few
-  bound-few m t (val v) ws h = (omega (arith, h), omega arith)
-  bound-few m t (err at w) ws h = (one-more ws _ m h, omega arith)
-  bound-few m t poisoned ws h = (omega (arith, h), omega arith)
-
-  let-few : (t : ℕ) (e : Expr) (o : Option Binding) → Few (exprSize e + 1) (letStmt ts n k t e o)
-  unfolding Few
-  let-few t e (some b) = (omega arith, omega arith)
-  let-few t e none =
-      let j = judge ts n k e in
-      few-if (exprSize e + 1) (ltb (length (k .bindings)) mostNames) (bound ts n k t (j .out) (j .warns)) (full t)
-      (bound-few (exprSize e) t (j .out) (j .warns) (judging.few ts n k e)) tt
-
-  discarded-few : (m at : ℕ) (o : Option values.Value) (ws : List Diag) → length ws ≤ m → Few (m + 1) (discarded ts n k at o ws)
-  unfolding Few
-  discarded-few m at (some v) ws h = (one-more ws _ m h, omega arith)
-  discarded-few m at none ws h = (one-more ws _ m h, omega arith)
-
-  told-few : (m at : ℕ) (o : judgements.Judged) (ws : List Diag) → length ws ≤ m → Few (m + 1) (told ts n k at o ws)
-  unfolding Few
-  told-few m at (val v) ws h = discarded-few m at (narrowed v) ws h
-  told-few m at (err p w) ws h = (one-more ws _ m h, omega arith)
-  told-few m at poisoned ws h = (omega (arith, h), omega arith)
-
-  few : (st : Stmt) → Few (stmtSize st) (stmt ts n k st)
-  unfolding stmt
-  few (import′ t) = import-few t (findImport (k .imports) (nameAt ts t))
-  few (let′ t e) = let-few t e (find (k .bindings) (nameAt ts t))
-  few (expr′ e) = told-few (exprSize e) (firstOf e) (judge ts n k e .out) (judge ts n k e .warns) (judging.few ts n k e)
+  few-warnings : (st : Stmt) → length (warnsOf ts n k st) + 1 ≤ stmtSize st
+  few-warnings (import′ t) = omega arith
+  few-warnings (let′ t e) = omega (arith, judging.few ts n k e)
+  few-warnings (expr′ e) = omega (arith, judging.few ts n k e)
 
   pub few-findings : (st : Stmt) {k′ : Known} {ds : List Diag} {hs : List Held} → stmt ts n k st ≡ goes k′ ds hs → (length ds ≤ stmtSize st) × (length hs ≤ 1)
-  unfolding Few
-  few-findings st e = subst (Few (stmtSize st)) e (few st)
+  few-findings st e = few-added (few-warnings st) (subst (AddsTo (warnsOf ts n k st)) e (adds ts n k st))
 
 -- ---- findings after findings
 
@@ -135,7 +85,7 @@ pub record Looped (s toks ws x0 u0 x u : List ℕ) (b m : List (List ℕ)) (c : 
 
 pub start : {s toks ws x u : List ℕ} {b m : List (List ℕ)} {c : Counts} → Lexed s toks → RowFits ws 0 noCounts → length b ≡ 512 → length m ≡ 64 → c ≡ noCounts
     → Looped s toks ws x u x u b m c 0
-unfolding boundIn importsIn
+unfolding boundIn importsIn listed
 start {s} {toks} {ws} {x} {u} {b} {m} l f p q e = subst (λ (z : Counts). Looped s toks ws x u x u b m z 0) (sym e) (
     record {
       names = p;

@@ -16,7 +16,7 @@ use Rattle.language.specs.Sentences.{Expr, literal, sock4, local, path, member,
 use Rattle.language.specs.Values as values
 use Rattle.language.specs.Values.{isInteger, isBool, isSized, isIp4, isSock4, isString, isText, isFunction, tyInt, typeOf, entryAt, lookup}
 use Rattle.language.specs.Judgements as judgements
-use Rattle.language.specs.Judgements.{Diag, diag, Held, held, Known, What, isError, discardedValue, integralTooLarge, truncated, judgement, val, err, poisoned, andThen, leftOf, rightOf, lastItem, innerItem, walk, below, boundTo, nameAt, find, findImport, Import, Binding, unknownItem, integerOf, ip4Of, narrowed, errorsIn, warningsIn, discarded, told, judge}
+use Rattle.language.specs.Judgements.{Diag, diag, Held, held, Known, isError, discardedValue, integralTooLarge, truncated, judgement, val, err, poisoned, andThen, leftOf, rightOf, lastItem, innerItem, walk, below, boundTo, nameAt, find, findImport, Import, Binding, unknownItem, integerOf, ip4Of, narrowed, errorsIn, warningsIn, discarded, told, judge}
 use Rattle.language.proofs.JudgementClaims.{errors-append}
 use Rattle.language.specs.Findings.{valueKind, valueLow, valueHigh, intKind, tyKind, diagRow, stmtRow}
 use Rattle.language.specs.Numbers.{tokenOf}
@@ -39,6 +39,7 @@ use Rattle.judging.proofs.Judging.{right-none, right-some, left-none, left-some
 use Rattle.statements.specs.declared.Narrowed.{Narrowed}
 use Rattle.statements.specs.declared.Narrowed.the-variants as narrow
 use Rattle.statements.specs.Checking.{plusError, plusStatement, bareAs, shownAs, heldRow, narrowedAs, HeldRow, Narrow, Room, StmtFits, Grows, SameNames, GoesOf, Tells, Exprs}
+use Rattle.statements.proofs.Grows.{fault-row, grows-error, no-name}
 
 -- ---- narrowing
 
@@ -91,39 +92,39 @@ is-large (some u64) e = never (cc)
 is-large none e = refl
 
 -- every type holds less than 2^64
-small : (t : IntType) (n : ℕ) → n < 2 ^ bits t → n < tables.word
+small : (t : IntType) (n : ℕ) → n < 2 ^ bits t → n < tables.wordLimit
 small u8 n h = omega arith
 small u16 n h = omega arith
 small u32 n h = omega arith
 small u64 n h = omega arith
 
-sized : (n : ℕ) (t : IntType) → smallest n ≡ some t → narrow.Fits (record { kind = intKind t; lo = n % tables.word; hi = 0 }) ≡ narrowedAs (narrowed (isInteger n))
+sized : (n : ℕ) (t : IntType) → smallest n ≡ some t → narrow.Fits (record { kind = intKind t; lo = n % tables.wordLimit; hi = 0 }) ≡ narrowedAs (narrowed (isInteger n))
 sized n t e =
-    let l : n < tables.word = small t n (smallest-holds .0 n t e .0) in
-    let q : n % tables.word ≡ n = omega (arith, l) in
+    let l : n < tables.wordLimit = small t n (smallest-holds .0 n t e .0) in
+    let q : n % tables.wordLimit ≡ n = omega (arith, l) in
     ap (λ (m : ℕ). narrow.Fits (record { kind = intKind t; lo = m; hi = 0 })) q
     ∙ ap (λ (o : Option IntType). narrowedAs (elim o [ some t ↦ some (isSized t n) | none ↦ none ])) (sym e)
 
 large : (n : ℕ) → smallest n ≡ none → narrow.TooLarge ≡ narrowedAs (narrowed (isInteger n))
 large n e = ap (λ (o : Option IntType). narrowedAs (elim o [ some t ↦ some (isSized t n) | none ↦ none ])) (sym e)
 
-whole : (n : ℕ) → n / tables.word * tables.word + n % tables.word ≡ n
+whole : (n : ℕ) → n / tables.wordLimit * tables.wordLimit + n % tables.wordLimit ≡ n
 whole n = omega arith
 
-module _ {v : Value} {z : Size} (k : v .kind ≡ 16) (o : z ≡ sizeOf (smallest (v .hi * tables.word + v .lo))) where
+module _ {v : Value} {z : Size} (k : v .kind ≡ 16) (o : z ≡ sizeOf (smallest (v .hi * tables.wordLimit + v .lo))) where
   -- the number that such a value is
-  number : (n : ℕ) → v ≡ valueAs (isInteger n) → smallest n ≡ smallest (v .hi * tables.word + v .lo)
-  number n e = ap smallest (sym (whole n)) ∙ ap (λ (w : Value). smallest (w .hi * tables.word + w .lo)) (sym e)
+  number : (n : ℕ) → v ≡ valueAs (isInteger n) → smallest n ≡ smallest (v .hi * tables.wordLimit + v .lo)
+  number n e = ap smallest (sym (whole n)) ∙ ap (λ (w : Value). smallest (w .hi * tables.wordLimit + w .lo)) (sym e)
 
   integral : (u : values.Value) → v ≡ valueAs u → ValueOf 16 u
   integral u e = value-form u (ap (λ (w : Value). w .kind) (sym e) ∙ k)
 
-  fits-form : (t : IntType) → smallest (v .hi * tables.word + v .lo) ≡ some t → {u : values.Value} → v ≡ valueAs u → ValueOf 16 u
+  fits-form : (t : IntType) → smallest (v .hi * tables.wordLimit + v .lo) ≡ some t → {u : values.Value} → v ≡ valueAs u → ValueOf 16 u
       → narrow.Fits (record { kind = intKind t; lo = v .lo; hi = 0 }) ≡ narrowedAs (narrowed u)
   fits-form t q e (of-integer {n = n}) =
       ap (λ (w : Value). narrow.Fits (record { kind = intKind t; lo = w .lo; hi = 0 })) e ∙ sized n t (number n e ∙ q)
 
-  fits-by : (t : IntType) → smallest (v .hi * tables.word + v .lo) ≡ some t → (u : values.Value) → v ≡ valueAs u
+  fits-by : (t : IntType) → smallest (v .hi * tables.wordLimit + v .lo) ≡ some t → (u : values.Value) → v ≡ valueAs u
       → narrow.Fits (record { kind = intKind t; lo = v .lo; hi = 0 }) ≡ narrowedAs (narrowed u)
   fits-by t q u e = fits-form t q e (integral u e)
 
@@ -224,10 +225,6 @@ clean-then j f c h = clean-on (j .out) (j .warns) f (c .quiet) (c .fails) h
 
 -- ---- what a statement adds
 
-pub fault-row : (s : List ℕ) (n at : ℕ) (w : What) → faultRow (faultAs s at w) ≡ diagRow (tokenOf s) (diag n at w)
-unfolding diagRow
-fault-row s n at w = refl
-
 as-fits : (o : Option values.Value) {w : Value} → narrow.Fits w ≡ narrowedAs o → (p : values.Value) × (o ≡ some p) × (w ≡ valueAs p)
 as-fits (some p) e = (p, refl, cc)
 as-fits none e = never (cc)
@@ -266,7 +263,7 @@ module _ (s : List ℕ) (t : ℕ) {tok : Token} (e : tok ≡ tokenAs (tokenOf s 
                 diags = b ∙ ap (putRow x (c .errors + c .warnings)) row ∙ one-row (diagRow (tokenOf s)) x (c .errors + c .warnings) dg;
                 stmts = g .is (p .0) (p .2) ∙ ap (putRow u (c .statements)) (held-row (p .0)) ∙ one-row (stmtRow (tokenOf s)) u (c .statements) (held t (p .0));
               } in
-              let names : SameNames c c′ = record { used = ap (λ (l : Counts). l .used) cc′; imported = ap (λ (l : Counts). l .imported) cc′ } in
+              let names : SameNames c c′ = no-name cc′ refl refl in
               subst (λ (l : Option values.Value). GoesOf s c x u c′ y z k (discarded (contents (tokens.tokens s)) n k t l [])) (sym (p .1)) (refl, names, grows);
         }
 
@@ -278,15 +275,10 @@ module _ (s : List ℕ) (t : ℕ) {tok : Token} (e : tok ≡ tokenAs (tokenOf s 
           is = λ n k m i.
               let p = as-large (narrowed m) (sym q ∙ h .is m i) in
               let dg : Diag = diag n t integralTooLarge in
-              let row : faultRow f ≡ diagRow (tokenOf s) dg = ap faultRow (g ∙ too-large) ∙ fault-row s n t integralTooLarge in
-              let grows : Grows s c x u c′ y u (dg ∷ []) [] = record {
-                errors = ap (λ (l : Counts). l .errors) a ∙ omega arith;
-                warnings = ap (λ (l : Counts). l .warnings) a ∙ omega arith;
-                statements = ap (λ (l : Counts). l .statements) a ∙ omega arith;
-                diags = b ∙ ap (putRow x (c .errors + c .warnings)) row ∙ one-row (diagRow (tokenOf s)) x (c .errors + c .warnings) dg;
-                stmts = no-rows (stmtRow (tokenOf s)) u (c .statements);
-              } in
-              let names : SameNames c c′ = record { used = ap (λ (l : Counts). l .used) a; imported = ap (λ (l : Counts). l .imported) a } in
+              let grows : Grows s c x u c′ y u (dg ∷ []) [] =
+              grows-error s n t integralTooLarge c c′ x u y (g ∙ too-large) b (ap (λ (l : Counts). l .statements) a) refl
+              (ap (λ (l : Counts). l .errors) a) (ap (λ (l : Counts). l .warnings) a) in
+              let names : SameNames c c′ = no-name a refl refl in
               subst (λ (l : Option values.Value). GoesOf s c x u c′ y u k (discarded (contents (tokens.tokens s)) n k t l [])) (sym p) (refl, names, grows);
         }
 
@@ -414,17 +406,9 @@ module _ (s : List ℕ) (n : ℕ) (k : Known) (c c1 : Counts) (x y u : List ℕ)
   told-err (err at m) t {f} {c′} {z} q h g p =
       let fq : f ≡ faultAs s at m = cc in
       let dg : Diag = diag n at m in
-      let one : _≡_ {A = ℕ} (if′ (isError m) 1 0) 1 = ap (λ (l : Bool). if′ l 1 0) h in
-      let rest : _≡_ {A = ℕ} (if′ (isError m) 0 1) 0 = ap (λ (l : Bool). if′ l 0 1) h in
-      let row : faultRow f ≡ diagRow (tokenOf s) dg = ap faultRow fq ∙ fault-row s n at m in
-      let grows : Grows s c1 y u c′ z u (dg ∷ []) [] = record {
-        errors = ap (λ (l : Counts). l .errors) g ∙ omega (arith, one);
-        warnings = ap (λ (l : Counts). l .warnings) g ∙ omega (arith, rest);
-        statements = ap (λ (l : Counts). l .statements) g ∙ omega arith;
-        diags = p ∙ ap (putRow y (c1 .errors + c1 .warnings)) row ∙ one-row (diagRow (tokenOf s)) y (c1 .errors + c1 .warnings) dg;
-        stmts = no-rows (stmtRow (tokenOf s)) u (c1 .statements);
-      } in
-      let names : SameNames c1 c′ = record { used = ap (λ (l : Counts). l .used) g; imported = ap (λ (l : Counts). l .imported) g } in
+      let grows : Grows s c1 y u c′ z u (dg ∷ []) [] =
+      grows-error s n at m c1 c′ y u z fq p (ap (λ (l : Counts). l .statements) g) h (ap (λ (l : Counts). l .errors) g) (ap (λ (l : Counts). l .warnings) g) in
+      let names : SameNames c1 c′ = no-name g refl refl in
       (refl, same-on (length ws) a names, grown s ws a b e grows)
   told-err poisoned t q h g p = never (cc)
 
@@ -433,7 +417,7 @@ module _ (s : List ℕ) (n : ℕ) (k : Known) (c c1 : Counts) (x y u : List ℕ)
   told-none (err at m) t q = never (cc)
   told-none poisoned t q =
       let cw : c1 .warnings ≡ c .warnings + length ws = ap (λ (l : Counts). l .warnings) a in
-      let names : SameNames c c1 = record { used = ap (λ (l : Counts). l .used) a; imported = ap (λ (l : Counts). l .imported) a } in
+      let names : SameNames c c1 = no-name a refl refl in
       let grows : Grows s c x u c1 y u ws [] = record {
         errors = ap (λ (l : Counts). l .errors) a ∙ omega (arith, e);
         warnings = omega (arith, cw, tallied ws, e);

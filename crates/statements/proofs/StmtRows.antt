@@ -14,7 +14,7 @@ use Rattle.judging.specs.Judging.{Knows, Ready, RepAt, word}
 use Rattle.statements.specs.declared.Turn.{Turn}
 use Rattle.statements.specs.declared.Turn.the-variants.{Went}
 use Rattle.statements.specs.Checking.{Room, StmtFits, StmtsAt, at-end, no-stmt, an-import, a-let, an-expr, RowFits, RowTurns, passes, takes, GoesOf, Exprs, TurnOf, Turns}
-use Rattle.statements.proofs.LetStmts.{same-knows, same-ready}
+use Rattle.statements.proofs.Grows.{same-knows, same-ready}
 
 abbrev ts : List ℕ → List Content
 ts s = contents (tokens.tokens s)

@@ -12,7 +12,7 @@ use Rattle.language.specs.Values as values
 use Rattle.language.specs.Values.{typeOf}
 use Rattle.language.specs.Judgements as judgements
 use Rattle.language.specs.Judgements.{Diag, Held, Known, narrowed, errorsIn, warningsIn, goes, full, discarded, told, bound, nameAt, judge}
-use Rattle.language.specs.Findings.{valueText, shownLow, shownHigh, tyKind, diagRow, stmtRow}
+use Rattle.language.specs.Findings.{showsNothing, valueText, shownLow, shownHigh, tyKind, diagRow, stmtRow}
 use Rattle.language.specs.Numbers.{tokenOf}
 use Rattle.judging.specs.declared.Token.{Token}
 use Rattle.judging.specs.declared.Value.{Value}
@@ -20,7 +20,7 @@ use Rattle.judging.specs.declared.Text.{Text}
 use Rattle.judging.specs.declared.Fault.{Fault}
 use Rattle.judging.specs.declared.Counts.{Counts}
 use Rattle.judging.specs.declared.Judgement.{Judgement}
-use Rattle.judging.specs.Judging.{valueAs, putRows, keyOf, Ready, Knows, Agrees, word, RepAt}
+use Rattle.judging.specs.Judging.{valueAs, detailAs, putRows, keyOf, Ready, Knows, Agrees, word, RepAt}
 use Rattle.statements.specs.declared.Turn.{Turn}
 use Rattle.statements.specs.declared.Turn.the-variants.{Went, Full}
 use Rattle.statements.specs.declared.Narrowed.{Narrowed}
@@ -51,12 +51,7 @@ abbrev pub entryRow : ℕ → ℕ → ℕ → ℕ → Value → List ℕ
 entryRow start end key t v = start ∷ end ∷ t ∷ v .kind ∷ v .lo ∷ v .hi ∷ key ∷ []
 
 abbrev pub bareAs : ℕ → Token → Fault
-bareAs kind t =
-    record {
-      line = t .line;
-      column = t .column;
-      detail = record { severity = 1; kind = kind; text = 0; start = 0; end = 0; ty = 0; first = 0; second = 0; third = 0 };
-    }
+bareAs kind t = record { line = t .line; column = t .column; detail = detailAs (showsNothing 1 kind) }
 
 abbrev pub shownAs : values.Value → Text
 shownAs u = record { from = valueText u; start = shownLow u; end = shownHigh u }

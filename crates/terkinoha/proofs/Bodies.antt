@@ -16,7 +16,7 @@ use Rattle.scan.specs.declared.Step.the-variants.{Found, Done}
 use Rattle.lexemes.specs.Kinds.{kindAs}
 use Rattle.scan.specs.Scanning.{stepAt}
 use Rattle.lexemes.proofs.LexemeKind as kind
-use Rattle.lex.proofs.Feeding.{turn, at-end}
+use Rattle.scan.proofs.Turns.{turn, at-end}
 use Rattle.lex.proofs.Bodies.{is-literal}
 use Rattle.terkinoha.specs.declared.Literal.{Literal}
 use Rattle.terkinoha.specs.declared.Literal.the-variants.{At, Nowhere}

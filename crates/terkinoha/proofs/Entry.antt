@@ -2,7 +2,7 @@
 use mathlib.Core.Path.{_≡_}
 use mathlib.Core.List.{List}
 use Prim.Native.Nat.{ℕ}
-use Rattle.language.proofs.Determined.{determined}
+use Rattle.language.proofs.Determined.{calls-determined}
 use Rattle.scan.specs.declared.Scanned as scan
 use Rattle.scan.specs.Entry as scan-entry
 use Rattle.lex.specs.declared.Lexed as lex
@@ -14,7 +14,7 @@ use Rattle.canon.specs.Entry as canon-entry
 use Rattle.checker.specs.declared.CheckAnswer as checker
 use Rattle.checker.specs.Entry as check-entry
 use Rattle.terkinoha.specs.declared.Verdict.{Verdict}
-use Rattle.terkinoha.specs.Entry.{verdictOf, ScanLine, LexSource, ParseSource, CanonSource, CheckSource, FaceDetermined}
+use Rattle.terkinoha.specs.Entry.{verdictOf, scannedAs, lexedAs, parsedAs, canonisedAs, checkedAs, ScanLine, LexSource, ParseSource, CanonSource, CheckSource, FaceDetermined}
 
 -- ---- the answer as C sees it; the tables are the same
 
@@ -43,11 +43,4 @@ module _ {v : Verdict} {s t : List ℕ} where
 -- ---- the claim
 
 pub face-determined : FaceDetermined
-face-determined =
-    record {
-      scan = λ _ _. determined (λ _ h i. (h .answer i, h .table i));
-      lex = λ _ _. determined (λ _ h i. (h .answer i, h .table i));
-      parse = λ _ _ _. determined (λ _ h i. (h .answer i, h .tokens i, h .nodes i));
-      canon = λ _ _ _. determined (λ _ h i. (h .answer i, h .table i, h .text i));
-      check = λ _ _ _ _ _. determined (λ _ h i. (h .answer i, h .tokens i, h .nodes i, h .diags i, h .stmts i));
-    }
+face-determined = calls-determined scannedAs lexedAs parsedAs canonisedAs checkedAs

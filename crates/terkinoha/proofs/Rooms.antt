@@ -22,8 +22,7 @@ use Rattle.language.specs.Numbers.{Scanned, Lexed, Parsed, Canonised, Checked, 
 use Rattle.language.proofs.JudgementClaims.{all-counted}
 use Rattle.language.proofs.Tests.{by-cases}
 use Rattle.language.proofs.LexemeSpans.{spans-join}
-use Rattle.lex.proofs.Answers.{fits}
-use Rattle.parse.proofs.Entry.{short, all-good, no-wrong, all-lexed}
+use Rattle.language.proofs.Done.{lex-done, lex-done-only}
 use Rattle.parse.proofs.TokenRows.{few-tokens}
 use Rattle.terkinoha.specs.Rooms.{ScanRoom, LexRoom, ParseRoom, CanonRoom, CheckRoom, ScanEnough, LexEnough, ParseEnough, CanonEnough, CheckEnough}
 use Rattle.terkinoha.proofs.Few.{nodes-few}
@@ -67,13 +66,12 @@ lex-room s room h =
 
 module _ (s : List ℕ) (room : ℕ) (z : lexAnswer s room .verdict .number ≡ 0) where
   counted-is : lexAnswer s room .count ≡ length (tokens s)
-  counted-is = ap (λ (a : Lexed). a .count) (all-lexed s room z)
+  counted-is = ap (λ (a : Lexed). a .count) (lex-done s room (lex-done-only s room z))
 
   -- it comes to it in every room that is enough
   in-another : (t : ℕ) → lexAnswer s room .count ≤ t → lexAnswer s t ≡ lexed (verdict 0 0 0) (length (tokens s))
   in-another t h =
-      fits s t (short s room z) (all-good s room z (firstBad s) refl) (no-wrong s room z (firstWrong (items s)) refl) (length (tokens s)) refl
-      (omega (arith, counted-is))
+      lex-done s t (record { lexes = lex-done-only s room z .lexes; fit = omega (arith, h, counted-is) })
 
   -- as many nodes as tokens, at most
   no-more : (ss : List Stmt) (at x : ℕ) → program (contents (tokens s)) ≡ ok ss at x → length (nodes ss) ≤ lexAnswer s room .count

@@ -12,11 +12,12 @@ use lib.Seq.{length-take-le, take-take, take-add, take-append-le, drop-drop, dro
 use Rattle.language.specs.Lexemes.{Kind, trivia, str, tok, error, scanFrom, lexeme}
 use Rattle.language.specs.Tokens.{Token, eof, string, items, tokensFrom, tokens, unquoted, between, bodyOf, bodiesOf}
 use Rattle.language.proofs.Tests.{never}
+use Rattle.language.proofs.Parts.{part-size}
 use Rattle.language.proofs.LexemeSpans.{scan-unfolds}
 use Rattle.language.proofs.TokenClaims.{places-right, bodies-held}
 use Rattle.lexemes.specs.Kinds.{lexemeAs}
 use Rattle.scan.specs.Scanning.{stepAt}
-use Rattle.lex.proofs.Feeding.{Turn, turn}
+use Rattle.scan.proofs.Turns.{Turn, turn}
 use Rattle.terkinoha.specs.Bodies.{Span, spanOf, spansFrom, bodySpans, first, WalkGoesOn, BodiesLie}
 
 -- ---- one lexeme after the other
@@ -111,7 +112,7 @@ module _ (s : List ℕ) (a e : ℕ) (h : a ≤ e) (k : e ≤ length s) where
   lying x = between s (x .start) (x .end)
 
   part-long : length part ≡ e - a
-  part-long = length-take-le (e - a) (drop a s) (omega (arith, length-drop a s))
+  part-long = part-size s a e k
 
   text-long : length text ≡ e
   text-long = length-take-le e s k

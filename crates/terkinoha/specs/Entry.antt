@@ -1,13 +1,9 @@
 -- What each C entry promises: the equations of the entry below it, its answer as C sees it. And that it leaves no choice.
-use mathlib.Core.Path.{_≡_}
 use mathlib.Core.List.{List}
-use Prim.Native.Nat.{ℕ, _/_}
-use Rattle.language.specs.Tables.{lexemeWidth, tokenWidth}
-use Rattle.language.specs.Sentences.{nodeWidth}
-use Rattle.language.specs.Findings.{stmtWidth}
+use Prim.Native.Nat.{ℕ}
 use Rattle.language.specs.Determined.{CallsDetermined}
 use Rattle.language.specs.Numbers as numbers
-use Rattle.language.specs.Numbers.{scanAnswer, scanTable, lexAnswer, lexTable, parseAnswer, parseTokens, parseNodes, canonAnswer, canonTokens, canonText, checkAnswer, checkTokens, checkNodes, checkDiags, checkStmts}
+use Rattle.language.specs.Entries.{ScanPromise, LexPromise, ParsePromise, CanonPromise, CheckPromise}
 use Rattle.scan.specs.declared.Verdict as scan
 use Rattle.scan.specs.Scanning.{verdictAs}
 use Rattle.terkinoha.specs.declared.Verdict.{Verdict}
@@ -49,37 +45,22 @@ checkedAs a =
       statements = a .statements;
     }
 
--- ---- entries
+-- ---- entries: what those below promise, with the answer as C sees it
 
--- of a line and a table of n words: the answer r, and what is left in the table
-pub record ScanLine (line : List ℕ) (n : ℕ) (r : Scanned) (left : List ℕ) : Type 0 where
-  pub answer : r ≡ scannedAs (scanAnswer line (n / lexemeWidth))
-  pub table : left ≡ scanTable line n
+abbrev pub ScanLine : List ℕ → ℕ → Scanned → List ℕ → Type 0
+ScanLine line n r left = ScanPromise scannedAs line n r left
 
--- of a source and a table of n words
-pub record LexSource (source : List ℕ) (n : ℕ) (r : Lexed) (left : List ℕ) : Type 0 where
-  pub answer : r ≡ lexedAs (lexAnswer source (n / tokenWidth))
-  pub table : left ≡ lexTable source n
+abbrev pub LexSource : List ℕ → ℕ → Lexed → List ℕ → Type 0
+LexSource source n r left = LexPromise lexedAs source n r left
 
--- of a source, a token table of t words and a node table of n words
-pub record ParseSource (source : List ℕ) (t n : ℕ) (r : Parsed) (toks left : List ℕ) : Type 0 where
-  pub answer : r ≡ parsedAs (parseAnswer source (t / tokenWidth) (n / nodeWidth))
-  pub tokens : toks ≡ parseTokens source t n
-  pub nodes : left ≡ parseNodes source t n
+abbrev pub ParseSource : List ℕ → ℕ → ℕ → Parsed → List ℕ → List ℕ → Type 0
+ParseSource source t n r toks left = ParsePromise parsedAs source t n r toks left
 
--- of a source, a token table of t words and a text of n bytes
-pub record CanonSource (source : List ℕ) (t n : ℕ) (r : Canonised) (toks left : List ℕ) : Type 0 where
-  pub answer : r ≡ canonisedAs (canonAnswer source (t / tokenWidth) n)
-  pub table : toks ≡ canonTokens source t n
-  pub text : left ≡ canonText source t n
+abbrev pub CanonSource : List ℕ → ℕ → ℕ → Canonised → List ℕ → List ℕ → Type 0
+CanonSource source t n r toks left = CanonPromise canonisedAs source t n r toks left
 
--- of a source and tables of t, n, d and k words (of tokens, nodes, diagnostics and statements)
-pub record CheckSource (source : List ℕ) (t n d k : ℕ) (r : Checked) (toks tree found held : List ℕ) : Type 0 where
-  pub answer : r ≡ checkedAs (checkAnswer source (t / tokenWidth) (n / nodeWidth) (k / stmtWidth))
-  pub tokens : toks ≡ checkTokens source t n k
-  pub nodes : tree ≡ checkNodes source t n k
-  pub diags : found ≡ checkDiags source t n k d
-  pub stmts : held ≡ checkStmts source t n k
+abbrev pub CheckSource : List ℕ → ℕ → ℕ → ℕ → ℕ → Checked → List ℕ → List ℕ → List ℕ → List ℕ → Type 0
+CheckSource source t n d k r toks tree found held = CheckPromise checkedAs source t n d k r toks tree found held
 
 -- ---- two results that satisfy a call's promise are equal
 

@@ -165,6 +165,10 @@ pass-block {s} {at} {i} (suc n) o h e =
     let p : i + n + 1 ≡ i + suc n = omega arith in
     rw (← p) (pass-byte (pass-block n o (omega arith) (q .0)) (omega arith) (ltb-true (getD s (i + n) 0) 0x80 (q .1)))
 
+-- a block of eight, by what its test came to
+pub pass-eight : {s : List ℕ} {at i : ℕ} {a : Bool} → Passed s at i → i + 8 ≤ length s → a ≡ allFrom isAscii 8 s i → not a ≡ false → Passed s at (i + 8)
+pass-eight o h ea e = pass-block 8 o h (sym ea ∙ not-false _ e)
+
 -- four blocks of eight, by what their tests came to
 pub pass-four : {s : List ℕ} {at i : ℕ} {a b c d : Bool}
     → Passed s at i
@@ -203,9 +207,14 @@ from-within zero at (b ∷ s) p e = go (charAt (b ∷ s)) (λ k. from-within k (
     go (char n size) f h = let k = f (size - 1) h in omega arith
     go noChar f h = let k : at ≡ p = cc in omega arith
 
-bad-some : (o : Option ℕ) (i : ℕ) → At i ≡ badOf o → o ≡ some i
-bad-some none i e = never (cc)
-bad-some (some k) i e = let h : i ≡ k = cc in rw h
+-- the place that is answered, and no place
+pub bad-at : (o : Option ℕ) (i : ℕ) → At i ≡ badOf o → o ≡ some i
+bad-at none i e = never (cc)
+bad-at (some k) i e = cc
+
+pub bad-nowhere : (o : Option ℕ) → Nowhere ≡ badOf o → o ≡ none
+bad-nowhere none e = refl
+bad-nowhere (some k) e = never (cc)
 
 pub bad-within : (s : List ℕ) (i : ℕ) → At i ≡ badOf (firstBad s) → i < length s
-bad-within s i e = let k = from-within 0 0 s i (bad-some (firstBad s) i e) in omega arith
+bad-within s i e = let k = from-within 0 0 s i (bad-at (firstBad s) i e) in omega arith

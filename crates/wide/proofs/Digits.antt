@@ -11,7 +11,7 @@ use lib.ListN.{length, set, replicate}
 use Rattle.language.specs.Integers.{AllDigits, digitsIn, decimal, hexadecimal, ascii}
 use Rattle.language.specs.Canonical.{spellDigit, spellDigits}
 use Rattle.language.proofs.Integers.{few-in, many-in, fewer}
-use Rattle.wide.specs.Wide.{word}
+use Rattle.language.specs.Tables.{wordLimit}
 
 -- zeros before `at`, and from there `done` as it is spelt: those of the digits `all` that follow the digits of `rest`, of which
 -- `at` has room
@@ -89,25 +89,25 @@ module _ {base places : ℕ} {spelt : List ℕ → List ℕ} {all text : List �
 
 -- ---- two words have 39 decimal digits at the most, and 32 hexadecimal ones
 
-two-words : (hi lo room : ℕ) → hi < word → lo < word → word * word ≤ room → hi * word + lo < room
+two-words : (hi lo room : ℕ) → hi < wordLimit → lo < wordLimit → wordLimit * wordLimit ≤ room → hi * wordLimit + lo < room
 two-words hi lo room a b h =
-    let m : (hi + 1) * word ≤ word * word = mul-le-mul-right {m = hi + 1} {n = word} word (omega arith) in
-    lt-of-lt-of-le {m = (hi + 1) * word} (omega arith) (le-trans m h)
+    let m : (hi + 1) * wordLimit ≤ wordLimit * wordLimit = mul-le-mul-right {m = hi + 1} {n = wordLimit} wordLimit (omega arith) in
+    lt-of-lt-of-le {m = (hi + 1) * wordLimit} (omega arith) (le-trans m h)
 
-module _ (hi lo : ℕ) (a : hi < word) (b : lo < word) where
-  pub decimal-start : Written 10 39 ascii (decimal (hi * word + lo)) (replicate 39 0) (hi * word + lo) 39
+module _ (hi lo : ℕ) (a : hi < wordLimit) (b : lo < wordLimit) where
+  pub decimal-start : Written 10 39 ascii (decimal (hi * wordLimit + lo)) (replicate 39 0) (hi * wordLimit + lo) 39
   unfolding decimal
-  decimal-start = start 10 39 ascii (hi * word + lo) (two-words hi lo (10 ^ 39) a b (leb-true (word * word) (10 ^ 39) refl)) (omega arith) refl
+  decimal-start = start 10 39 ascii (hi * wordLimit + lo) (two-words hi lo (10 ^ 39) a b (leb-true (wordLimit * wordLimit) (10 ^ 39) refl)) (omega arith) refl
 
-  pub hexadecimal-start : Written 16 32 spellDigits (hexadecimal (hi * word + lo)) (replicate 32 0) (hi * word + lo) 32
+  pub hexadecimal-start : Written 16 32 spellDigits (hexadecimal (hi * wordLimit + lo)) (replicate 32 0) (hi * wordLimit + lo) 32
   unfolding hexadecimal
   hexadecimal-start =
-      start 16 32 spellDigits (hi * word + lo) (two-words hi lo (16 ^ 32) a b (leb-true (word * word) (16 ^ 32) refl)) (omega arith) refl
+      start 16 32 spellDigits (hi * wordLimit + lo) (two-words hi lo (16 ^ 32) a b (leb-true (wordLimit * wordLimit) (16 ^ 32) refl)) (omega arith) refl
 
 -- ---- the byte of a digit
 
 -- the offset is a variable, since that it is 48 is no matter here
-pub digit-fits : (o n d : ℕ) → o < 256 → d ≡ n % 10 → o + d < word
+pub digit-fits : (o n d : ℕ) → o < 256 → d ≡ n % 10 → o + d < wordLimit
 digit-fits o n d h e = omega arith
 
 pub decimal-byte : (n d : ℕ) → d ≡ n % 10 → (done : List ℕ) → ascii (d ∷ done) ≡ (48 + d) % 256 ∷ ascii done

@@ -12,7 +12,8 @@ use Rattle.language.proofs.Integers.{from, chosen, none-chosen}
 use Rattle.language.proofs.Tests.{both}
 use Rattle.wide.specs.declared.Scaled.the-variants.{Fits, Over}
 use Rattle.wide.specs.declared.Size.the-variants.{TooLarge}
-use Rattle.wide.specs.Wide.{word, fitted, scaled, sizeOf}
+use Rattle.language.specs.Tables.{wordLimit}
+use Rattle.wide.specs.Wide.{fitted, scaled, sizeOf}
 
 -- ---- a number is below 2^127 where its upper word is below 2^63
 
@@ -20,20 +21,20 @@ use Rattle.wide.specs.Wide.{word, fitted, scaled, sizeOf}
 abbrev half : ℕ
 half = 0x8000000000000000
 
-below : (n h : ℕ) → n < (h + 1) * word → h < half → n < limit
-below n h a b = lt-of-lt-of-le a (mul-le-mul-right {m = h + 1} {n = half} word (omega arith))
+below : (n h : ℕ) → n < (h + 1) * wordLimit → h < half → n < limit
+below n h a b = lt-of-lt-of-le a (mul-le-mul-right {m = h + 1} {n = half} wordLimit (omega arith))
 
-above : (n h : ℕ) → h * word ≤ n → half ≤ h → limit ≤ n
-above n h a b = le-trans (mul-le-mul-right {m = half} {n = h} word b) a
+above : (n h : ℕ) → h * wordLimit ≤ n → half ≤ h → limit ≤ n
+above n h a b = le-trans (mul-le-mul-right {m = half} {n = h} wordLimit b) a
 
-pub fits-case : (n h l : ℕ) → n ≡ h * word + l → l < word → h < half → Fits (record { hi = h; lo = l }) ≡ fitted n
+pub fits-case : (n h l : ℕ) → n ≡ h * wordLimit + l → l < wordLimit → h < half → Fits (record { hi = h; lo = l }) ≡ fitted n
 unfolding fitted
 fits-case n h l e a b =
-    let q : n / word ≡ h = omega arith in
-    let r : n % word ≡ l = omega arith in
+    let q : n / wordLimit ≡ h = omega arith in
+    let r : n % wordLimit ≡ l = omega arith in
     simp (q, r, lt-ltb n limit (below n h (omega arith) b))
 
-pub over-case : (n h : ℕ) → h * word ≤ n → half ≤ h → Over ≡ fitted n
+pub over-case : (n h : ℕ) → h * wordLimit ≤ n → half ≤ h → Over ≡ fitted n
 unfolding fitted
 over-case n h a b = simp (le-ltb n limit (above n h a b))
 
@@ -44,17 +45,17 @@ small hi lo e =
     (eqb-true hi 0 (q .0), ltb-true lo 1844674407370955161 (q .1))
 
 -- the upper word alone may say so before anything is multiplied
-pub over-early : (base hi lo d : ℕ) → half ≤ hi * base → Over ≡ scaled base (hi * word + lo) d
+pub over-early : (base hi lo d : ℕ) → half ≤ hi * base → Over ≡ scaled base (hi * wordLimit + lo) d
 over-early base hi lo d h =
-    let m : hi * word * base ≤ (hi * word + lo) * base = mul-le-mul-right base (omega arith) in
-    over-case ((hi * word + lo) * base + d) (hi * base) (rw mul-right-comm (omega arith)) h
+    let m : hi * wordLimit * base ≤ (hi * wordLimit + lo) * base = mul-le-mul-right base (omega arith) in
+    over-case ((hi * wordLimit + lo) * base + d) (hi * base) (rw mul-right-comm (omega arith)) h
 
 -- ---- numbers that the lower word is
 
-lower : (hi lo : ℕ) → hi ≤ 0 → hi * word + lo ≡ lo
+lower : (hi lo : ℕ) → hi ≤ 0 → hi * wordLimit + lo ≡ lo
 lower hi lo z = omega arith
 
-pub size-case : (t : IntType) (hi lo : ℕ) → hi ≤ 0 → from t ≤ lo → lo < 2 ^ bits t → sizeOf (some t) ≡ sizeOf (smallest (hi * word + lo))
+pub size-case : (t : IntType) (hi lo : ℕ) → hi ≤ 0 → from t ≤ lo → lo < 2 ^ bits t → sizeOf (some t) ≡ sizeOf (smallest (hi * wordLimit + lo))
 size-case t hi lo z a b = rw (lower hi lo z, chosen t lo a b)
 
 pub too-large : (n : ℕ) → 2 ^ 64 ≤ n → TooLarge ≡ sizeOf (smallest n)
@@ -62,7 +63,7 @@ too-large n a = rw (none-chosen n a)
 
 -- ---- the lowest 16 bits
 
-pub low16-same : (hi lo : ℕ) → hi ≤ 0 → lo < 65536 → (lo ≡ low16 (hi * word + lo)) × (false ≡ isTruncated (hi * word + lo))
+pub low16-same : (hi lo : ℕ) → hi ≤ 0 → lo < 65536 → (lo ≡ low16 (hi * wordLimit + lo)) × (false ≡ isTruncated (hi * wordLimit + lo))
 low16-same hi lo z h = rw (lower hi lo z) (omega arith, rw (eq-eqb (lo % 65536) lo (omega arith)))
 
 pub low16-less : (n l : ℕ) → l ≡ low16 n → 65536 ≤ n → (l ≡ low16 n) × (true ≡ isTruncated n)
@@ -70,11 +71,11 @@ low16-less n l e h = (e, rw (ne-eqb (n % 65536) n (λ q. omega arith)))
 
 -- ---- zero
 
-pub zero-word : (hi lo : ℕ) → hi ≡ 0 → eqb lo 0 ≡ eqb (hi * word + lo) 0
+pub zero-word : (hi lo : ℕ) → hi ≡ 0 → eqb lo 0 ≡ eqb (hi * wordLimit + lo) 0
 zero-word hi lo e = rw (lower hi lo (omega arith))
 
-pub no-zero : (hi lo : ℕ) → (hi ≡ 0 → ⊥) → false ≡ eqb (hi * word + lo) 0
-no-zero hi lo e = sym (ne-eqb (hi * word + lo) 0 (λ z. e (omega arith)))
+pub no-zero : (hi lo : ℕ) → (hi ≡ 0 → ⊥) → false ≡ eqb (hi * wordLimit + lo) 0
+no-zero hi lo e = sym (ne-eqb (hi * wordLimit + lo) 0 (λ z. e (omega arith)))
 
 -- ---- ten times
 
@@ -85,13 +86,13 @@ quarter = 0x100000000
 -- the parts of a long multiplication: p0 and p1 are a half of the lower word times ten with what is carried
 pub tenfold :
     (hi lo d p0 p1 : ℕ) → p0 ≡ lo % quarter * 10 + d → p1 ≡ lo / quarter * 10 + p0 / quarter
-    → ((hi * word + lo) * 10 + d ≡ (hi * 10 + p1 / quarter) * word + (p1 % quarter * quarter + p0 % quarter))
-    × (p1 % quarter * quarter + p0 % quarter < word) × ((hi * 10 + p1 / quarter) * word ≤ (hi * word + lo) * 10 + d)
+    → ((hi * wordLimit + lo) * 10 + d ≡ (hi * 10 + p1 / quarter) * wordLimit + (p1 % quarter * quarter + p0 % quarter))
+    × (p1 % quarter * quarter + p0 % quarter < wordLimit) × ((hi * 10 + p1 / quarter) * wordLimit ≤ (hi * wordLimit + lo) * 10 + d)
 tenfold hi lo d p0 p1 a b = omega arith
 
 -- ---- a tenth
 
-pub part-fits : (hi lo : ℕ) → lo < word → hi % 10 * quarter + lo / quarter < word
+pub part-fits : (hi lo : ℕ) → lo < wordLimit → hi % 10 * quarter + lo / quarter < wordLimit
 part-fits hi lo h = omega arith
 
 quotient : (n q d : ℕ) → n ≡ q * 10 + d → d < 10 → (q ≡ n / 10) × (d ≡ n % 10)
@@ -100,16 +101,16 @@ quotient n q d e h = (omega arith, omega arith)
 -- the parts of a long division: p1 and p0 are what is left of the part before with a half of the lower word
 pub divided :
     (hi lo p1 p0 : ℕ) → p1 ≡ hi % 10 * quarter + lo / quarter → p0 ≡ p1 % 10 * quarter + lo % quarter
-    → (hi / 10 * word + (p1 / 10 * quarter + p0 / 10) ≡ (hi * word + lo) / 10) × (p0 % 10 ≡ (hi * word + lo) % 10)
+    → (hi / 10 * wordLimit + (p1 / 10 * quarter + p0 / 10) ≡ (hi * wordLimit + lo) / 10) × (p0 % 10 ≡ (hi * wordLimit + lo) % 10)
 divided hi lo p1 p0 a b =
-    quotient (hi * word + lo) (hi / 10 * word + (p1 / 10 * quarter + p0 / 10)) (p0 % 10) (omega arith) (omega arith)
+    quotient (hi * wordLimit + lo) (hi / 10 * wordLimit + (p1 / 10 * quarter + p0 / 10)) (p0 % 10) (omega arith) (omega arith)
 
-pub small-tenth : (hi lo : ℕ) → hi ≡ 0 → (0 * word + lo / 10 ≡ (hi * word + lo) / 10) × (lo % 10 ≡ (hi * word + lo) % 10)
+pub small-tenth : (hi lo : ℕ) → hi ≡ 0 → (0 * wordLimit + lo / 10 ≡ (hi * wordLimit + lo) / 10) × (lo % 10 ≡ (hi * wordLimit + lo) % 10)
 small-tenth hi lo z =
-    let e : hi * word + lo ≡ lo = omega arith in
+    let e : hi * wordLimit + lo ≡ lo = omega arith in
     rw e (omega arith, refl)
 
 -- ---- a sixteenth
 
-pub lower-fits : (hi lo : ℕ) → lo < word → hi % 16 * 0x1000000000000000 + lo / 16 < word
+pub lower-fits : (hi lo : ℕ) → lo < wordLimit → hi % 16 * 0x1000000000000000 + lo / 16 < wordLimit
 lower-fits hi lo h = omega arith

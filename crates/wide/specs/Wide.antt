@@ -3,6 +3,7 @@ use Prim.Native.Nat.{ℕ, _+_, _*_, _/_, _%_}
 use mathlib.Core.Option.{Option, none, some}
 use lib.Dec.{ltb}
 use Rattle.language.specs.Choice.{if′}
+use Rattle.language.specs.Tables.{wordLimit}
 use Rattle.language.specs.Integers.{limit, IntType, u8, u16, u32, u64}
 use Rattle.wide.specs.declared.Wide.{Wide}
 use Rattle.wide.specs.declared.Scaled.{Scaled}
@@ -10,17 +11,13 @@ use Rattle.wide.specs.declared.Scaled.the-variants.{Fits, Over}
 use Rattle.wide.specs.declared.Size.{Size}
 use Rattle.wide.specs.declared.Size.the-variants.{U8, U16, U32, U64, TooLarge}
 
--- 2^64
-abbrev pub word : ℕ
-word = 0x10000000000000000
-
 -- the number that two words are
 abbrev pub valueOf : Wide → ℕ
-valueOf w = w .hi * word + w .lo
+valueOf w = w .hi * wordLimit + w .lo
 
 -- the two words of a number
 abbrev pub wideOf : ℕ → Wide
-wideOf n = record { hi = n / word; lo = n % word }
+wideOf n = record { hi = n / wordLimit; lo = n % wordLimit }
 
 -- a number below 2^127 as its words, else `Over`
 unfoldable pub fitted : ℕ → Scaled

@@ -238,7 +238,7 @@ impl Wide {
 }
 
 // A digit below 16 as ASCII.
-fn spell_digit(d: u64) -> u8
+pub fn spell_digit(d: u64) -> u8
     requires { ⌜ d < 16 ⌝ }
     ensures { λ r. ⌜ r ≡ spellDigit d ⌝ }
 {

@@ -1,7 +1,7 @@
 use Prim.Native.Nat.{_-_}
 use mathlib.Core.Path.{sym, _∙_}
 use lib.ListN.{length}
-use Rattle.lex.proofs.Feeding.{shrinks}
+use Rattle.scan.proofs.Turns.{shrinks}
 use Rattle.canon.proofs.Strings.{Telling, start, all-told, passed, room, told}
 use borrow.Author.Needs.{needs}
 use Rattle.canon.proofs.literals.Statement.{statement}

@@ -2,7 +2,7 @@ use Prim.Native.Nat.{ℕ}
 use mathlib.Core.List.{List}
 use Rattle.language.specs.Lexemes.{same}
 use mathlib.Core.Path.{_∙_, ap}
-use Rattle.constants.proofs.Sames.{not-hit, hit-by}
+use Rattle.constants.proofs.Hits.{not-hit, hit-by}
 use borrow.Author.Needs.{needs}
 use Rattle.constants.proofs.is_hit.Statement.{statement}
 use Rattle.constants.proofs.is_hit.Tie as tie

@@ -1,14 +1,15 @@
 use native.Mathlib.Nat.{le-of-lt}
-use Rattle.constants.proofs.Parts.{part-none, part-past, part-rest}
+use mathlib.Core.Path.{sym}
+use Rattle.language.proofs.Parts.{part-none, part-past, part-rest}
 use borrow.Author.Needs.{needs}
 use Rattle.constants.proofs.part.Statement.{statement}
 use Rattle.constants.proofs.part.Tie as tie
 
 returns : tie.Need-returns
-returns c = part-none _ _ _ (c .before .if1 .taken)
+returns c = sym (part-none _ _ _ (le-of-lt (c .before .if1 .taken)))
 
 returns-2 : tie.Need-returns-2
-returns-2 c = part-past _ _ _ (c .before .if2 .taken)
+returns-2 c = sym (part-past _ _ _ (le-of-lt (c .before .if2 .taken)))
 
 returns-3 : tie.Need-returns-3
 returns-3 c = part-rest _ _ _ (le-of-lt (c .before .if3 .taken))

@@ -1,7 +1,7 @@
 use Prim.Native.Nat.{_-_}
 use mathlib.Core.Path.{sym, _∙_}
 use lib.ListN.{length}
-use Rattle.lex.proofs.Feeding.{shrinks}
+use Rattle.scan.proofs.Turns.{shrinks}
 use Rattle.lex.proofs.Bodies.{Looking, start, none-left, is-it, not-it, passed}
 use borrow.Author.Needs.{needs}
 use Rattle.lex.proofs.nth_body.Statement.{statement}

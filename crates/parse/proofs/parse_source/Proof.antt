@@ -1,4 +1,5 @@
-use Rattle.parse.proofs.Entry.{lexes, bounds, as-before, no-nodes, not-lexed}
+use Rattle.lex.proofs.Left.{lexes}
+use Rattle.parse.proofs.Entry.{bounds, as-before, no-nodes, not-lexed}
 use borrow.Author.Needs.{needs}
 use Rattle.parse.proofs.parse_source.Statement.{statement}
 use Rattle.parse.proofs.parse_source.Tie as tie

@@ -1,7 +1,8 @@
 use Prim.Native.Nat.{_-_}
 use mathlib.Core.Path.{_≡_, refl, sym, _∙_}
 use lib.ListN.{length}
-use Rattle.scan.proofs.Filling.{Filling, start, shrinks, more-is, counted-all, rows-all}
+use Rattle.scan.proofs.Filling.{Filling, start, more-is, counted-all, rows-all}
+use Rattle.scan.proofs.Turns.{shrinks}
 use Rattle.lexemes.proofs.Rows.{row-long}
 use borrow.Author.Needs.{needs}
 use native.Mathlib.Omega.{arith}
@@ -27,7 +28,7 @@ add-count : tie.Need-add-count Inv-loop μ-loop
 add-count c = let f = c .before .before .before .before .before .before .before .before .before .before .loop .inv .1 in omega (arith, f .few, f .within, c .before .before .before .before .before .before .before .before .before .before .before .before .before .before .pre .0)
 
 loop-less : tie.Need-loop-less Inv-loop μ-loop
-loop-less c = shrinks _ _ _ _ _ (c .before .before .before .before .before .before .before .before .before .before .loop .inv .1) _ _ (sym (c .before .before .before .before .before .before .before .step .given .1) ∙ c .before .before .before .before .before .before .before .before .before .next .ensures)
+loop-less c = shrinks _ _ _ _ (sym (c .before .before .before .before .before .before .before .step .given .1) ∙ c .before .before .before .before .before .before .before .before .before .next .ensures)
 
 loop-again : tie.Need-loop-again Inv-loop μ-loop
 loop-again c = (search needs, more-is _ _ _ _ _ (c .before .before .before .before .before .before .before .before .before .before .loop .inv .1) _ _ (sym (c .before .before .before .before .before .before .before .step .given .1) ∙ c .before .before .before .before .before .before .before .before .before .next .ensures) (c .before .before .before .before .before .row-of .ensures) (c .before .before .put-row .ensures))

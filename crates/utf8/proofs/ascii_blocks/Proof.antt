@@ -13,9 +13,6 @@ Inv-loop src at i₀ i = Passed src at i
 abbrev μ-loop : tie.MeasureT-loop
 μ-loop src at i₀ i = length src - i
 
-loop-holds : tie.Need-loop-holds Inv-loop μ-loop
-loop-holds c = stay _ _ (c .before .pre)
-
 loop-again : tie.Need-loop-again Inv-loop μ-loop
 loop-again c =
     pass-four (c .before .before .before .before .before .before .loop .inv) (omega arith) (c .before .before .before .before .ascii8 .ensures)
@@ -24,6 +21,6 @@ loop-again c =
 pub ascii-blocks-spec : {M : Type 1} → statement M
 ascii-blocks-spec =
     tie.close
-    (tie.spec Inv-loop μ-loop loop-holds (λ c. search needs) (λ c. search needs) (λ c. search needs) (λ c. search needs)
+    (tie.spec Inv-loop μ-loop (λ c. search (needs, stay)) (λ c. search needs) (λ c. search needs) (λ c. search needs)
     (λ c. search needs) (λ c. search needs) (λ c. search needs) (λ c. search needs) (λ c. search needs)
-    (λ c. search needs) (λ c. search needs) loop-again (λ c. search needs))
+    (λ c. search needs) (λ c. search needs) (λ c. search needs) loop-again (λ c. search needs))

@@ -1,7 +1,8 @@
 use Prim.Native.Nat.{_-_}
 use mathlib.Core.Path.{refl, sym, _∙_}
 use lib.ListN.{length}
-use Rattle.lex.proofs.Feeding.{Feeding, begun, shrinks, room, more, stopped, finished}
+use Rattle.scan.proofs.Turns.{shrinks}
+use Rattle.lex.proofs.Feeding.{Feeding, begun, room, more, stopped, finished}
 use borrow.Author.Needs.{needs}
 use native.Mathlib.Omega.{arith}
 use Rattle.lex.proofs.Lexer.lexemes.Statement.{statement}

@@ -15,9 +15,6 @@ Inv-loop text₀ rest₀ at₀ text rest at = Written 10 39 ascii (decimal (valu
 abbrev μ-loop : tie.MeasureT-loop
 μ-loop text₀ rest₀ at₀ text rest at = at
 
-loop-holds : tie.Need-loop-holds Inv-loop μ-loop
-loop-holds c = decimal-start _ _ (search needs) (search needs)
-
 add-text : tie.Need-add-text Inv-loop μ-loop
 add-text c = record { fits = digit-fits _ _ _ (omega arith) (c .before .div10 .ensures .1) }
 
@@ -34,5 +31,5 @@ loop-again c =
 pub decimal-spec : {M : Type 1} → statement M
 decimal-spec =
     tie.close
-    (tie.spec Inv-loop μ-loop loop-holds (λ c. search needs) (λ c. search needs) add-text (λ c. search needs)
+    (tie.spec Inv-loop μ-loop (λ c. search (needs, decimal-start)) (λ c. search needs) (λ c. search needs) add-text (λ c. search needs)
     (λ c. search needs) (λ c. search needs) returns (λ c. search needs) loop-again)

@@ -15,12 +15,6 @@ Inv-loop text₀ rest₀ at₀ text rest at = Written 16 32 spellDigits (hexadec
 abbrev μ-loop : tie.MeasureT-loop
 μ-loop text₀ rest₀ at₀ text rest at = at
 
-loop-holds : tie.Need-loop-holds Inv-loop μ-loop
-loop-holds c = hexadecimal-start _ _ (search needs) (search needs)
-
-spell-digit-requires : tie.Need-spell-digit-requires Inv-loop μ-loop
-spell-digit-requires c κs = hexadecimal-digit _ _ (c .div16 .ensures .1)
-
 returns : tie.Need-returns Inv-loop μ-loop
 returns c =
     finished (omega arith) (c .before .before .before .before .before .loop .inv) refl (c .before .before .before .before .div16 .ensures)
@@ -34,5 +28,5 @@ loop-again c =
 pub hexadecimal-spec : {M : Type 1} → statement M
 hexadecimal-spec =
     tie.close
-    (tie.spec Inv-loop μ-loop loop-holds (λ c. search needs) (λ c. search needs) spell-digit-requires
+    (tie.spec Inv-loop μ-loop (λ c. search (needs, hexadecimal-start)) (λ c. search needs) (λ c. search needs) (λ c κs. search (needs, hexadecimal-digit))
     (λ c. search needs) (λ c. search needs) returns (λ c. search needs) loop-again)
