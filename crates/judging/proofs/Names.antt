@@ -25,7 +25,7 @@ use Rattle.language.specs.Numbers.{tokenOf}
 use Rattle.judging.specs.declared.Token.{Token}
 use Rattle.judging.specs.declared.Judged.{Judged}
 use Rattle.judging.specs.declared.Judged.the-variants.{Val, Err}
-use Rattle.judging.specs.Judging.{tokenAs, opened, Canon, heldAs, judgedAs, namedAs, faultAs, nameWord, nameOf, keyFrom, keyOf, listed, namesIn, bindingAt, boundIn, orNone, importAt, importsIn, place}
+use Rattle.judging.specs.Judging.{tokenAs, opened, Canon, heldAs, judgedAs, namedAs, faultAs, nameWord, nameOf, keyFrom, keyOf, Keyed, Others, listed, namesIn, bindingAt, boundIn, orNone, importAt, importsIn, place}
 use Rattle.language.proofs.Tests.{both}
 use Rattle.language.proofs.TokensAt.{content-of, past-token}
 use Rattle.judging.proofs.Values.{some-kind}
@@ -83,6 +83,39 @@ module _ (s : List ℕ) (ws : List (List ℕ)) (w : List ℕ) (used i : ℕ) whe
   pub search-end : i ≤ used → used ≤ i → used ≡ i + place (namesIn s ws (used - i) i) w
   unfolding namesIn listed place
   search-end l h = let e : used - i ≡ 0 = omega arith in rw e (omega arith)
+
+-- entries with other keys are passed, each without a look at its name
+
+module _ {ws : List (List ℕ)} {used key : ℕ} where
+  pub no-others : Others ws used key 0
+  no-others = record { in-table = omega arith; other = λ i h. absurd (omega arith) }
+
+  one-more : {n m : ℕ} → Others ws used key n → m ≡ n + 1 → m ≤ used → (nameWord ws n 6 ≡ key → ⊥) → Others ws used key m
+  one-more {n} o e l d =
+      record {
+        in-table = l;
+        other = λ i h. elim (decLe (suc i) n) [ yes g ↦ o .other i g | no g ↦ let z : i ≡ n = omega arith in rw z d ];
+      }
+
+  pub four-more : {n : ℕ} → Others ws used key n → n + 4 ≤ used → (nameWord ws n 6 ≡ key → ⊥) → (nameWord ws (n + 1) 6 ≡ key → ⊥)
+      → (nameWord ws (n + 2) 6 ≡ key → ⊥) → (nameWord ws (n + 3) 6 ≡ key → ⊥) → Others ws used key (n + 4)
+  four-more {n} o l a b c d =
+      let one = one-more o refl (omega arith) a in
+      let two = one-more {m = n + 2} one (omega arith) (omega arith) b in
+      let three = one-more {m = n + 3} two (omega arith) (omega arith) c in
+      one-more three (omega arith) l d
+
+module _ (s : List ℕ) (ws : List (List ℕ)) (w : List ℕ) (used key : ℕ) (keyed : Keyed s ws used) (e : key ≡ keyOf w) where
+  passed : (n : ℕ) → n ≤ used → ((i : ℕ) → i < n → nameWord ws i 6 ≡ key → ⊥)
+      → n + place (namesIn s ws (used - n) n) w ≡ place (namesIn s ws used 0) w
+  passed zero l o = search-start s ws w used 0
+  passed (suc n) l o =
+      let next : suc n ≡ n + 1 = omega arith in
+      let miss = other-key (nameOf s ws n) w (keyed .key n (omega arith)) e (o n (omega arith)) in
+      rw next (search-miss s ws w used n (omega arith) refl miss refl ∙ passed n (omega arith) (λ i h. o i (omega arith)))
+
+  pub search-from : (n : ℕ) → Others ws used key n → n + place (namesIn s ws (used - n) n) w ≡ place (namesIn s ws used 0) w
+  search-from n o = passed n (o .in-table) (o .other)
 
 -- ---- what it finds: a table's entries as a list, and the first of a name in it
 

@@ -213,6 +213,11 @@ keyOf bs = keyFrom 0 bs
 pub record Keyed (s : List ℕ) (ws : List (List ℕ)) (used : ℕ) : Type 0 where
   pub key : (i : ℕ) → i < used → nameWord ws i 6 ≡ keyOf (nameOf s ws i)
 
+-- the first n of the used entries have other keys than this one
+pub record Others (ws : List (List ℕ)) (used key n : ℕ) : Type 0 where
+  pub in-table : n ≤ used
+  pub other : (i : ℕ) → i < n → nameWord ws i 6 ≡ key → ⊥
+
 -- the number of the first name that is the same; how many there are where none is
 unfoldable pub place : List (List ℕ) → List ℕ → ℕ
 place [] w = 0

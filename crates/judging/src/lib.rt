@@ -12,7 +12,7 @@ ghost use Rattle.language.specs.Sentences.{Expr, slash′};
 ghost use Rattle.language.specs.Values.{entryAt};
 ghost use Rattle.language.specs.Judgements.{Known, nameAt, literalAt, err, unknownItem, lastItem, walk, judge};
 ghost use Rattle.constants.specs.Constants.{tableRows};
-ghost use Rattle.judging.specs.Judging.{tokenAs, rowToken, Lexed, valueAs, sock4As, judgedAs, namedAs, TypeShown, TypeText, TypedFault, truncatedAs, faultRow, isIntegral, keyOf, nameWord, nameOf, Keyed, namesIn, place, heldAs, LocalIs, PathIs, Ready, Knows, Agrees, LeafIs, Members, Operand, Narrows, Integral, word, RepAt, Fits, SlashFits, plusWarnings};
+ghost use Rattle.judging.specs.Judging.{tokenAs, rowToken, Lexed, valueAs, sock4As, judgedAs, namedAs, TypeShown, TypeText, TypedFault, truncatedAs, faultRow, isIntegral, keyOf, nameWord, nameOf, Keyed, Others, namesIn, place, heldAs, LocalIs, PathIs, Ready, Knows, Agrees, LeafIs, Members, Operand, Narrows, Integral, word, RepAt, Fits, SlashFits, plusWarnings};
 use constants::Constants;
 use constants::Ty;
 use rows::NodeKind;
@@ -372,13 +372,38 @@ fn is_named(source: &[u8], entries: &[Entry], i: usize, key: u64, name: &[u8]) -
     constants::same(constants::part(source, a, e), name)
 }
 
+// How many entries are passed without a look at their names: each has another key. They are taken by fours, so that a long
+// search is one comparison for each entry and little more; one of the next four may have the key, or fewer than four are left.
+fn others(entries: &[Entry], used: usize, key: u64) -> usize
+    requires { ⌜ used ≤ length (now entries) ⌝ }
+    ensures { λ r. ⌜ Others (now (entries .entry)) used key r ⌝ }
+{
+    let mut i = 0;
+    while i + 4 <= used {
+        if entries[i][Name::KEY] == key {
+            return i;
+        }
+        if entries[i + 1][Name::KEY] == key {
+            return i;
+        }
+        if entries[i + 2][Name::KEY] == key {
+            return i;
+        }
+        if entries[i + 3][Name::KEY] == key {
+            return i;
+        }
+        i += 4;
+    }
+    i
+}
+
 // The first of the used entries with a name: its number, or `used` where there is none.
 pub fn find(source: &[u8], entries: &[Entry], used: usize, name: &[u8]) -> usize
     requires { ⌜ (used ≤ length (now entries)) × Keyed (now source) (now entries) used ⌝ }
     ensures { λ r. ⌜ r ≡ place (namesIn (now (source .entry)) (now (entries .entry)) used 0) (now (name .entry)) ⌝ }
 {
     let key = key_of(name);
-    let mut i = 0;
+    let mut i = others(entries, used, key);
     while i < used {
         if is_named(source, entries, i, key, name) {
             return i;

@@ -27,8 +27,9 @@ pub enum Tok {
 
 // What is wrong with the source.
 pub enum LexErrorKind {
-    // No token starts with this character.
-    UnexpectedChar(u32),
+    // No token starts with this character. A whole word has its number, so that an error lies in memory as a token does:
+    // else both are read by one load that is wider than what was stored, and such a load waits for the stores.
+    UnexpectedChar(u64),
     // A `"` with no closing `"` on the same line.
     UnterminatedString,
     // An integer literal of 2^127 or more.
@@ -118,7 +119,7 @@ impl LexErrorKind {
         ensures { λ r. ⌜ r ≡ errorChar self ⌝ }
     {
         if let LexErrorKind::UnexpectedChar(c) = self {
-            return c as u64;
+            return c;
         }
         0
     }

@@ -113,7 +113,7 @@ fn unexpected(at: usize, end: usize, c: u32) -> Lexeme
     Lexeme {
         start: at,
         end: end,
-        kind: LexemeKind::Error(LexErrorKind::UnexpectedChar(c)),
+        kind: LexemeKind::Error(LexErrorKind::UnexpectedChar(c as u64)),
     }
 }
 
