@@ -458,8 +458,8 @@ terkinoha_parse(const void *source, size_t source_size, terkinoha_token *tokens,
 
 /* Lexes a source into tokens and writes their canonical text: byte 10 after each `;`, one space
  * between other neighbours, no comments, one spelling for each number. Two sources have the same
- * text exactly when they have the same tokens, places aside. No byte 0 ends the text; zeros follow
- * where it is shorter than its room.
+ * text exactly when they have the same tokens, places aside. The text is as long as `bytes` says: it
+ * may hold byte 0, inside a string, and none ends it; zeros follow where it is shorter than its room.
  */
 TERKINOHA_MUST_USE static inline terkinoha_canonised
 terkinoha_canonicalise(const void *source, size_t source_size, terkinoha_token *tokens, size_t token_room,
