@@ -25,7 +25,7 @@ use Rattle.language.specs.Numbers.{tokenOf}
 use Rattle.judging.specs.declared.Token.{Token}
 use Rattle.judging.specs.declared.Judged.{Judged}
 use Rattle.judging.specs.declared.Judged.the-variants.{Val, Err}
-use Rattle.judging.specs.Judging.{tokenAs, opened, Canon, heldAs, judgedAs, namedAs, faultAs, nameWord, nameOf, keyFrom, keyOf, Keyed, Others, listed, namesIn, bindingAt, boundIn, orNone, importAt, importsIn, place}
+use Rattle.judging.specs.Judging.{tokenAs, opened, Canon, heldAs, judgedAs, namedAs, faultAs, nameWord, nameOf, kept, keyFrom, keyOf, Keyed, Others, listed, namesIn, bindingAt, boundIn, orNone, importAt, importsIn, place}
 use Rattle.language.proofs.Tests.{both}
 use Rattle.language.proofs.TokensAt.{content-of, past-token}
 use Rattle.judging.proofs.Values.{some-kind}
@@ -33,7 +33,7 @@ use Rattle.judging.proofs.Values.{some-kind}
 -- ---- keys
 
 module _ (w : List ℕ) (i k : ℕ) where
-  pub key-step : i < length w → keyFrom (k % 288230376151711744 * 31 + getD w i 0) (drop (i + 1) w) ≡ keyFrom k (drop i w)
+  pub key-step : i < length w → keyFrom (k % kept * 31 + getD w i 0) (drop (i + 1) w) ≡ keyFrom k (drop i w)
   unfolding keyFrom
   key-step h = let next : i + 1 ≡ suc i = omega arith in rw (next, drop-cons w i 0 h)
 
@@ -48,7 +48,7 @@ same-key [] (y ∷ ys) k e = absurd (false≢true e)
 same-key (x ∷ xs) [] k e = absurd (false≢true e)
 same-key (x ∷ xs) (y ∷ ys) k e =
     let h = both (eqb x y) (same xs ys) e in
-    rw (eqb-true x y (h .0)) (same-key xs ys (k % 288230376151711744 * 31 + y) (h .1))
+    rw (eqb-true x y (h .0)) (same-key xs ys (k % kept * 31 + y) (h .1))
 
 -- a name with another key is another
 pub other-key : (v w : List ℕ) {a b : ℕ} → a ≡ keyOf v → b ≡ keyOf w → (a ≡ b → ⊥) → false ≡ same v w

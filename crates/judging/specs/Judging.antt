@@ -201,10 +201,13 @@ module _ (s : List ℕ) (ws : List (List ℕ)) where
   unfoldable pub importsIn : ℕ → ℕ → List Import
   importsIn k i = listed importAt k i
 
--- the key of a name. At each step so much of it is kept that the next stays below 2^63.
+-- the key of a name. At each step 2^58 of it are kept, so that the next stays below 2^63.
+abbrev pub kept : ℕ
+kept = 288230376151711744
+
 unfoldable pub keyFrom : ℕ → List ℕ → ℕ
 keyFrom k [] = k
-keyFrom k (b ∷ bs) = keyFrom (k % 288230376151711744 * 31 + b) bs
+keyFrom k (b ∷ bs) = keyFrom (k % kept * 31 + b) bs
 
 abbrev pub keyOf : List ℕ → ℕ
 keyOf bs = keyFrom 0 bs

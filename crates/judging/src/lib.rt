@@ -52,7 +52,7 @@ pub struct Detail {
     pub third: u64,
 }
 
-// A finding, which is a row of that table.
+// A finding, before it is a row of that table.
 pub struct Fault {
     pub line: u64,
     pub column: u64,
@@ -161,6 +161,9 @@ impl Name {
     pub const HIGH: usize = 5;
 
     pub const KEY: usize = 6;
+
+    // What is kept of a key before the next byte, 2^58: 31 times that, and a byte, fit a word.
+    const KEPT: u64 = 288230376151711744;
 }
 
 pub type Entry = [u64; Name::WORDS];
@@ -352,7 +355,7 @@ pub fn key_of(name: &[u8]) -> u64
     let mut key: u64 = 0;
     let mut i = 0;
     while i < name.len() {
-        key = (key % 288230376151711744) * 31 + name[i] as u64;
+        key = (key % Name::KEPT) * 31 + name[i] as u64;
         i += 1;
     }
     key

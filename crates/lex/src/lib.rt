@@ -246,7 +246,7 @@ fn lexical(e: LexErrorKind, lno: u64, from: usize) -> Verdict
     }
 }
 
-// Where the line ends that starts at `at`: before byte 10 or at the end of the source.
+// Where the line ends that starts at `at`: before byte 10 or at the end of the source, and so where a comment would end.
 fn line_end(source: &[u8], at: usize) -> usize
     requires { ⌜ at ≤ length (now source) ⌝ }
     ensures { λ r. ⌜ r ≡ lineEnd (now (source .entry)) at ⌝ }

@@ -6,16 +6,7 @@ ghost use Prim.Native.Nat.{_≤_};
 ghost use lib.ListN.{length, set};
 ghost use Rattle.table.specs.Table.{padTo, putRow};
 
-// Stores a word, where the index is within the table.
-pub fn put(table: &mut [u64], i: usize, v: u64)
-    ensures { λ _. ⌜ now (table .exit) ≡ set (now (table .entry)) i v ⌝ }
-{
-    if i < table.len() {
-        table[i] = v;
-    }
-}
-
-// The same in a table of bytes.
+// Stores a byte, where the index is within the text.
 pub fn put_byte(text: &mut [u8], i: usize, v: u8)
     ensures { λ _. ⌜ now (text .exit) ≡ set (now (text .entry)) i v ⌝ }
 {
