@@ -6,7 +6,7 @@ use lib.Dec.{eqb}
 use lib.ListN.{length, getD}
 use Rattle.table.specs.Table.{padTo}
 use Rattle.language.specs.Choice.{if′}
-use Rattle.language.specs.Lexemes.{import′, let′, true′, false′}
+use Rattle.language.specs.Lexemes.{importWord, letWord, trueWord, falseWord}
 use Rattle.language.specs.Integers.{decimal, hexadecimal}
 use Rattle.language.specs.Tables.{wordLimit}
 use Rattle.language.specs.Tokens.{between, bodiesIn, mostBytes}
@@ -45,14 +45,14 @@ markOf k =
 
 -- a boolean
 abbrev pub boolText : ℕ → List ℕ
-boolText low = if′ (eqb low 0) false′ true′
+boolText low = if′ (eqb low 0) falseWord trueWord
 
 -- a token that is always spelt in the same way
 unfoldable pub fixedText : ℕ → ℕ → List ℕ
 fixedText k low =
     if′ (eqb k 5) (58 ∷ 58 ∷ [])
-    (if′ (eqb k 11) import′
-    (if′ (eqb k 12) let′
+    (if′ (eqb k 11) importWord
+    (if′ (eqb k 12) letWord
     (if′ (eqb k 14) (boolText low) (markOf k ∷ []))))
 
 -- a token of the kind k: its value in two words, and the bytes of its span

@@ -12,7 +12,7 @@ use lib.Seq.{split-at, take-take, length-take-le}
 use Rattle.language.specs.Choice.{if′}
 use Rattle.language.specs.Integers.{limit}
 use Rattle.language.specs.Utf8.{Char, char, noChar, charAt, Encoded}
-use Rattle.language.specs.Lexemes.{Tok, lParen, rParen, dot, doubleColon, colon, semiColon, equals, comma, slash, importKeyword, letKeyword, booleanLiteral, ipv4Literal, hexLiteral, decLiteral, LexErrorKind, Kind, Lexeme, isBlank, isDigit, isWordStart, isWord, isBody, run, all, same, import′, let′, true′, false′, word, Number, value, wrong, readDigits, numbered, startsHex, startsZero, integer, octet, Quad, quad, notQuad, joined, further, quadFrom, quadLexeme, number, punctuation, ascii, lexemeAt, lexeme}
+use Rattle.language.specs.Lexemes.{Tok, lParen, rParen, dot, doubleColon, colon, semiColon, equals, comma, slash, importKeyword, letKeyword, booleanLiteral, ipv4Literal, hexLiteral, decLiteral, LexErrorKind, Kind, Lexeme, isBlank, isDigit, isWordStart, isWord, isBody, run, all, same, importWord, letWord, trueWord, falseWord, word, Number, value, wrong, readDigits, numbered, startsHex, startsZero, integer, octet, Quad, quad, notQuad, joined, further, quadFrom, quadLexeme, number, punctuation, ascii, lexemeAt, lexeme}
 use Rattle.language.specs.Lexemes as lexemes
 use Rattle.language.specs.Tokens.{plain, Piece, gap, body, token, contentOf, unquoted, pieceOf}
 use Rattle.language.specs.Tokens as tokens
@@ -135,10 +135,10 @@ unfolding word
 word-fine b w e a =
     let v = b ∷ w in
     let P : Tok → Type 0 = λ t. Fine (token (contentOf t v)) in
-    by-cases P (same v import′) (λ _. fixed-fine importKeyword refl)
-    (λ h. by-cases P (same v let′) (λ _. fixed-fine letKeyword refl)
-    (λ i. by-cases P (same v true′) (λ _. fixed-fine (booleanLiteral true) refl)
-    (λ j. by-cases P (same v false′) (λ _. fixed-fine (booleanLiteral false) refl)
+    by-cases P (same v importWord) (λ _. fixed-fine importKeyword refl)
+    (λ h. by-cases P (same v letWord) (λ _. fixed-fine letKeyword refl)
+    (λ i. by-cases P (same v trueWord) (λ _. fixed-fine (booleanLiteral true) refl)
+    (λ j. by-cases P (same v falseWord) (λ _. fixed-fine (booleanLiteral false) refl)
     (λ k. a-part (named v) refl (good-name b w e a (rw (h, i, j, k)))))))
 
 -- ---- literals

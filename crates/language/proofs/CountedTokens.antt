@@ -15,7 +15,7 @@ use Rattle.language.specs.Lexemes.{lParen, rParen, dot, semiColon, comma
 use Rattle.language.specs.Tokens.{Content, eof, plain}
 use Rattle.language.specs.Tables.{contentKind}
 use Rattle.language.specs.Sentences.{mostSteps, mostLists, is}
-use Rattle.language.specs.Counted.{Turn, over, oneMore, counts, turn, tooManyFrom, tooMany}
+use Rattle.language.specs.Counted.{Effect, over, oneMore, counts, turn, tooManyFrom, tooMany}
 use Rattle.language.proofs.Tests.{never}
 use Rattle.language.proofs.SentenceOutcomes.{before-end}
 
@@ -26,12 +26,12 @@ by-kind c d m o e = rw e
 
 -- what comes of a turn
 module _ (i : ℕ) (r : List Content) where
-  abbrev told : Turn → Option ℕ
+  abbrev told : Effect → Option ℕ
   told over = none
   told oneMore = some i
   told (counts n p) = tooManyFrom (suc i) n p r
 
-  told-by : (t : Turn) → elim t [ over ↦ none | oneMore ↦ some i | counts n p ↦ tooManyFrom (suc i) n p r ] ≡ told t
+  told-by : (t : Effect) → elim t [ over ↦ none | oneMore ↦ some i | counts n p ↦ tooManyFrom (suc i) n p r ] ≡ told t
   told-by over = refl
   told-by oneMore = refl
   told-by (counts n p) = refl
@@ -41,7 +41,7 @@ module _ (i : ℕ) (r : List Content) where
   one c m o = told-by (turn c m o)
 
   -- a token that is named is not before the first that is counted
-  told-after : (t : Turn) (u : ℕ) → ((n : ℕ) (p : List ℕ) → tooManyFrom (suc i) n p r ≡ some u → suc i ≤ u) → told t ≡ some u
+  told-after : (t : Effect) (u : ℕ) → ((n : ℕ) (p : List ℕ) → tooManyFrom (suc i) n p r ≡ some u → suc i ≤ u) → told t ≡ some u
       → i ≤ u
   told-after over u l e = never (cc)
   told-after oneMore u l e = let f : i ≡ u = cc in omega arith

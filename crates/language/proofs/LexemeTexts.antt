@@ -9,7 +9,7 @@ use borrow.Author.Tests.{eqb-true}
 use lib.Dec.{ltb, eqb}
 use lib.ListN.{length, getD, take, drop}
 use Rattle.language.specs.Utf8.{Char, char, noChar, charAt}
-use Rattle.language.specs.Lexemes.{Tok, hexLiteral, decLiteral, Kind, trivia, str, tok, error, Lexeme, isBlank, isDigit, isWordStart, isWord, isBody, run, same, import′, let′, true′, false′, word, Number, value, wrong, readDigits, numbered, startsHex, startsZero, integer, Quad, quad, notQuad, quadFrom, quadLexeme, number, punctuation, ascii, lexemeAt, lexeme}
+use Rattle.language.specs.Lexemes.{Tok, hexLiteral, decLiteral, Kind, trivia, str, tok, error, Lexeme, isBlank, isDigit, isWordStart, isWord, isBody, run, same, importWord, letWord, trueWord, falseWord, word, Number, value, wrong, readDigits, numbered, startsHex, startsZero, integer, Quad, quad, notQuad, quadFrom, quadLexeme, number, punctuation, ascii, lexemeAt, lexeme}
 use Rattle.language.specs.Lexemes as lexemes
 use Rattle.language.specs.Tokens.{contentOf}
 use Rattle.language.specs.Canonical.{spellTok, spell}
@@ -38,10 +38,10 @@ word-spelt : (w : List ℕ) → Spelt (word w) w
 unfolding word spell spellTok
 word-spelt w =
     let P : Tok → Type 0 = λ t. Spelt t w in
-    by-cases P (same w import′) (λ e. sym (same-equal w import′ e))
-    (λ _. by-cases P (same w let′) (λ e. sym (same-equal w let′ e))
-    (λ _. by-cases P (same w true′) (λ e. sym (same-equal w true′ e))
-    (λ _. by-cases P (same w false′) (λ e. sym (same-equal w false′ e)) (λ _. refl))))
+    by-cases P (same w importWord) (λ e. sym (same-equal w importWord e))
+    (λ _. by-cases P (same w letWord) (λ e. sym (same-equal w letWord e))
+    (λ _. by-cases P (same w trueWord) (λ e. sym (same-equal w trueWord e))
+    (λ _. by-cases P (same w falseWord) (λ e. sym (same-equal w falseWord e)) (λ _. refl))))
 
 -- ---- numbers
 

@@ -8,7 +8,7 @@ use lib.Dec.{ltb, eqb}
 use lib.ListN.{length}
 use Rattle.language.specs.Choice.{if′}
 use Rattle.language.specs.Integers.{decimal, hexadecimal}
-use Rattle.language.specs.Lexemes.{Tok, lParen, rParen, dot, doubleColon, colon, semiColon, equals, comma, slash, importKeyword, letKeyword, identifier, booleanLiteral, ipv4Literal, hexLiteral, decLiteral, import′, let′, true′, false′}
+use Rattle.language.specs.Lexemes.{Tok, lParen, rParen, dot, doubleColon, colon, semiColon, equals, comma, slash, importKeyword, letKeyword, identifier, booleanLiteral, ipv4Literal, hexLiteral, decLiteral, importWord, letWord, trueWord, falseWord}
 use Rattle.language.specs.Utf8.{firstBad}
 use Rattle.language.specs.Tables.{contentKind}
 use Rattle.language.specs.Tokens.{mostBytes, Content, eof, plain, name, string, Token, items, firstWrong, tokens, contents, between}
@@ -42,12 +42,12 @@ spellTok semiColon = 59 ∷ []
 spellTok equals = 61 ∷ []
 spellTok comma = 44 ∷ []
 spellTok slash = 47 ∷ []
-spellTok importKeyword = import′
-spellTok letKeyword = let′
+spellTok importKeyword = importWord
+spellTok letKeyword = letWord
 -- never met: a name's content has its bytes
 spellTok identifier = []
-spellTok (booleanLiteral true) = true′
-spellTok (booleanLiteral false) = false′
+spellTok (booleanLiteral true) = trueWord
+spellTok (booleanLiteral false) = falseWord
 spellTok (ipv4Literal n) = spellQuad n
 spellTok (hexLiteral n) = 48 ∷ 120 ∷ spellDigits (hexadecimal n)
 spellTok (decLiteral n) = spellDigits (decimal n)

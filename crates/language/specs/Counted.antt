@@ -21,17 +21,17 @@ abbrev pub alike : Content → Content → Bool
 alike c d = eqb (contentKind c) (contentKind d)
 
 -- what a token does to the count
-pub data Turn : Type 0 where
+pub data Effect : Type 0 where
   -- nothing more is read
-  over : Turn
+  over : Effect
   -- it is a 33rd open list or a 65th step
-  oneMore : Turn
+  oneMore : Effect
   -- so many steps are then made in the expression that is being read, and in those around it
-  counts : ℕ → List ℕ → Turn
+  counts : ℕ → List ℕ → Effect
 
 -- `made` are the steps so far in the expression that is being read, `outer` those in the expressions around it: one for each list
 -- that is open, the innermost first
-unfoldable pub turn : Content → ℕ → List ℕ → Turn
+unfoldable pub turn : Content → ℕ → List ℕ → Effect
 turn c made outer =
     if′ (alike c eof) over
     -- `(` is a step, and in the list that it opens an expression starts

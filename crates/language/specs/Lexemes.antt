@@ -107,25 +107,25 @@ same [] (y ∷ ys) = false
 same (x ∷ xs) [] = false
 same (x ∷ xs) (y ∷ ys) = eqb x y && same xs ys
 
-abbrev pub import′ : List ℕ
-import′ = 105 ∷ 109 ∷ 112 ∷ 111 ∷ 114 ∷ 116 ∷ []
+abbrev pub importWord : List ℕ
+importWord = 105 ∷ 109 ∷ 112 ∷ 111 ∷ 114 ∷ 116 ∷ []
 
-abbrev pub let′ : List ℕ
-let′ = 108 ∷ 101 ∷ 116 ∷ []
+abbrev pub letWord : List ℕ
+letWord = 108 ∷ 101 ∷ 116 ∷ []
 
-abbrev pub true′ : List ℕ
-true′ = 116 ∷ 114 ∷ 117 ∷ 101 ∷ []
+abbrev pub trueWord : List ℕ
+trueWord = 116 ∷ 114 ∷ 117 ∷ 101 ∷ []
 
-abbrev pub false′ : List ℕ
-false′ = 102 ∷ 97 ∷ 108 ∷ 115 ∷ 101 ∷ []
+abbrev pub falseWord : List ℕ
+falseWord = 102 ∷ 97 ∷ 108 ∷ 115 ∷ 101 ∷ []
 
 -- "`import`, `let`, `true`, `false` are reserved"
 unfoldable pub word : List ℕ → Tok
 word w =
-    if′ (same w import′) importKeyword
-    (if′ (same w let′) letKeyword
-    (if′ (same w true′) (booleanLiteral true)
-    (if′ (same w false′) (booleanLiteral false) identifier)))
+    if′ (same w importWord) importKeyword
+    (if′ (same w letWord) letKeyword
+    (if′ (same w trueWord) (booleanLiteral true)
+    (if′ (same w falseWord) (booleanLiteral false) identifier)))
 
 -- ---- numbers
 

@@ -4,7 +4,7 @@ use mathlib.Core.Path.{_≡_, sym, _∙_}
 use mathlib.Core.Bool.{Bool, true, false}
 use mathlib.Core.List.{List}
 use borrow.Author.Tests.{ne-eqb}
-use Rattle.language.specs.Lexemes.{same, import′, let′, true′, false′, word, punctuation}
+use Rattle.language.specs.Lexemes.{same, importWord, letWord, trueWord, falseWord, word, punctuation}
 use Rattle.lexemes.specs.declared.Tok.the-variants as tok-is
 use Rattle.lexemes.specs.Kinds.{tokAs}
 use Rattle.scan.specs.declared.Mark.the-variants as mark-is
@@ -15,26 +15,26 @@ pub told : {t u v : Bool} → t ≡ u → t ≡ v → u ≡ v
 told e h = sym e ∙ h
 
 module _ (w : List ℕ) where
-  pub word-import : same w import′ ≡ true → tok-is.ImportKeyword ≡ tokAs (word w)
+  pub word-import : same w importWord ≡ true → tok-is.ImportKeyword ≡ tokAs (word w)
   unfolding word
   word-import h = rw h
 
-  module _ (no-import : same w import′ ≡ false) where
-    pub word-let : same w let′ ≡ true → tok-is.LetKeyword ≡ tokAs (word w)
+  module _ (no-import : same w importWord ≡ false) where
+    pub word-let : same w letWord ≡ true → tok-is.LetKeyword ≡ tokAs (word w)
     unfolding word
     word-let h = rw (no-import, h)
 
-    module _ (no-let : same w let′ ≡ false) where
-      pub word-true : same w true′ ≡ true → tok-is.BooleanLiteral true ≡ tokAs (word w)
+    module _ (no-let : same w letWord ≡ false) where
+      pub word-true : same w trueWord ≡ true → tok-is.BooleanLiteral true ≡ tokAs (word w)
       unfolding word
       word-true h = rw (no-import, no-let, h)
 
-      module _ (no-true : same w true′ ≡ false) where
-        pub word-false : same w false′ ≡ true → tok-is.BooleanLiteral false ≡ tokAs (word w)
+      module _ (no-true : same w trueWord ≡ false) where
+        pub word-false : same w falseWord ≡ true → tok-is.BooleanLiteral false ≡ tokAs (word w)
         unfolding word
         word-false h = rw (no-import, no-let, no-true, h)
 
-        pub word-other : same w false′ ≡ false → tok-is.Identifier ≡ tokAs (word w)
+        pub word-other : same w falseWord ≡ false → tok-is.Identifier ≡ tokAs (word w)
         unfolding word
         word-other h = rw (no-import, no-let, no-true, h)
 
