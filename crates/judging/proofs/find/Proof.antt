@@ -3,7 +3,6 @@ use mathlib.Core.Path.{_≡_, refl, _∙_}
 use Rattle.judging.specs.Judging.{place, namesIn}
 use Rattle.judging.proofs.Names.{search-from, search-hit, search-miss, search-end}
 use borrow.Author.Needs.{needs}
-use native.Mathlib.Omega.{arith}
 use Rattle.judging.proofs.find.Statement.{statement}
 use Rattle.judging.proofs.find.Tie as tie
 
