@@ -17,8 +17,8 @@ use Rattle.language.specs.Canonical.{text}
 use Rattle.language.specs.Numbers as numbers
 use Rattle.language.specs.Numbers.{verdict, lexAnswer, canonised, canonisedWithin, canonAnswer, canonTokens, canonText}
 use Rattle.language.proofs.Done.{canon-done}
-use Rattle.scan.specs.declared.Verdict.{Verdict}
-use Rattle.scan.specs.Scanning.{verdictAs}
+use Rattle.rows.specs.declared.verdict.Verdict.{Verdict}
+use Rattle.rows.specs.Rows.{verdictAs}
 use Rattle.lex.specs.declared.Lexed.{Lexed}
 use Rattle.lex.specs.Entry.{LexSource, Lexes}
 use Rattle.lex.proofs.Left.{verdict-is, not-done, no-tokens, lexes-in, answered, counted, rows, table-size, lexes}

@@ -3,7 +3,7 @@ use mathlib.Core.List.{List}
 use Prim.Native.Nat.{ℕ}
 use Rattle.language.specs.Numbers as numbers
 use Rattle.language.specs.Entries.{CanonPromise}
-use Rattle.scan.specs.Scanning.{verdictAs}
+use Rattle.rows.specs.Rows.{verdictAs}
 use Rattle.canon.specs.declared.Canonised.{Canonised}
 
 abbrev pub canonisedAs : numbers.Canonised → Canonised

@@ -13,11 +13,12 @@ ghost use Rattle.canon.specs.Writing.{Writes, literalsText, literalText,
 ghost use Rattle.lex.specs.Entry.{Lexes};
 ghost use Rattle.canon.specs.Entry.{CanonSource};
 use lexemes::LexemeKind;
+use rows::Source;
 use rows::TokKind;
 use rows::TokenRow;
+use rows::Verdict;
 use scan::Scanner;
 use scan::Step;
-use scan::Verdict;
 use wide::Wide;
 
 pub struct Canonised {
@@ -239,7 +240,7 @@ fn all_text(source: &[u8], toks: &[u64], count: usize, text: &mut [u8]) -> usize
     let mut i = 1;
     let mut at = 0;
     while i < count {
-        if Scanner::MOST_BYTES < at {
+        if Source::MOST_BYTES < at {
             return at;
         }
         let next = i * TokenRow::WORDS;
@@ -289,7 +290,7 @@ pub fn canonicalise(source: &[u8], toks: &mut [u64], text: &mut [u8]) -> Canonis
     if room < size {
         return too_long(toks, text);
     }
-    if Scanner::MOST_BYTES < size {
+    if Source::MOST_BYTES < size {
         return too_long(toks, text);
     }
     Canonised {

@@ -19,8 +19,8 @@ use Rattle.language.specs.Judgements.{Diag, Held, Outcome, errorsIn, warningsIn
 use Rattle.language.specs.Findings.{diagRow, stmtRow}
 use Rattle.language.specs.Numbers as numbers
 use Rattle.language.specs.Numbers.{verdict, tokenOf, placed, tokenPlace, parseAnswer, parseTokens, parseNodes, parsedNodes, statementsOf, firstCall, checked, refusedCheck, judgedWithin, checkAnswer, checkTokens, checkNodes, checkDiags, checkStmts}
-use Rattle.scan.specs.declared.Verdict.{Verdict}
-use Rattle.scan.specs.Scanning.{verdictAs}
+use Rattle.rows.specs.declared.verdict.Verdict.{Verdict}
+use Rattle.rows.specs.Rows.{verdictAs}
 use Rattle.judging.specs.declared.Token.{Token}
 use Rattle.judging.specs.declared.Counts.{Counts}
 use Rattle.judging.specs.Judging.{tokenAs, Lexed}

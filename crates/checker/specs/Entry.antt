@@ -11,8 +11,8 @@ use Rattle.language.specs.Sentences.{program, nodeRow, nodeWidth}
 use Rattle.language.specs.Numbers as numbers
 use Rattle.language.specs.Numbers.{verdict, parsed, parseAnswer, parsedNodes}
 use Rattle.language.specs.Entries.{CheckPromise}
-use Rattle.scan.specs.declared.Verdict.{Verdict}
-use Rattle.scan.specs.Scanning.{verdictAs}
+use Rattle.rows.specs.declared.verdict.Verdict.{Verdict}
+use Rattle.rows.specs.Rows.{verdictAs}
 use Rattle.checker.specs.declared.Call.{Call}
 use Rattle.checker.specs.declared.Call.the-variants.{At, Nowhere}
 use Rattle.checker.specs.declared.CheckAnswer.{CheckAnswer}

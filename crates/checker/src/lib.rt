@@ -12,13 +12,14 @@ ghost use Rattle.language.specs.Sentences.{Node, nodeRow, program};
 ghost use Rattle.language.specs.Judgements.{Diag, Held, judged};
 ghost use Rattle.judging.specs.Judging.{Lexed};
 ghost use Rattle.statements.specs.Checking.{noCounts, Grows};
-ghost use Rattle.scan.specs.Scanning.{verdictAs};
+ghost use Rattle.rows.specs.Rows.{verdictAs};
 ghost use Rattle.checker.specs.Entry.{refusal, callAs, GivesUp, Parses, CheckSource};
 use judging::Counts;
 use rows::NodeKind;
 use rows::NodeRow;
+use rows::StatementRow;
 use rows::TokenRow;
-use scan::Verdict;
+use rows::Verdict;
 use statements::Checker;
 use statements::Turn;
 
@@ -59,8 +60,8 @@ fn first_call(nodes: &[u64]) -> Call
     let mut i = nodes.len() / NodeRow::WORDS;
     while 0 < i {
         i -= 1;
-        if judging::word(nodes, i, NodeRow::KIND) == NodeKind::CALL {
-            found = sooner(judging::word(nodes, i, NodeRow::THIRD), found);
+        if rows::node_word(nodes, i, NodeRow::KIND) == NodeKind::CALL {
+            found = sooner(rows::node_word(nodes, i, NodeRow::THIRD), found);
         }
     }
     found
@@ -118,7 +119,7 @@ fn at_token(toks: &[u64], count: usize, number: u64, t: u64) -> Verdict
     ensures { λ r. ⌜ ((s : List ℕ) → Lexed s (take (7 * count) (now (toks .entry))) → r ≡ verdictAs (placed number (tokenPlace s t))) ⌝ }
 {
     let rows = TokenRow::WORDS * count;
-    let tok = judging::token_at(&toks[..rows], t);
+    let tok = rows::token_at(&toks[..rows], t);
     Verdict::new(number, tok.line, tok.column)
 }
 
@@ -142,7 +143,7 @@ fn conclude(
         table::clear(stmts);
         return done(counts, count, rows, 0);
     }
-    if stmts.len() / Checker::STATEMENT_WORDS < counts.statements {
+    if stmts.len() / StatementRow::WORDS < counts.statements {
         return give_up(
             Verdict::new(Verdict::STATEMENT_ROOM, 0, 0),
             toks,

@@ -5,31 +5,9 @@
 // where its name starts and ends in the text, and its value as three words, which are 0 for a module.
 ghost use mathlib.Core.Path.{_≡_};
 ghost use Prim.Native.Nat.{_+_, _*_, _<_, _≤_};
-ghost use Rattle.language.specs.Lexemes.{same};
-ghost use Rattle.language.specs.Tokens.{between};
 ghost use Rattle.language.specs.Values.{tableText, lookup};
 ghost use Rattle.constants.specs.Constants.{tableRows, orZero, isHit, entryWord, NameText};
-
-// The types of values, by their numbers: in the order of check.rs `Ty`, where those between are types that no value has yet.
-pub struct Ty {}
-
-impl Ty {
-    // of a module, and of a name whose statement failed
-    pub const NONE: u64 = 0;
-    pub const BOOL: u64 = 2;
-    pub const U8: u64 = 3;
-    pub const U16: u64 = 4;
-    pub const U32: u64 = 5;
-    pub const U64: u64 = 6;
-    pub const IP4: u64 = 7;
-    pub const SOCK4: u64 = 8;
-    pub const BYTES: u64 = 9;
-    pub const FUNCTION: u64 = 14;
-    // an integer that has no size yet
-    pub const INTEGER: u64 = 16;
-    // bytes that are in the table's text; their type is shown as `BYTES`
-    pub const TABLE_BYTES: u64 = 17;
-}
+use rows::Ty;
 
 pub struct Constants {
     pub rows: [u64; Constants::WORDS],
@@ -73,47 +51,14 @@ impl Constants {
     }
 }
 
-// The bytes a..e of a text, as far as it has them.
-pub fn part(s: &[u8], a: usize, e: usize) -> &[u8]
-    ensures { λ r. ⌜ now r ≡ between (now (s .entry)) a e ⌝ }
-{
-    if e < a {
-        return &s[..0];
-    }
-    if s.len() < a {
-        return &s[..0];
-    }
-    if s.len() < e {
-        return &s[a..];
-    }
-    &s[a..e]
-}
-
 // A name that a diagnostic shows: a part of the table's text or of the source.
 pub fn name_text<'a>(from_table: bool, source: &'a [u8], text: &'a [u8], a: usize, e: usize) -> &'a [u8]
     ensures { λ r. ⌜ NameText «from_table» (now (source .entry)) (now (text .entry)) a e (now r) ⌝ }
 {
     if from_table {
-        return part(text, a, e);
+        return parts::part(text, a, e);
     }
-    part(source, a, e)
-}
-
-// Whether two names are the same bytes.
-pub fn same(x: &[u8], y: &[u8]) -> bool
-    ensures { λ r. ⌜ r ≡ same (now (x .entry)) (now (y .entry)) ⌝ }
-{
-    if x.len() != y.len() {
-        return false;
-    }
-    let mut i = 0;
-    while i < x.len() {
-        if x[i] != y[i] {
-            return false;
-        }
-        i += 1;
-    }
-    true
+    parts::part(source, a, e)
 }
 
 // Word j of the entry numbered k, 0 where there is no such entry.
@@ -147,7 +92,7 @@ fn is_hit(
     }
     let a = rows[at + Constants::NAME_START] as usize;
     let e = rows[at + Constants::NAME_END] as usize;
-    same(part(text, a, e), name)
+    parts::same(parts::part(text, a, e), name)
 }
 
 // The number of a module's entry with a name, or 0.

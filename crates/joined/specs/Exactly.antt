@@ -6,7 +6,7 @@ use Rattle.language.specs.Tables.{lexemeWidth, tokenWidth}
 use Rattle.language.specs.Sentences.{nodeWidth}
 use Rattle.language.specs.Findings.{stmtWidth}
 use Rattle.language.specs.Exactly.{Row, Exactly, scanRows, lexRows, parseRows, canonRows, checkRows}
-use Rattle.scan.specs.declared.Verdict.{Verdict}
+use Rattle.rows.specs.declared.verdict.Verdict.{Verdict}
 use Rattle.scan.specs.declared.Scanned.{Scanned}
 use Rattle.scan.specs.Entry.{ScanLine}
 use Rattle.lex.specs.declared.Lexed.{Lexed}

@@ -14,11 +14,12 @@ ghost use Rattle.language.specs.Judgements.{Known, nameAt, literalAt, err, unkn
 ghost use Rattle.constants.specs.Constants.{tableRows};
 ghost use Rattle.judging.specs.Judging.{tokenAs, rowToken, Lexed, valueAs, sock4As, judgedAs, namedAs, TypeShown, TypeText, TypedFault, truncatedAs, faultRow, isIntegral, keyOf, nameWord, nameOf, Keyed, Others, namesIn, place, heldAs, LocalIs, PathIs, Ready, Knows, Agrees, LeafIs, Members, Operand, Narrows, Integral, word, RepAt, Fits, SlashFits, plusWarnings};
 use constants::Constants;
-use constants::Ty;
+use rows::DiagnosticRow;
 use rows::NodeKind;
 use rows::NodeRow;
 use rows::TokKind;
 use rows::TokenRow;
+use rows::Ty;
 use wide::Wide;
 
 // A row of the token table.
@@ -216,9 +217,9 @@ pub fn name_at(source: &[u8], tok: Token) -> &[u8]
     ensures { λ r. ⌜ ((t : ℕ) → tok ≡ tokenAs (tokenOf (now (source .entry)) t) → now r ≡ nameAt (contents (tokens (now (source .entry)))) t) ⌝ }
 {
     if tok.kind == TokKind::IDENTIFIER {
-        return constants::part(source, tok.start as usize, tok.end as usize);
+        return parts::part(source, tok.start as usize, tok.end as usize);
     }
-    constants::part(source, 0, 0)
+    parts::part(source, 0, 0)
 }
 
 // ---- findings
@@ -325,7 +326,7 @@ pub fn put_diag(diags: &mut [u64], row: usize, f: Fault)
     ensures { λ _. ⌜ now (diags .exit) ≡ putRow (now (diags .entry)) row (faultRow f) ⌝ }
 {
     let d = f.detail;
-    let words: [u64; Fault::WORDS] = [
+    let words: [u64; DiagnosticRow::WORDS] = [
         f.line,
         f.column,
         d.severity,
@@ -339,8 +340,8 @@ pub fn put_diag(diags: &mut [u64], row: usize, f: Fault)
         d.third,
     ];
     // the table may have more rows than `put_row` counts
-    if row < diags.len() / Fault::WORDS {
-        let at = row * Fault::WORDS;
+    if row < diags.len() / DiagnosticRow::WORDS {
+        let at = row * DiagnosticRow::WORDS;
         table::put_row(&mut diags[at..], 0, &words);
     }
 }
@@ -372,7 +373,7 @@ fn is_named(source: &[u8], entries: &[Entry], i: usize, key: u64, name: &[u8]) -
     }
     let a = entries[i][Name::START] as usize;
     let e = entries[i][Name::END] as usize;
-    constants::same(constants::part(source, a, e), name)
+    parts::same(parts::part(source, a, e), name)
 }
 
 // How many entries are passed without a look at their names: each has another key. They are taken by fours, so that a long

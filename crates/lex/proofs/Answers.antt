@@ -17,8 +17,8 @@ use Rattle.language.specs.Numbers as numbers
 use Rattle.language.specs.Numbers.{verdict, lexed, lexedWithin, lexical, placed, lexAnswer, lexTable}
 use Rattle.utf8.specs.Decoding.{badOf}
 use Rattle.utf8.specs.declared.Bad.the-variants.{At, Nowhere}
-use Rattle.scan.specs.declared.Verdict.{Verdict}
-use Rattle.scan.specs.Scanning.{verdictAs}
+use Rattle.rows.specs.declared.verdict.Verdict.{Verdict}
+use Rattle.rows.specs.Rows.{verdictAs}
 use Rattle.utf8.proofs.Places.{bad-at, bad-nowhere}
 use Rattle.lex.specs.declared.Lexer.{Lexer}
 use Rattle.lex.specs.declared.Fed.{Fed}

@@ -17,9 +17,10 @@ use Rattle.lexemes.specs.declared.LexemeKind.the-variants as kind-is
 use Rattle.lexemes.specs.declared.Lexeme.{Lexeme}
 use Rattle.scan.specs.declared.Scanner.{Scanner}
 use Rattle.scan.specs.declared.Step.the-variants.{Found, Done}
-use Rattle.scan.specs.declared.Verdict.{Verdict}
+use Rattle.rows.specs.declared.verdict.Verdict.{Verdict}
 use Rattle.lexemes.specs.Kinds.{errorAs, kindAs, errorNumber, errorChar}
-use Rattle.scan.specs.Scanning.{stepAt, verdictAs}
+use Rattle.scan.specs.Scanning.{stepAt}
+use Rattle.rows.specs.Rows.{verdictAs}
 use Rattle.scan.proofs.Turns.{turn, at-end}
 use Rattle.lexemes.proofs.Rows.{same-error}
 use Rattle.lex.specs.declared.Lexer.{Lexer}

@@ -13,8 +13,8 @@ use Rattle.language.specs.Tokens.{tokens}
 use Rattle.language.specs.Numbers as numbers
 use Rattle.language.specs.Numbers.{verdict, lexed, lexAnswer, lexTable}
 use Rattle.language.proofs.Done.{LexesIn, lex-done, lex-done-only, lex-leaves}
-use Rattle.scan.specs.declared.Verdict.{Verdict}
-use Rattle.scan.specs.Scanning.{verdictAs}
+use Rattle.rows.specs.declared.verdict.Verdict.{Verdict}
+use Rattle.rows.specs.Rows.{verdictAs}
 use Rattle.lex.specs.declared.Lexed.{Lexed}
 use Rattle.lex.specs.Entry.{LexSource, Lexes}
 

@@ -15,7 +15,7 @@ use Rattle.language.specs.Tokens.{Line, lineAt, onto, linesFrom, lines, Item, i
 use Rattle.language.proofs.Tests.{by-cases}
 use Rattle.table.specs.Table.{padTo}
 use Rattle.table.proofs.Laws.{tabled-none}
-use Rattle.scan.specs.declared.Verdict.{Verdict}
+use Rattle.rows.specs.declared.verdict.Verdict.{Verdict}
 use Rattle.language.proofs.LexemeSizes.{run-fits}
 use Rattle.lex.specs.declared.Lexer.{Lexer}
 use Rattle.lex.specs.declared.Fed.{Fed}

@@ -15,8 +15,8 @@ use Rattle.language.specs.Lexemes as language
 use Rattle.language.specs.Lexemes.{lParen, rParen, dot, doubleColon, colon, semiColon, equals, comma, slash, importKeyword, letKeyword, identifier, booleanLiteral, ipv4Literal, hexLiteral, decLiteral}
 use Rattle.language.specs.Tables.{tokenRow, tokenWidth}
 use Rattle.language.specs.Tokens.{Token, Piece, gap, body, token, wrong, Item, contentOf, Pending, joined, flushed, pendingToken, itemToken, Wrong, orElse, firstWrong}
-use Rattle.lexemes.specs.declared.Tok.{Tok}
-use Rattle.lexemes.specs.Kinds.{tokAs, tokNumber, tokValue}
+use Rattle.rows.specs.declared.token.Tok.{Tok}
+use Rattle.rows.specs.Tokens.{tokAs, tokNumber, tokValue}
 use Rattle.lex.specs.declared.PendingStr.{PendingStr}
 use Rattle.lex.specs.declared.Lexer.{Lexer}
 use Rattle.lex.specs.Lexing.{State, stated, flushedState, stepTo, feed, PendingIs, Holds, Stands, Strings, Flushes, Tokens, Finishes}

@@ -12,9 +12,9 @@ use Rattle.language.specs.Lexemes.{scan, run, notNewline}
 use Rattle.language.specs.Tables.{tokenRow, tokenWidth}
 use Rattle.language.specs.Tokens.{eof, lines, items, Token, lineAt, Piece, gap, body, token, wrong, Item, itemOf, contentOf, Pending, joined, flushed, itemToken, Wrong, firstWrong, Place, between, bodiesIn, mostBytes}
 use Rattle.language.specs.Numbers as numbers
-use Rattle.lexemes.specs.Kinds.{tokAs}
-use Rattle.scan.specs.Scanning.{verdictAs}
-use Rattle.lexemes.specs.declared.Tok.{Tok}
+use Rattle.rows.specs.Tokens.{tokAs}
+use Rattle.rows.specs.Rows.{verdictAs}
+use Rattle.rows.specs.declared.token.Tok.{Tok}
 use Rattle.lex.specs.declared.PendingStr.{PendingStr}
 use Rattle.lex.specs.declared.Lexer.{Lexer}
 use Rattle.lex.specs.declared.Fed.{Fed}

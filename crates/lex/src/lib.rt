@@ -9,12 +9,13 @@ ghost use Rattle.lexemes.specs.Kinds.{errorNumber, errorChar};
 ghost use Rattle.lex.specs.Lexing.{Strings, Flushes, Tokens, Few, lineItems, Feeds, Finishes, lineEnd, FeedsAll, locAs, nth};
 use lexemes::LexErrorKind;
 use lexemes::LexemeKind;
-use lexemes::Tok;
+use rows::Source;
+use rows::Tok;
 use rows::TokKind;
 use rows::TokenRow;
+use rows::Verdict;
 use scan::Scanner;
 use scan::Step;
-use scan::Verdict;
 use utf8::Bad;
 
 // Adjacent string literals which are being joined in to a single token: where the first stands, where the last ends, and
@@ -311,7 +312,7 @@ pub fn lex_source(source: &[u8], table: &mut [u64]) -> Lexed
 {
     let room = table.len() / TokenRow::WORDS;
     table::clear(table);
-    if Scanner::MOST_BYTES < source.len() {
+    if Source::MOST_BYTES < source.len() {
         return refused(Verdict::new(Verdict::TOO_LONG, 0, 0));
     }
     let bad = utf8::first_bad(source);

@@ -1,47 +1,13 @@
--- A kind that no arm names carries nothing.
-use Prim.Native.Nat.{ℕ}
-use mathlib.Core.Path.{_≡_, refl, sym, ap, _∙_}
-use mathlib.Core.Bool.{true, not, false≢true}
-use mathlib.Core.List.{List, [], _∷_}
-use borrow.Author.Tests.{eq-eqb}
-use lib.Dec.{eqb}
+-- An error that no arm names carries nothing.
+use mathlib.Core.Path.{_≡_, refl}
+use mathlib.Core.List.{[], _∷_}
 use types.Run.{OneOf}
 use denote.Enum.Declared.{tagOf}
-use Rattle.language.specs.Lexemes.{all}
-use Rattle.language.proofs.Tests.{of-each}
-use Rattle.lexemes.specs.declared.Tok.{Tok}
-use Rattle.lexemes.specs.declared.Tok.the-variants as tok-is
+use Rattle.rows.proofs.Plain.{strange}
 use Rattle.lexemes.specs.declared.LexErrorKind.{LexErrorKind}
 use Rattle.lexemes.specs.declared.LexErrorKind.the-variants as error-is
-use Rattle.lexemes.specs.Kinds.{tokValue, zeros, errorChar}
-use Rattle.lexemes.proofs.Tok as tok
+use Rattle.lexemes.specs.Kinds.{errorChar}
 use Rattle.lexemes.proofs.LexErrorKind as error
-
--- x is no key
-strange : (ks : List ℕ) (x : ℕ) → all (λ k. not (eqb k x)) ks ≡ true → OneOf ks x → ⊥
-strange ks x a h = false≢true (ap not (sym (eq-eqb x x refl)) ∙ of-each (λ k. not (eqb k x)) ks x a h)
-
--- the tags of the tokens that carry nothing
-abbrev plain : List ℕ
-plain = 0 ∷ 1 ∷ 2 ∷ 3 ∷ 4 ∷ 5 ∷ 6 ∷ 7 ∷ 8 ∷ 9 ∷ 10 ∷ 11 ∷ []
-
-pub other-token : (t : Tok) → OneOf plain (tagOf tok.the-type t) → zeros ≡ tokValue t
-other-token tok-is.LParen h = refl
-other-token tok-is.RParen h = refl
-other-token tok-is.Dot h = refl
-other-token tok-is.DoubleColon h = refl
-other-token tok-is.Colon h = refl
-other-token tok-is.SemiColon h = refl
-other-token tok-is.Equals h = refl
-other-token tok-is.Comma h = refl
-other-token tok-is.Slash h = refl
-other-token tok-is.ImportKeyword h = refl
-other-token tok-is.LetKeyword h = refl
-other-token tok-is.Identifier h = refl
-other-token (tok-is.BooleanLiteral b) h = absurd (strange plain 12 refl h)
-other-token (tok-is.IPv4Literal n) h = absurd (strange plain 13 refl h)
-other-token (tok-is.HexLiteral w) h = absurd (strange plain 14 refl h)
-other-token (tok-is.DecLiteral w) h = absurd (strange plain 15 refl h)
 
 pub other-error : (e : LexErrorKind) → OneOf (1 ∷ 2 ∷ 3 ∷ 4 ∷ 5 ∷ []) (tagOf error.the-type e) → 0 ≡ errorChar e
 other-error (error-is.UnexpectedChar c) h = absurd (strange (1 ∷ 2 ∷ 3 ∷ 4 ∷ 5 ∷ []) 0 refl h)

@@ -9,8 +9,9 @@ use Rattle.language.specs.Lexemes.{Kind, Placed, trivia, str, tok, error, place
 use Rattle.language.specs.Lexemes.{lParen, rParen, dot, doubleColon, colon, semiColon, equals, comma, slash, importKeyword, letKeyword, identifier, booleanLiteral, ipv4Literal, hexLiteral, decLiteral, unexpectedChar, unterminatedString, intOutOfRange, intLeadingZero, intInvalidSuffix, badIPv4Literal}
 use Rattle.language.specs.Tables.{lexemeRow, lexemeWidth, tokKind, tokLow, tokHigh, errorKind, classOf, kindOf, lowOf, highOf}
 use Rattle.language.specs.Tables as tables
+use Rattle.rows.specs.Tokens.{tokAs, tokNumber, tokValue}
 use Rattle.lexemes.specs.declared.Lexeme.{Lexeme}
-use Rattle.lexemes.specs.Kinds.{tokAs, errorAs, kindAs, lexemeAs, tokNumber, tokValue, errorNumber, errorChar, classNumber, kindNumber, kindValue, rowOf}
+use Rattle.lexemes.specs.Kinds.{errorAs, kindAs, lexemeAs, errorNumber, errorChar, classNumber, kindNumber, kindValue, rowOf}
 
 -- what the numbers of a code's kind are, all four together, so that each kind is met once
 record Same (t : language.Tok) : Type 0 where

@@ -2,12 +2,9 @@
 use Prim.Native.Nat.{ℕ, _+_}
 use mathlib.Core.List.{List, [], _∷_}
 use Rattle.wide.specs.declared.Wide.{Wide}
-use Rattle.wide.specs.Wide.{wideOf}
 use Rattle.language.specs.Lexemes as language
-use Rattle.language.specs.Tables.{bit}
-use Rattle.language.specs.Lexemes.{lParen, rParen, dot, doubleColon, colon, semiColon, equals, comma, slash, importKeyword, letKeyword, identifier, booleanLiteral, ipv4Literal, hexLiteral, decLiteral, unexpectedChar, unterminatedString, intOutOfRange, intLeadingZero, intInvalidSuffix, badIPv4Literal, trivia, str, tok, error}
-use Rattle.lexemes.specs.declared.Tok.{Tok}
-use Rattle.lexemes.specs.declared.Tok.the-variants as tok-is
+use Rattle.language.specs.Lexemes.{unexpectedChar, unterminatedString, intOutOfRange, intLeadingZero, intInvalidSuffix, badIPv4Literal, trivia, str, tok, error}
+use Rattle.rows.specs.Tokens.{tokAs, tokNumber, zeros, tokValue}
 use Rattle.lexemes.specs.declared.LexErrorKind.{LexErrorKind}
 use Rattle.lexemes.specs.declared.LexErrorKind.the-variants as error-is
 use Rattle.lexemes.specs.declared.LexemeKind.{LexemeKind}
@@ -15,24 +12,6 @@ use Rattle.lexemes.specs.declared.LexemeKind.the-variants as kind-is
 use Rattle.lexemes.specs.declared.Lexeme.{Lexeme}
 
 -- ---- values
-
-abbrev pub tokAs : language.Tok → Tok
-tokAs lParen = tok-is.LParen
-tokAs rParen = tok-is.RParen
-tokAs dot = tok-is.Dot
-tokAs doubleColon = tok-is.DoubleColon
-tokAs colon = tok-is.Colon
-tokAs semiColon = tok-is.SemiColon
-tokAs equals = tok-is.Equals
-tokAs comma = tok-is.Comma
-tokAs slash = tok-is.Slash
-tokAs importKeyword = tok-is.ImportKeyword
-tokAs letKeyword = tok-is.LetKeyword
-tokAs identifier = tok-is.Identifier
-tokAs (booleanLiteral b) = tok-is.BooleanLiteral b
-tokAs (ipv4Literal n) = tok-is.IPv4Literal n
-tokAs (hexLiteral n) = tok-is.HexLiteral (wideOf n)
-tokAs (decLiteral n) = tok-is.DecLiteral (wideOf n)
 
 abbrev pub errorAs : language.LexErrorKind → LexErrorKind
 errorAs (unexpectedChar c) = error-is.UnexpectedChar c
@@ -53,45 +32,6 @@ abbrev pub lexemeAs : ℕ → language.Lexeme → Lexeme
 lexemeAs at l = record { start = at; end = at + l .size; kind = kindAs (l .kind) }
 
 -- ---- rows: the code's kinds as numbers
-
-abbrev pub tokNumber : Tok → ℕ
-tokNumber tok-is.LParen = 2
-tokNumber tok-is.RParen = 3
-tokNumber tok-is.Dot = 4
-tokNumber tok-is.DoubleColon = 5
-tokNumber tok-is.Colon = 6
-tokNumber tok-is.SemiColon = 7
-tokNumber tok-is.Equals = 8
-tokNumber tok-is.Comma = 9
-tokNumber tok-is.Slash = 10
-tokNumber tok-is.ImportKeyword = 11
-tokNumber tok-is.LetKeyword = 12
-tokNumber tok-is.Identifier = 13
-tokNumber (tok-is.BooleanLiteral b) = 14
-tokNumber (tok-is.IPv4Literal n) = 15
-tokNumber (tok-is.HexLiteral w) = 17
-tokNumber (tok-is.DecLiteral w) = 18
-
-abbrev pub zeros : Wide
-zeros = record { hi = 0; lo = 0 }
-
-abbrev pub tokValue : Tok → Wide
-tokValue tok-is.LParen = zeros
-tokValue tok-is.RParen = zeros
-tokValue tok-is.Dot = zeros
-tokValue tok-is.DoubleColon = zeros
-tokValue tok-is.Colon = zeros
-tokValue tok-is.SemiColon = zeros
-tokValue tok-is.Equals = zeros
-tokValue tok-is.Comma = zeros
-tokValue tok-is.Slash = zeros
-tokValue tok-is.ImportKeyword = zeros
-tokValue tok-is.LetKeyword = zeros
-tokValue tok-is.Identifier = zeros
-tokValue (tok-is.BooleanLiteral b) = record { hi = 0; lo = bit b }
-tokValue (tok-is.IPv4Literal n) = record { hi = 0; lo = n }
-tokValue (tok-is.HexLiteral w) = w
-tokValue (tok-is.DecLiteral w) = w
 
 abbrev pub errorNumber : LexErrorKind → ℕ
 errorNumber (error-is.UnexpectedChar c) = 1

@@ -1,29 +1,10 @@
-// Lexemes: what the scanner finds at one place of a line, and the words of a lexeme's row. Ports lex.rs `Lexeme`, `LexemeKind`,
-// `LexErrorKind` and the tokens `Tok`; the definitions are `Lexemes` and `Tables` of the crate `language`.
+// Lexemes: what the scanner finds at one place of a line, and the words of a lexeme's row. Ports lex.rs `Lexeme`, `LexemeKind`
+// and `LexErrorKind`; the definitions are `Lexemes` and `Tables` of the crate `language`.
 ghost use mathlib.Core.Path.{_≡_};
-ghost use Rattle.lexemes.specs.Kinds.{tokNumber, tokValue, errorNumber, errorChar, classNumber, kindNumber, kindValue, rowOf};
-use rows::TokKind;
+ghost use Rattle.lexemes.specs.Kinds.{errorNumber, errorChar, classNumber, kindNumber, kindValue, rowOf};
+use rows::LexemeRow;
+use rows::Tok;
 use wide::Wide;
-
-// A token of the resynth language. The bytes of an `Identifier` are its span.
-pub enum Tok {
-    LParen,
-    RParen,
-    Dot,
-    DoubleColon,
-    Colon,
-    SemiColon,
-    Equals,
-    Comma,
-    Slash,
-    ImportKeyword,
-    LetKeyword,
-    Identifier,
-    BooleanLiteral(bool),
-    IPv4Literal(u32),
-    HexLiteral(Wide),
-    DecLiteral(Wide),
-}
 
 // What is wrong with the source.
 pub enum LexErrorKind {
@@ -39,51 +20,6 @@ pub enum LexErrorKind {
     // An integer literal with an unrecognized suffix.
     IntInvalidSuffix,
     IPv4Literal,
-}
-
-impl Tok {
-    // The number of its kind.
-    pub fn kind(self) -> u64
-        ensures { λ r. ⌜ r ≡ tokNumber self ⌝ }
-    {
-        match self {
-            Tok::LParen => TokKind::LPAREN,
-            Tok::RParen => TokKind::RPAREN,
-            Tok::Dot => TokKind::DOT,
-            Tok::DoubleColon => TokKind::DOUBLE_COLON,
-            Tok::Colon => TokKind::COLON,
-            Tok::SemiColon => TokKind::SEMI_COLON,
-            Tok::Equals => TokKind::EQUALS,
-            Tok::Comma => TokKind::COMMA,
-            Tok::Slash => TokKind::SLASH,
-            Tok::ImportKeyword => TokKind::IMPORT_KEYWORD,
-            Tok::LetKeyword => TokKind::LET_KEYWORD,
-            Tok::Identifier => TokKind::IDENTIFIER,
-            Tok::BooleanLiteral(_) => TokKind::BOOLEAN_LITERAL,
-            Tok::IPv4Literal(_) => TokKind::IPV4_LITERAL,
-            Tok::HexLiteral(_) => TokKind::HEX_LITERAL,
-            Tok::DecLiteral(_) => TokKind::DEC_LITERAL,
-        }
-    }
-
-    // The value that a literal carries.
-    pub fn value(self) -> Wide
-        ensures { λ r. ⌜ r ≡ tokValue self ⌝ }
-    {
-        match self {
-            Tok::BooleanLiteral(b) => Wide {
-                hi: 0,
-                lo: b as u64,
-            },
-            Tok::IPv4Literal(a) => Wide {
-                hi: 0,
-                lo: a as u64,
-            },
-            Tok::HexLiteral(v) => v,
-            Tok::DecLiteral(v) => v,
-            _ => Wide { hi: 0, lo: 0 },
-        }
-    }
 }
 
 impl LexErrorKind {
@@ -152,11 +88,6 @@ pub struct Lexeme {
     pub kind: LexemeKind,
 }
 
-impl Lexeme {
-    // How many words a row of the lexeme table has.
-    pub const ROW_WORDS: usize = 6;
-}
-
 fn class_of(kind: LexemeKind) -> u64
     ensures { λ r. ⌜ r ≡ classNumber kind ⌝ }
 {
@@ -194,7 +125,7 @@ fn value_of(kind: LexemeKind) -> Wide
 }
 
 // The words of a lexeme's row.
-pub fn row_of(l: Lexeme) -> [u64; Lexeme::ROW_WORDS]
+pub fn row_of(l: Lexeme) -> [u64; LexemeRow::WORDS]
     ensures { λ r. ⌜ r ≡ rowOf l ⌝ }
 {
     let kind = l.kind;

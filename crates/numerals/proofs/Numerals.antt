@@ -16,14 +16,15 @@ use Rattle.language.specs.Lexemes.{isDigit, isWordStart, isWord, run, digitOf, 
 use Rattle.language.proofs.Tests.{both, inside, inside-test}
 use Rattle.wide.specs.declared.Wide.{Wide}
 use Rattle.wide.specs.Wide.{wideOf}
-use Rattle.lexemes.specs.declared.Tok.{Tok}
-use Rattle.lexemes.specs.declared.Tok.the-variants.{HexLiteral, DecLiteral}
+use Rattle.rows.specs.declared.token.Tok.{Tok}
+use Rattle.rows.specs.declared.token.Tok.the-variants.{HexLiteral, DecLiteral}
 use Rattle.lexemes.specs.declared.LexErrorKind.the-variants.{IntLeadingZero}
 use Rattle.lexemes.specs.declared.LexemeKind.{LexemeKind}
 use Rattle.lexemes.specs.declared.LexemeKind.the-variants as kind-is
 use Rattle.numerals.specs.declared.Number.{Number}
 use Rattle.numerals.specs.declared.Number.the-variants.{Value, Wrong}
-use Rattle.lexemes.specs.Kinds.{tokAs, kindAs}
+use Rattle.lexemes.specs.Kinds.{kindAs}
+use Rattle.rows.specs.Tokens.{tokAs}
 use Rattle.language.specs.Tokens.{between}
 use Rattle.runs.specs.Runs.{runEnd}
 use Rattle.numerals.specs.Numerals.{numberAs}

@@ -12,7 +12,7 @@ ghost use Rattle.runs.specs.Runs.{runEnd};
 ghost use Rattle.numerals.specs.Numerals.{Base, numberAs, octetAs, Below, joinedAs, quadAs};
 use lexemes::LexErrorKind;
 use lexemes::LexemeKind;
-use lexemes::Tok;
+use rows::Tok;
 use wide::Scaled;
 use wide::Wide;
 

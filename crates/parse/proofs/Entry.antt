@@ -17,8 +17,8 @@ use Rattle.language.specs.Sentences as sentences
 use Rattle.language.specs.Numbers as numbers
 use Rattle.language.specs.Numbers.{verdict, lexAnswer, parsed, tokenPlace, parseAnswer, parseTokens, parseNodes}
 use Rattle.language.proofs.Tests.{never}
-use Rattle.scan.specs.declared.Verdict.{Verdict}
-use Rattle.scan.specs.Scanning.{verdictAs}
+use Rattle.rows.specs.declared.verdict.Verdict.{Verdict}
+use Rattle.rows.specs.Rows.{verdictAs}
 use Rattle.lex.specs.declared.Lexed.{Lexed}
 use Rattle.lex.specs.Entry.{LexSource}
 use Rattle.lex.proofs.Left.{verdict-is, not-done, no-tokens, table-size, lexes}

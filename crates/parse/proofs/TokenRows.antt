@@ -15,7 +15,7 @@ use Rattle.language.specs.Tokens.{Token, contents, items, tokensFrom, eofToken,
 use Rattle.language.specs.Numbers.{tokenPlace}
 use Rattle.language.proofs.TokenClaims.{places-right, tokens-in-order}
 use Rattle.language.proofs.TokensAt.{row-width, long-tokens, some-token, last-token, past-token}
-use Rattle.scan.specs.declared.Verdict.{Verdict}
+use Rattle.rows.specs.declared.verdict.Verdict.{Verdict}
 use Rattle.parse.specs.Parsing.{Rep, rowVerdict, verdictAt}
 use Rattle.parse.proofs.Rows.{represented}
 

@@ -5,8 +5,8 @@ use Prim.Native.Nat.{ℕ}
 use Rattle.table.specs.Table.{padTo}
 use Rattle.language.specs.Numbers as numbers
 use Rattle.language.specs.Entries.{ParsePromise}
-use Rattle.scan.specs.declared.Verdict.{Verdict}
-use Rattle.scan.specs.Scanning.{verdictAs}
+use Rattle.rows.specs.declared.verdict.Verdict.{Verdict}
+use Rattle.rows.specs.Rows.{verdictAs}
 pub use Rattle.lex.specs.Entry.{Lexes}
 use Rattle.parse.specs.declared.ParseAnswer.{ParseAnswer}
 

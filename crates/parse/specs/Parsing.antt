@@ -10,7 +10,7 @@ use Rattle.language.specs.Choice.{if′}
 use Rattle.language.specs.Tables.{contentKind}
 use Rattle.language.specs.Tokens.{Content, eof, mostTokens}
 use Rattle.language.specs.Sentences.{Expr, Args, given, named, Stmt, expr′, firstOf, Port, port, tooLarge, notPort, portOf, Out, ok, no, andThen, mostLists, exprAt, ended, Node, exprNodes, argNodes, lastOf, stmtNodes, nodes, nodeRow, nodeWidth, largestPort}
-use Rattle.scan.specs.declared.Verdict.{Verdict}
+use Rattle.rows.specs.declared.verdict.Verdict.{Verdict}
 use Rattle.parse.specs.declared.Parsed.{Parsed}
 use Rattle.parse.specs.declared.Parsed.the-variants.{Done, Refused}
 use Rattle.parse.specs.declared.Listed.{Listed}

@@ -14,7 +14,7 @@ use rows::NodeKind;
 use rows::NodeRow;
 use rows::TokKind;
 use rows::TokenRow;
-use scan::Verdict;
+use rows::Verdict;
 use wide::Wide;
 
 // What a part of the grammar came to.

@@ -3,7 +3,7 @@ ghost use Prim.Native.Nat.{_≤_};
 ghost use lib.ListN.{length};
 use crate::input::digit;
 use crate::words::find;
-use constants::same;
+use parts::same;
 
 pub enum Mode {
     // rows

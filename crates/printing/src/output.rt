@@ -41,7 +41,7 @@ pub fn bad_input(out: &mut [u8], at: usize) {
 }
 
 fn last_digits(out: &mut [u8], at: usize, digits: &[u8; Wide::MOST_DIGITS], start: usize) -> usize {
-    text(out, at, constants::part(digits, start, Wide::MOST_DIGITS))
+    text(out, at, parts::part(digits, start, Wide::MOST_DIGITS))
 }
 
 // A number in decimal.

@@ -2,8 +2,8 @@
 ghost use Prim.Native.Nat.{_+_, _≤_};
 ghost use lib.ListN.{length};
 use crate::output;
-use constants::part;
 use lexemes::LexErrorKind;
+use parts::part;
 use rows::TokKind;
 use rows::TokenRow;
 use wide::Wide;

@@ -1,7 +1,7 @@
 // What is printed where there is no answer.
 use crate::output;
 use crate::token;
-use scan::Verdict;
+use rows::Verdict;
 
 // Which kind of its number a refusal is, for the numbers that have kinds.
 fn kind_of(verdict: Verdict, out: &mut [u8], at: usize) -> usize {

@@ -2,10 +2,10 @@
 // own.
 ghost use Prim.Native.Nat.{_≤_};
 use crate::sources;
-use lexemes::Lexeme;
 use printing::header::Mode;
 use printing::input::Line;
 use printing::input::Unread;
+use rows::LexemeRow;
 use rows::NodeRow;
 use rows::TokenRow;
 use showing_check::Diagnostic;
@@ -45,7 +45,7 @@ fn token_words(mode: Mode, rows: u64) -> usize
 {
     let n = at_most(rows, Lent::TOKENS);
     if let Mode::Scan = mode {
-        return n * Lexeme::ROW_WORDS;
+        return n * LexemeRow::WORDS;
     }
     n * TokenRow::WORDS
 }

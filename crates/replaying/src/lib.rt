@@ -7,11 +7,11 @@
 mod lent;
 mod sources;
 
-use printing::header;
 use printing::header::Mode;
-use printing::input;
+use printing::header;
 use printing::input::Line;
 use printing::input::Unread;
+use printing::input;
 use printing::output;
 
 pub fn run() {

@@ -2,8 +2,8 @@
 use libc::STDIN_FILENO;
 use printing::output;
 use rows::NodeRow;
+use rows::Source;
 use rows::TokenRow;
-use scan::Scanner;
 use showing_check::Diagnostic;
 use showing_check::Statement;
 
@@ -53,7 +53,7 @@ fn run(source: &mut [u8], out: &mut [u8]) {
 
 fn main() {
     // a byte longer than any source that is taken, so that one which is too long is still too long here
-    let mut source = [0u8; Scanner::MOST_BYTES + 1];
+    let mut source = [0u8; Source::MOST_BYTES + 1];
     let mut out = [0u8; 65536];
     run(&mut source, &mut out);
 }

@@ -17,9 +17,9 @@ use Rattle.language.specs.Numbers.{verdict, scanned, scanAnswer, scanTable}
 use Rattle.utf8.specs.Decoding.{badOf}
 use Rattle.utf8.specs.declared.Bad.the-variants.{At, Nowhere}
 use Rattle.utf8.proofs.Places.{bad-at, bad-nowhere}
-use Rattle.scan.specs.declared.Verdict.{Verdict}
+use Rattle.rows.specs.declared.verdict.Verdict.{Verdict}
 use Rattle.scan.specs.declared.Scanned.{Scanned}
-use Rattle.scan.specs.Scanning.{verdictAs}
+use Rattle.rows.specs.Rows.{verdictAs}
 use Rattle.scan.specs.Entry.{ScanLine}
 
 module _ (line : List ℕ) (room : ℕ) where

@@ -15,7 +15,7 @@ use Rattle.language.specs.Choice.{if′}
 use Rattle.language.specs.Lexemes as language
 use Rattle.language.specs.Lexemes.{isDigit, isWord, run, octet, quad, notQuad, joined, further, quadFrom, quadLexeme, integer, number, lexemeOf, error, badIPv4Literal}
 use Rattle.language.proofs.Tests.{never}
-use Rattle.lexemes.specs.declared.Tok.the-variants.{IPv4Literal}
+use Rattle.rows.specs.declared.token.Tok.the-variants.{IPv4Literal}
 use Rattle.lexemes.specs.declared.LexErrorKind.the-variants as error-is
 use Rattle.lexemes.specs.declared.Lexeme.{Lexeme}
 use Rattle.lexemes.specs.declared.LexemeKind.{LexemeKind}

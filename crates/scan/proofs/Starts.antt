@@ -18,13 +18,14 @@ use Rattle.language.proofs.Tests.{inside, either, never}
 use Rattle.runs.proofs.Places.{here}
 use Rattle.utf8.specs.Decoding.{placed}
 use Rattle.utf8.specs.declared.Decoded.the-variants.{Read, Nothing}
-use Rattle.lexemes.specs.declared.Tok.{Tok}
+use Rattle.rows.specs.declared.token.Tok.{Tok}
 use Rattle.lexemes.specs.declared.Lexeme.{Lexeme}
 use Rattle.lexemes.specs.declared.LexemeKind.{LexemeKind}
 use Rattle.lexemes.specs.declared.LexemeKind.the-variants as kind-is
 use Rattle.lexemes.specs.declared.LexErrorKind.the-variants as error-is
 use Rattle.scan.specs.declared.Mark.the-variants.{Is, Not}
-use Rattle.lexemes.specs.Kinds.{tokAs, lexemeAs}
+use Rattle.lexemes.specs.Kinds.{lexemeAs}
+use Rattle.rows.specs.Tokens.{tokAs}
 use Rattle.runs.specs.Runs.{runEnd, blankEnd}
 use Rattle.scan.specs.Scanning.{markAs, wordAt, signOf, stepAt}
 use Rattle.scan.specs.declared.Step.the-variants.{Found, Done}

@@ -5,8 +5,8 @@ use mathlib.Core.Bool.{Bool, true, false}
 use mathlib.Core.List.{List}
 use borrow.Author.Tests.{ne-eqb}
 use Rattle.language.specs.Lexemes.{same, importWord, letWord, trueWord, falseWord, word, punctuation}
-use Rattle.lexemes.specs.declared.Tok.the-variants as tok-is
-use Rattle.lexemes.specs.Kinds.{tokAs}
+use Rattle.rows.specs.declared.token.Tok.the-variants as tok-is
+use Rattle.rows.specs.Tokens.{tokAs}
 use Rattle.scan.specs.declared.Mark.the-variants as mark-is
 use Rattle.scan.specs.Scanning.{markAs}
 

@@ -8,14 +8,15 @@ use Rattle.language.specs.Choice.{if′}
 use Rattle.language.specs.Lexemes as language
 use Rattle.language.specs.Numbers as numbers
 use Rattle.language.specs.Lexemes.{doubleColon, colon, slash, unexpectedChar, tok, error, word, lexemeOf, comment, string, lexeme}
-use Rattle.lexemes.specs.declared.Tok.{Tok}
-use Rattle.lexemes.specs.Kinds.{tokAs, lexemeAs}
+use Rattle.rows.specs.declared.token.Tok.{Tok}
+use Rattle.lexemes.specs.Kinds.{lexemeAs}
+use Rattle.rows.specs.Tokens.{tokAs}
 use Rattle.language.specs.Tokens.{between}
 use Rattle.scan.specs.declared.Mark.{Mark}
 use Rattle.scan.specs.declared.Mark.the-variants as mark-is
 use Rattle.scan.specs.declared.Step.{Step}
 use Rattle.scan.specs.declared.Step.the-variants.{Found, Done}
-use Rattle.scan.specs.declared.Verdict.{Verdict}
+use Rattle.rows.specs.Rows.{verdictAs}
 use Rattle.scan.specs.declared.Scanned.{Scanned}
 
 abbrev pub wordAt : List ℕ → ℕ → ℕ → Tok
@@ -50,9 +51,6 @@ unfoldable pub bodyOf : List ℕ → ℕ → ℕ → List ℕ
 bodyOf s at e = if′ (leb (at + 2) e) (if′ (leb e (length s)) (between s (at + 1) (e - 1)) []) []
 
 -- ---- the answer
-
-abbrev pub verdictAs : numbers.Verdict → Verdict
-verdictAs v = record { number = v .number; kind = v .kind; line = v .line; column = v .column; character = v .character }
 
 abbrev pub scannedAs : numbers.Scanned → Scanned
 scannedAs a = record { verdict = verdictAs (a .verdict); count = a .count }

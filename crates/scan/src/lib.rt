@@ -15,9 +15,12 @@ ghost use Rattle.scan.specs.Scanning.{wordAt, markAs, signOf, stepAt, bo
 use lexemes::LexErrorKind;
 use lexemes::Lexeme;
 use lexemes::LexemeKind;
-use lexemes::Tok;
 use numerals::Octet;
 use numerals::Quad;
+use rows::LexemeRow;
+use rows::Source;
+use rows::Tok;
+use rows::Verdict;
 use utf8::Bad;
 use utf8::Decoded;
 
@@ -131,9 +134,6 @@ pub enum Step {
 }
 
 impl Scanner {
-    // How many bytes a source, and so a line, may have.
-    pub const MOST_BYTES: usize = 65536;
-
     pub fn new() -> Self
         ensures { λ r. ⌜ r .pos ≡ 0 ⌝ }
     {
@@ -282,63 +282,9 @@ pub fn body(line: &[u8], start: usize, end: usize) -> &[u8]
 
 // ---- the entry
 
-// What a call came to: its number, which kind of it, where, and the character of an `UnexpectedChar`. All zero: done.
-pub struct Verdict {
-    pub number: u64,
-    pub kind: u64,
-    pub line: u64,
-    pub column: u64,
-    pub character: u64,
-}
-
 pub struct Scanned {
     pub verdict: Verdict,
     pub count: u64,
-}
-
-impl Verdict {
-    // The numbers, in the order of 01's table; docs/TABLES.md says when each is given.
-    pub const DONE: u64 = 0;
-
-    pub const TOO_LONG: u64 = 1;
-
-    pub const NOT_UTF8: u64 = 2;
-
-    pub const LEXICAL: u64 = 3;
-
-    pub const TOKEN_ROOM: u64 = 4;
-
-    pub const SYNTAX: u64 = 5;
-
-    pub const NODE_ROOM: u64 = 6;
-
-    pub const TOO_DEEP: u64 = 7;
-
-    pub const CALLS: u64 = 8;
-
-    pub const NAMES: u64 = 9;
-
-    pub const TEXT_ROOM: u64 = 10;
-
-    pub const STATEMENT_ROOM: u64 = 11;
-
-    // The kinds of `SYNTAX`, which are those of parse.rs `ParseErrorKind`. The kinds of `LEXICAL` are of `LexErrorKind`.
-    pub const UNEXPECTED_TOKEN: u64 = 1;
-
-    pub const INT_OUT_OF_RANGE: u64 = 2;
-
-    // A number with a place, and no more.
-    pub fn new(number: u64, line: u64, column: u64) -> Self
-        ensures { λ r. ⌜ r ≡ record { number = number; kind = 0; line = line; column = column; character = 0 } ⌝ }
-    {
-        Self {
-            number: number,
-            kind: 0,
-            line: line,
-            column: column,
-            character: 0,
-        }
-    }
 }
 
 // Writes a row for each lexeme of a line into a table of zeros, and answers how many there are. A row that the table has
@@ -367,9 +313,9 @@ fn fill(line: &[u8], table: &mut [u64]) -> u64
 pub fn scan_line(line: &[u8], table: &mut [u64]) -> Scanned
     ensures { λ r. ⌜ ScanLine (now (line .entry)) (length (now (table .entry))) r (now (table .exit)) ⌝ }
 {
-    let room = (table.len() / Lexeme::ROW_WORDS) as u64;
+    let room = (table.len() / LexemeRow::WORDS) as u64;
     table::clear(table);
-    if Scanner::MOST_BYTES < line.len() {
+    if Source::MOST_BYTES < line.len() {
         return Scanned {
             verdict: Verdict::new(Verdict::TOO_LONG, 0, 0),
             count: 0,

@@ -2,7 +2,7 @@
 use printing::input;
 use printing::output;
 use printing::verdict;
-use scan::Verdict;
+use rows::Verdict;
 
 pub fn answer(
     source: &[u8],

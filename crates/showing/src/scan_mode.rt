@@ -1,13 +1,13 @@
 // The mode `scan`: each source is one line, and each lexeme a line of the answer.
 ghost use Prim.Native.Nat.{_+_, _≤_};
 ghost use lib.ListN.{length};
-use lexemes::Lexeme;
 use lexemes::LexemeKind;
 use printing::output;
-use printing::token;
 use printing::token::Token;
+use printing::token;
 use printing::verdict;
-use scan::Verdict;
+use rows::LexemeRow;
+use rows::Verdict;
 use wide::Wide;
 
 // A row of the table of lexemes.
@@ -70,12 +70,12 @@ fn lexemes(source: &[u8], table: &[u64], count: u64, out: &mut [u8], at: usize) 
     let mut left = count;
     let mut word: usize = 0;
     while 0 < left {
-        if table.len() - word < Lexeme::ROW_WORDS {
+        if table.len() - word < LexemeRow::WORDS {
             return p;
         }
         let row = row_at(table, word);
         p = lexeme(source, row, out, p);
-        word += Lexeme::ROW_WORDS;
+        word += LexemeRow::WORDS;
         left -= 1;
     }
     p

@@ -1,11 +1,11 @@
 // Whole answers: what was found, what the check program prints, and what the mode `check` does.
-use crate::diagnostic;
-use crate::statement;
 use checker::CheckAnswer;
 use constants::Constants;
+use crate::diagnostic;
+use crate::statement;
 use printing::output;
 use printing::verdict;
-use scan::Verdict;
+use rows::Verdict;
 
 // A sum, or the largest number there is.
 fn sum(a: u64, b: u64) -> u64 {

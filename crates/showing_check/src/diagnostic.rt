@@ -3,10 +3,11 @@ ghost use Prim.Native.Nat.{_≤_};
 ghost use lib.ListN.{length};
 use crate::texts;
 use crate::types;
-use constants::Ty;
-use judging::Text;
 use printing::output;
 use printing::words;
+use rows::DiagnosticRow;
+use rows::Text;
+use rows::Ty;
 use statements::Checker;
 use wide::Wide;
 
@@ -15,7 +16,7 @@ pub struct Diagnostic {}
 
 impl Diagnostic {
     // How many words a row has.
-    pub const ROW_WORDS: usize = Checker::DIAGNOSTIC_WORDS;
+    pub const ROW_WORDS: usize = DiagnosticRow::WORDS;
 
     const COLUMN: usize = 1;
 

@@ -4,10 +4,11 @@ ghost use Prim.Native.Nat.{_≤_};
 ghost use lib.ListN.{length};
 use crate::texts;
 use crate::types;
-use constants::Ty;
-use judging::Text;
 use printing::output;
 use printing::token;
+use rows::StatementRow;
+use rows::Text;
+use rows::Ty;
 use statements::Checker;
 
 // A row of the table of statements: which its words are, after the line.
@@ -15,7 +16,7 @@ pub struct Statement {}
 
 impl Statement {
     // How many words a row has.
-    pub const ROW_WORDS: usize = Checker::STATEMENT_WORDS;
+    pub const ROW_WORDS: usize = StatementRow::WORDS;
 
     const COLUMN: usize = 1;
 

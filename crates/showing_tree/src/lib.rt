@@ -5,7 +5,7 @@ mod node;
 mod tree;
 
 use printing::verdict;
-use scan::Verdict;
+use rows::Verdict;
 
 pub fn answer(
     source: &[u8],

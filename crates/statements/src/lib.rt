@@ -14,7 +14,6 @@ ghost use Rattle.language.specs.Judgements.{Known, nameAt, stmt, judgeAll, most
 ghost use Rattle.judging.specs.Judging.{tokenAs, Lexed, keyOf, Keyed, Ready, Knows, RepAt, faultRow, word, plusWarnings};
 ghost use Rattle.statements.specs.Checking.{plusError, plusStatement, plusName, plusImport, entryRow, HeldRow, bareAs, Narrow, Shown, Tells, Exprs, Turns, Binds, Room, StmtFits, StmtsAt, RowFits, RowTurns, noCounts, Comes};
 use constants::Constants;
-use constants::Ty;
 use judging::Counts;
 use judging::Detail;
 use judging::Entry;
@@ -22,12 +21,15 @@ use judging::Fault;
 use judging::Judged;
 use judging::Judgement;
 use judging::Name;
-use judging::Text;
-use judging::Token;
 use judging::Value;
+use rows::DiagnosticRow;
 use rows::NodeKind;
 use rows::NodeRow;
+use rows::StatementRow;
+use rows::Text;
 use rows::TokKind;
+use rows::Token;
+use rows::Ty;
 use wide::Size;
 use wide::Wide;
 
@@ -41,7 +43,7 @@ impl Checker {
     pub const IMPORTS: usize = 64;
 
     // How many words a row of the diagnostic table and a row of the statement table have.
-    pub const DIAGNOSTIC_WORDS: usize = Fault::WORDS;
+    pub const DIAGNOSTIC_WORDS: usize = DiagnosticRow::WORDS;
 
     pub const STATEMENT_WORDS: usize = 7;
 
@@ -148,7 +150,7 @@ fn name_span(tok: Token) -> Span
 fn key_at(source: &[u8], tok: Token) -> u64
     ensures { λ r. ⌜ ((t : ℕ) → tok ≡ tokenAs (tokenOf (now (source .entry)) t) → r ≡ keyOf (nameAt (contents (tokens (now (source .entry)))) t)) ⌝ }
 {
-    judging::key_of(judging::name_at(source, tok))
+    judging::key_of(rows::name_at(source, tok))
 }
 
 // Writes an entry of a table of names.
@@ -189,7 +191,7 @@ fn put_stmt(stmts: &mut [u64], row: usize, tok: Token, v: Value)
     ensures { λ _. ⌜ HeldRow tok v row (now (stmts .entry)) (now (stmts .exit)) ⌝ }
 {
     let text = shown(v);
-    let words: [u64; Checker::STATEMENT_WORDS] = [
+    let words: [u64; StatementRow::WORDS] = [
         tok.line,
         tok.column,
         Checker::DISCARD,
@@ -198,8 +200,8 @@ fn put_stmt(stmts: &mut [u64], row: usize, tok: Token, v: Value)
         text.start,
         text.end,
     ];
-    if row < stmts.len() / Checker::STATEMENT_WORDS {
-        let at = row * Checker::STATEMENT_WORDS;
+    if row < stmts.len() / StatementRow::WORDS {
+        let at = row * StatementRow::WORDS;
         table::put_row(&mut stmts[at..], 0, &words);
     }
 }
@@ -296,7 +298,7 @@ fn tell(
     requires { ⌜ Room counts ⌝ }
     ensures { λ r. ⌜ ((s : List ℕ) → Lexed s (now (toks .entry)) → Tells s t v counts (now (diags .entry)) (now (stmts .entry)) r (now (diags .exit)) (now (stmts .exit))) ⌝ }
 {
-    let tok = judging::token_at(toks, t);
+    let tok = rows::token_at(toks, t);
     match narrow(v) {
         Narrowed::Fits(w) => {
             put_stmt(stmts, counts.statements, tok, w);
@@ -328,7 +330,7 @@ fn expr_stmt(
         → RepAt (now (nodes .entry)) (word (now (nodes .entry)) i 2) e
         → Exprs (now (source .entry)) n k e counts (now (diags .entry)) (now (stmts .entry)) r (now (diags .exit)) (now (stmts .exit))) ⌝ }
 {
-    let e = judging::word(nodes, i, NodeRow::FIRST) as usize;
+    let e = rows::node_word(nodes, i, NodeRow::FIRST) as usize;
     let j = judging::judge(source, toks, nodes, bindings, imports, diags, e, counts);
     let out = j.out;
     let found = j.counts;
@@ -337,7 +339,7 @@ fn expr_stmt(
             toks,
             diags,
             stmts,
-            judging::word(nodes, e, NodeRow::TOKEN),
+            rows::node_word(nodes, e, NodeRow::TOKEN),
             v,
             found,
         ),
@@ -353,7 +355,7 @@ fn module_at(source: &[u8], tok: Token) -> u64
     let table = Constants::new();
     let rows = table.rows;
     let text = table.text;
-    constants::lookup(&rows, &text, 0, judging::name_at(source, tok))
+    constants::lookup(&rows, &text, 0, rows::name_at(source, tok))
 }
 
 // `import` of the name at the token t. A failed import poisons its name, as a failed `let` does.
@@ -372,9 +374,9 @@ fn import(
         → Turns (now (source .entry)) (now (toks .entry)) counts (now (diags .entry)) u r b (now (imports .exit)) (now (diags .exit)) u
         (stmt (contents (tokens (now (source .entry)))) n k (import′ t))) ⌝ }
 {
-    let tok = judging::token_at(toks, t);
+    let tok = rows::token_at(toks, t);
     let imported = counts.imported;
-    let i = judging::find(source, imports, imported, judging::name_at(source, tok));
+    let i = judging::find(source, imports, imported, rows::name_at(source, tok));
     if i < imported {
         return Turn::Went(warn(
             diags,
@@ -453,12 +455,12 @@ fn let_stmt(
         → Turns (now (source .entry)) (now (toks .entry)) counts (now (diags .entry)) u r (now (bindings .exit)) (now (imports .entry)) (now (diags .exit)) u
         (stmt (contents (tokens (now (source .entry)))) n k (let′ (word (now (nodes .entry)) i 1) e))) ⌝ }
 {
-    let t = judging::word(nodes, i, NodeRow::TOKEN);
-    let tok = judging::token_at(toks, t);
+    let t = rows::node_word(nodes, i, NodeRow::TOKEN);
+    let tok = rows::token_at(toks, t);
     let used = counts.used;
-    let at = judging::find(source, bindings, used, judging::name_at(source, tok));
+    let at = judging::find(source, bindings, used, rows::name_at(source, tok));
     if at < used {
-        let first = judging::token_at(toks, bindings[at][Name::TOKEN]);
+        let first = rows::token_at(toks, bindings[at][Name::TOKEN]);
         return Turn::Went(error(
             diags,
             judging::named(
@@ -474,7 +476,7 @@ fn let_stmt(
     if Checker::NAMES <= used {
         return Turn::Full(t);
     }
-    let e = judging::word(nodes, i, NodeRow::FIRST) as usize;
+    let e = rows::node_word(nodes, i, NodeRow::FIRST) as usize;
     let j = judging::judge(source, toks, nodes, bindings, imports, diags, e, counts);
     Turn::Went(bind(bindings, diags, name_span(tok), key_at(source, tok), t, j))
 }
@@ -498,13 +500,13 @@ fn stmt(
         → RowTurns (now (source .entry)) (now (toks .entry)) (now (nodes .entry)) i n k counts (now (bindings .entry)) (now (imports .entry)) (now (diags .entry)) (now (stmts .entry))
         r (now (bindings .exit)) (now (imports .exit)) (now (diags .exit)) (now (stmts .exit)) ss) ⌝ }
 {
-    match judging::word(nodes, i, NodeRow::KIND) {
+    match rows::node_word(nodes, i, NodeRow::KIND) {
         NodeKind::IMPORT => import(
             source,
             toks,
             imports,
             diags,
-            judging::word(nodes, i, NodeRow::TOKEN),
+            rows::node_word(nodes, i, NodeRow::TOKEN),
             counts,
         ),
         NodeKind::LET => let_stmt(source, toks, nodes, bindings, imports, diags, i, counts),

@@ -4,8 +4,8 @@ use Prim.Native.Nat.{ℕ}
 use Rattle.language.specs.Determined.{CallsDetermined}
 use Rattle.language.specs.Numbers as numbers
 use Rattle.language.specs.Entries.{ScanPromise, LexPromise, ParsePromise, CanonPromise, CheckPromise}
-use Rattle.scan.specs.declared.Verdict as scan
-use Rattle.scan.specs.Scanning.{verdictAs}
+use Rattle.rows.specs.declared.verdict.Verdict as scan
+use Rattle.rows.specs.Rows.{verdictAs}
 use Rattle.terkinoha.specs.declared.Verdict.{Verdict}
 use Rattle.terkinoha.specs.declared.Scanned.{Scanned}
 use Rattle.terkinoha.specs.declared.Lexed.{Lexed}

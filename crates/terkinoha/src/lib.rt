@@ -55,7 +55,7 @@ pub struct Checked {
 }
 
 // The verdict of a crate below, as C sees it.
-fn as_c(v: scan::Verdict) -> Verdict
+fn as_c(v: rows::Verdict) -> Verdict
     ensures { λ r. ⌜ r ≡ verdictOf v ⌝ }
 {
     Verdict {

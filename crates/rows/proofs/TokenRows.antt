@@ -13,10 +13,10 @@ use Rattle.language.specs.Judgements.{nameIn, nameAt}
 use Rattle.language.specs.Numbers.{tokenOf}
 use Rattle.language.proofs.TokenTexts.{name-shown}
 use Rattle.language.proofs.TokensAt.{row-width, content-of, long-tokens, last-token, past-token}
-use Rattle.judging.specs.declared.Token.{Token}
-use Rattle.judging.specs.Judging.{tokenAs, rowToken, Lexed}
+use Rattle.rows.specs.declared.token.Token.{Token}
+use Rattle.rows.specs.Tokens.{tokenAs, rowToken, TokenTable}
 
-module _ {s toks : List ℕ} (o : Lexed s toks) where
+module _ {s toks : List ℕ} (o : TokenTable s toks) where
   pub rows-long : length toks ≡ 7 * length (tokens.tokens s)
   rows-long = ap length (o .rows) ∙ length-flat tokenRow 7 row-width (tokens.tokens s) ∙ omega arith
 

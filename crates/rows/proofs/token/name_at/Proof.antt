@@ -1,7 +1,7 @@
-use Rattle.judging.proofs.TokenRows.{is-named, not-named}
+use Rattle.rows.proofs.TokenRows.{is-named, not-named}
 use borrow.Author.Needs.{needs}
-use Rattle.judging.proofs.name_at.Statement.{statement}
-use Rattle.judging.proofs.name_at.Tie as tie
+use Rattle.rows.proofs.token.name_at.Statement.{statement}
+use Rattle.rows.proofs.token.name_at.Tie as tie
 
 returns : tie.Need-returns
 returns c = λ t e. is-named _ t e (c .before .if1 .taken) (c .part .ensures)

@@ -1,7 +1,7 @@
-use Rattle.judging.proofs.TokenRows.{token-in, token-past}
+use Rattle.rows.proofs.TokenRows.{token-in, token-past}
 use borrow.Author.Needs.{needs}
-use Rattle.judging.proofs.token_at.Statement.{statement}
-use Rattle.judging.proofs.token_at.Tie as tie
+use Rattle.rows.proofs.token.token_at.Statement.{statement}
+use Rattle.rows.proofs.token.token_at.Tie as tie
 
 returns : tie.Need-returns
 returns c = λ s o. token-in o _ (c .token-row .ensures) (c .before .if1 .taken)

@@ -4,8 +4,8 @@ use lib.ListN.{length, drop}
 use borrow.Author.Needs.{needs}
 use Rattle.language.specs.Lexemes.{same}
 use Rattle.language.proofs.Sames.{other-size, same-stop, same-more, same-end}
-use Rattle.constants.proofs.same.Statement.{statement}
-use Rattle.constants.proofs.same.Tie as tie
+use Rattle.parts.proofs.same.Statement.{statement}
+use Rattle.parts.proofs.same.Tie as tie
 
 abbrev Inv-loop : tie.InvT-loop
 Inv-loop x y i₀ i = (i ≤ length x) × (length x ≡ length y) × (same (drop i x) (drop i y) ≡ same x y)

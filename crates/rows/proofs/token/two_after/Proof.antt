@@ -1,7 +1,7 @@
-use Rattle.judging.proofs.TokenRows.{token-after}
+use Rattle.rows.proofs.TokenRows.{token-after}
 use borrow.Author.Needs.{needs}
-use Rattle.judging.proofs.two_after.Statement.{statement}
-use Rattle.judging.proofs.two_after.Tie as tie
+use Rattle.rows.proofs.token.two_after.Statement.{statement}
+use Rattle.rows.proofs.token.two_after.Tie as tie
 
 returns : tie.Need-returns
 returns c = λ s o. c .token-at .ensures s o

@@ -2,8 +2,8 @@ use native.Mathlib.Nat.{le-of-lt}
 use mathlib.Core.Path.{sym}
 use Rattle.language.proofs.Parts.{part-none, part-past, part-rest}
 use borrow.Author.Needs.{needs}
-use Rattle.constants.proofs.part.Statement.{statement}
-use Rattle.constants.proofs.part.Tie as tie
+use Rattle.parts.proofs.part.Statement.{statement}
+use Rattle.parts.proofs.part.Tie as tie
 
 returns : tie.Need-returns
 returns c = sym (part-none _ _ _ (le-of-lt (c .before .if1 .taken)))
