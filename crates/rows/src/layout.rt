@@ -56,34 +56,24 @@ impl NodeRow {
     pub const THIRD: usize = 4;
 }
 
-// What a check finds. What the last three mean depends on the kind.
-pub struct DiagnosticRow {}
+// What a check finds. What `text`, `start` and `end` name is which text its name is in, and where; what the last three mean
+// depends on the kind.
+pub struct DiagnosticRow {
+    pub line: u64,
+    pub column: u64,
+    pub severity: u64,
+    pub kind: u64,
+    pub text: u64,
+    pub start: u64,
+    pub end: u64,
+    pub ty: u64,
+    pub first: u64,
+    pub second: u64,
+    pub third: u64,
+}
 
 impl DiagnosticRow {
     pub const WORDS: usize = 11;
-
-    pub const LINE: usize = 0;
-
-    pub const COLUMN: usize = 1;
-
-    pub const SEVERITY: usize = 2;
-
-    pub const KIND: usize = 3;
-
-    // which text its name is in, and where
-    pub const TEXT: usize = 4;
-
-    pub const START: usize = 5;
-
-    pub const END: usize = 6;
-
-    pub const TYPE: usize = 7;
-
-    pub const FIRST: usize = 8;
-
-    pub const SECOND: usize = 9;
-
-    pub const THIRD: usize = 10;
 }
 
 // What a check holds.

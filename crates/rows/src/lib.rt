@@ -26,4 +26,5 @@ pub use token::TokKind;
 pub use token::Token;
 pub use types::Text;
 pub use types::Ty;
+pub use types::Type;
 pub use verdict::Verdict;

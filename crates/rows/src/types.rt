@@ -47,3 +47,9 @@ impl Text {
     // the constant table's
     pub const TABLE: u64 = 2;
 }
+
+// A type as rows show it: its number, and of a function its entry in the constant table, else 0.
+pub struct Type {
+    pub kind: u64,
+    pub entry: u64,
+}
