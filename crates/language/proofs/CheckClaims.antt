@@ -62,7 +62,7 @@ module _ (s u : List ℕ) where
   module _ {p q : Parsed} (h : SameParse s u p q) where
     same-judged : (room : ℕ) (o : Outcome)
         → SameCheck s u (judgedWithin s room (p .tokens) (p .nodes) o) (judgedWithin u room (q .tokens) (q .nodes) o)
-    same-judged room (refused at) = same-at 9 at
+    same-judged room (refused m at) = same-at m at
     same-judged room (judged ds hs) = rw (h .tokens, h .nodes) (same-within room (q .tokens) (q .nodes) ds hs)
 
     -- after parsing, by the first call

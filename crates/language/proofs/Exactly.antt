@@ -11,7 +11,7 @@ use Rattle.language.specs.Lexemes.{scan}
 use Rattle.language.specs.Tokens.{mostBytes, items, firstWrong, tokens, contents, placeOf}
 use Rattle.language.specs.Canonical.{text}
 use Rattle.language.specs.Sentences.{Out, ok, no, Stmt, nodes}
-use Rattle.language.specs.Judgements.{Outcome, judged, refused, errorsIn}
+use Rattle.language.specs.Judgements.{Outcome, judged, refused, namesNumber, errorsIn}
 use Rattle.language.specs.Numbers.{Verdict, verdict, placed, lexical, tokenPlace, Scanned, scanned, scanAnswer, Lexed, lexed, lexAnswer, Parsed, parsedAs, parseAnswer, parsedNodes, Canonised, canonAnswer, Checked, refusedCheck, firstCall, statementsOf, checked, judgedWithin, checkAnswer}
 use Rattle.language.specs.Names.{FirstTooMany}
 use Rattle.language.specs.Exactly.{TooLong, NotUtf8, WrongLexeme, TokensExceed, Unexpected, OneMore, NodesExceed, bare, done, lexing, sentences, judging, parse, Reason, unexpectedToken, intOutOfRange, oneTooMany, scanRows, lexRows, parseRows, canonRows, checkRows, ScanExactly, LexExactly, ParseExactly, CanonExactly, CheckExactly}
@@ -130,15 +130,17 @@ canon-exactly s t n =
 
 -- ---- check
 
-refused-at : (s : List ℕ) (at : ℕ) → checked s ≡ refused at ↔ FirstTooMany (contents (tokens s)) (statementsOf (parse s)) at
+refused-at : (s : List ℕ) (m at : ℕ) → checked s ≡ refused m at ↔ (m ≡ namesNumber) × FirstTooMany (contents (tokens s)) (statementsOf (parse s)) at
 unfolding checked
-refused-at s at = names-refused (contents (tokens s)) (statementsOf (parse s)) at
+refused-at s m at = names-refused (contents (tokens s)) (statementsOf (parse s)) m at
 
 judged-met : (s : List ℕ) (room t n : ℕ) (o : Outcome) → checked s ≡ o
     → Met (judgedWithin s room t n o .verdict) (drop 1 (judging s room) ++ done)
-judged-met s room t n (refused at) e = here (rowOf 9 (judging s room)) (record { token = at; found = refused-at s at .0 e }) refl refl
+judged-met s room t n (refused m at) e =
+    let f = refused-at s m at .0 e in
+    rw (f .0) (here (rowOf 9 (judging s room)) (record { token = at; found = f .1 }) refl refl)
 judged-met s room t n (judged ds hs) e =
-    later (λ h. let f = refused-at s (h .token) .1 (h .found) in never (cc))
+    later (λ h. let f = refused-at s namesNumber (h .token) .1 (refl, h .found) in never (cc))
     (rw e
     (both-tested (λ (a : Checked). a .verdict) 11 (eqb (errorsIn ds) 0) (ltb room (length hs)) (equal (errorsIn ds) 0)
     (less room (length hs)) refl all-done all-done))

@@ -16,7 +16,7 @@ use Rattle.language.specs.Tokens.{Content, eof, plain, name, string}
 use Rattle.language.specs.Sentences.{Expr, Stmt, firstOf, Out, ok, no, is, program}
 use Rattle.language.specs.Grammar.{PathNames, is-start, is-name, Chain, is-literal, is-address, is-sock4, is-local, is-path, is-member, is-call, Slashed, is-chain, is-slash, Expression, is-expression, Statement, is-import, is-let, is-expr, Program, is-end, is-next}
 use Rattle.language.specs.Values.{Value, isInteger, isBool, isSized, isIp4, isSock4, isString, isText, isFunction, Ty, tyBool, tyInt, tyIp4, tySock4, tyBytes, tyFunction, tyInteger, typeOf, Entry, entry, tableText, entries, entryAt, entryName, lookupFrom, lookup}
-use Rattle.language.specs.Judgements.{left, right, What, unknownName, unknownItem, unknownModule, notImported, notAModule, notAValue, alreadyBound, noMembers, operandType, integralTooLarge, multipleImports, discardedValue, truncated, Diag, Judged, val, err, poisoned, Judgement, judgement, andThen, goesOn, ip4Of, integerOf, Known, known, Import, Binding, Held, Turn, goes, full, Outcome, firstNamed, find, findImport, mostImports, mostNames, content, nameAt, tokValue, literalValue, leftOf, rightOf, cut, narrowed, lastItem, innerItem, walk, below, boundTo, judge, imported, importStmt, bound, letStmt, discarded, told, stmt, onward, run, judgeAll}
+use Rattle.language.specs.Judgements.{left, right, What, unknownName, unknownItem, unknownModule, notImported, notAModule, notAValue, alreadyBound, noMembers, operandType, integralTooLarge, multipleImports, discardedValue, truncated, Diag, Judged, val, err, poisoned, Judgement, judgement, andThen, goesOn, ip4Of, integerOf, Known, known, Import, Binding, Held, Turn, goes, refuses, Outcome, firstNamed, find, findImport, mostImports, mostNames, content, nameAt, tokValue, literalValue, leftOf, rightOf, cut, narrowed, lastItem, innerItem, walk, below, boundTo, judge, imported, importStmt, bound, letStmt, discarded, told, stmt, onward, run, judgeAll}
 use Rattle.language.specs.Numbers.{statementsOf, foundBy, heldBy}
 use Rattle.language.specs.Checks.{PartOf}
 use Rattle.language.proofs.Tests.{both, each-side}
@@ -315,7 +315,7 @@ module _ (ts : List Content) where
 
   abbrev Turned : Turn → Type 0
   Turned (goes k ds hs) = Sure k × Each Stands ds × Each Kept hs
-  Turned (full t) = Unit {0}
+  Turned (refuses m t) = Unit {0}
 
   module _ (n : ℕ) (k : Known) (sure : Sure k) where
     -- with a value or a module more
@@ -374,7 +374,7 @@ module _ (ts : List Content) where
       → Each Stands ds → Each Kept hs
       → ((k : Known) (es : List Diag) (gs : List Held) → Sure k → Each Stands es → Each Kept gs → Grounded (f k es gs))
       → Grounded (onward ts t ds hs f)
-  onward-grounded (full t) ds hs f h a b g = record { found = of-none; kept = of-none }
+  onward-grounded (refuses m t) ds hs f h a b g = record { found = of-none; kept = of-none }
   onward-grounded (goes k es gs) ds hs f h a b g = g k (ds ++ es) (hs ++ gs) (h .0) (of-both a (h .1)) (of-both b (h .2))
 
   run-grounded : {at next : ℕ} {ss : List Stmt} → Program ts at ss next → (n : ℕ) (k : Known) (ds : List Diag) (hs : List Held)

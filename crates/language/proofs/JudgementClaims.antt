@@ -13,7 +13,7 @@ use Rattle.language.specs.Tokens.{Content}
 use Rattle.language.specs.Tables.{bit}
 use Rattle.language.specs.Sentences.{Expr, literal, sock4, local, path, member, call, slash′, Stmt, import′, let′, expr′, firstOf}
 use Rattle.language.specs.Values.{Value, isInteger, isBool, isSized, isIp4, isSock4, isString, isText, isFunction, tyInt, lookup}
-use Rattle.language.specs.Judgements.{truncated, Diag, diag, isError, errorsIn, warningsIn, Judged, val, err, poisoned, Judgement, andThen, goesOn, Known, known, Import, Binding, Held, Turn, goes, full, Outcome, judged, refused, find, findImport, mostImports, mostNames, nameAt, leftOf, rightOf, cut, narrowed, judge, imported, importStmt, bound, letStmt, discarded, told, stmt, onward, run, OneError, StatementsFew, AllCounted, BoundFirst}
+use Rattle.language.specs.Judgements.{truncated, Diag, diag, isError, errorsIn, warningsIn, Judged, val, err, poisoned, Judgement, andThen, goesOn, Known, known, Import, Binding, Held, Turn, goes, refuses, Outcome, judged, refused, find, findImport, mostImports, mostNames, nameAt, leftOf, rightOf, cut, narrowed, judge, imported, importStmt, bound, letStmt, discarded, told, stmt, onward, run, OneError, StatementsFew, AllCounted, BoundFirst}
 use Rattle.language.proofs.Tests.{each-side}
 
 pub all-counted : AllCounted
@@ -92,7 +92,7 @@ pub data Adds (ws : List Diag) : List Diag → List Held → Type 0 where
 
 abbrev pub AddsTo : List Diag → Turn → Type 0
 AddsTo ws (goes k ds hs) = Adds ws ds hs
-AddsTo ws (full t) = Unit
+AddsTo ws (refuses m t) = Unit
 
 module _ (ts : List Content) (n : ℕ) (k : Known) where
   abbrev pub warnsOf : Stmt → List Diag
@@ -137,7 +137,7 @@ module _ (ts : List Content) (n : ℕ) (k : Known) where
 -- as many errors as one at the most, and as many statements
 Few : Turn → Type 0
 Few (goes k ds hs) = (errorsIn ds ≤ 1) × (length hs ≤ 1)
-Few (full t) = Unit
+Few (refuses m t) = Unit
 
 one-at-most : (d : Diag) → errorsIn (d ∷ []) ≤ 1
 unfolding errorsIn
@@ -156,7 +156,7 @@ few-added {ws} h (holding d x) = (one-more ws d h, omega arith)
 few-turn : (ws : List Diag) (t : Turn) → errorsIn ws ≡ 0 → AddsTo ws t → Few t
 unfolding Few
 few-turn ws (goes k ds hs) h a = few-added h a
-few-turn ws (full t) h a = tt
+few-turn ws (refuses m t) h a = tt
 
 module _ (ts : List Content) (n : ℕ) (k : Known) where
   silent : (s : Stmt) → errorsIn (warnsOf ts n k s) ≡ 0
@@ -176,12 +176,12 @@ one-error ts n k k′ s ds hs e = subst Few e (few ts n k s) .0
 
 Fewer : ℕ → Outcome → Type 0
 Fewer m (judged ds hs) = length hs ≤ m
-Fewer m (refused t) = Unit
+Fewer m (refused v t) = Unit
 
 at-most : (m n : ℕ) (o : Outcome) → m ≤ n → Fewer m o → Fewer n o
 unfolding Fewer
 at-most m n (judged ds hs) h f = omega (arith, h, f)
-at-most m n (refused t) h f = tt
+at-most m n (refused v t) h f = tt
 
 module _ (ts : List Content) where
   -- one statement, and those that follow
@@ -189,7 +189,7 @@ module _ (ts : List Content) where
       → ((k : Known) (es : List Diag) (gs : List Held) → Fewer (length gs + m) (f k es gs))
       → Fewer (length hs + suc m) (onward ts t ds hs f)
   unfolding Few Fewer
-  onward-fewer m (full t) ds hs f h g = tt
+  onward-fewer m (refuses v t) ds hs f h g = tt
   onward-fewer m (goes k es gs) ds hs f h g =
       let l : length (hs ++ gs) + m ≤ length hs + suc m = omega (arith, length-append hs gs, h .1) in
       at-most (length (hs ++ gs) + m) (length hs + suc m) (f k (ds ++ es) (hs ++ gs)) l (g k (ds ++ es) (hs ++ gs))

@@ -13,7 +13,7 @@ use Rattle.language.specs.Lexemes.{same}
 use Rattle.language.specs.Tokens.{Content}
 use Rattle.language.specs.Sentences.{Expr, Stmt, import′, let′, expr′, firstOf}
 use Rattle.language.specs.Values.{Value, lookup}
-use Rattle.language.specs.Judgements.{Diag, Judged, val, err, poisoned, Known, known, Import, Binding, Held, Turn, goes, full, refused, firstNamed, find, findImport, mostImports, mostNames, nameAt, narrowed, judge, imported, importStmt, bind, bound, letStmt, discarded, told, stmt, onward, run}
+use Rattle.language.specs.Judgements.{Diag, Judged, val, err, poisoned, Known, known, Import, Binding, Held, Turn, goes, refuses, refused, namesNumber, firstNamed, find, findImport, mostImports, mostNames, nameAt, narrowed, judge, imported, importStmt, bind, bound, letStmt, discarded, told, stmt, onward, run}
 use Rattle.language.specs.Names.{letNames, importNames, TooMany, NamesRefused}
 use Rattle.language.proofs.Tests.{never, by-cases}
 use Rattle.language.proofs.DistinctNames.{among, Kept, none-kept, repeated, added, filled}
@@ -65,7 +65,7 @@ module _ (ts : List Content) where
   -- it goes on, and has no name that is one too many; or it stops, at that name
   After : List Stmt → Stmt → Turn → Type 0
   After us s (goes k ds hs) = Knows (us ++ s ∷ []) k × ((u : ℕ) → ¬ TooMany ts us s u)
-  After us s (full t) = TooMany ts us s t
+  After us s (refuses m t) = (m ≡ namesNumber) × TooMany ts us s t
 
   module _ (us : List Stmt) (k : Known) (h : Knows us k) where
     -- names of the other kind stay as they are
@@ -108,7 +108,7 @@ module _ (ts : List Content) where
             let new = found-among bindingName (nameAt ts t) (k .bindings) ∙ ap isFound f in
             by-cases (After us (let′ t e)) (ltb (length (k .bindings)) mostNames)
             (λ r. bound-after (judge ts n k e .out) (judge ts n k e .warns) new (ltb-true (length (k .bindings)) mostNames r))
-            (λ r. (refl, filled bindingName (h .lets) (nameAt ts t) new (ltb-false (length (k .bindings)) mostNames r)))
+            (λ r. (refl, (refl, filled bindingName (h .lets) (nameAt ts t) new (ltb-false (length (k .bindings)) mostNames r))))
 
       import-knows : (is : List Import) → Kept importName mostImports is (importNames ts us ++ nameAt ts t ∷ [])
           → Knows (us ++ import′ t ∷ []) (known is (k .bindings))
@@ -141,7 +141,7 @@ module _ (ts : List Content) where
           let new = found-among importName (nameAt ts t) (k .imports) ∙ ap isFound f in
           by-cases (After us (import′ t)) (ltb (length (k .imports)) mostImports)
           (λ r. imported-after (lookup 0 (nameAt ts t)) new (ltb-true (length (k .imports)) mostImports r))
-          (λ r. (refl, filled importName (h .imports) (nameAt ts t) new (ltb-false (length (k .imports)) mostImports r)))
+          (λ r. (refl, (refl, filled importName (h .imports) (nameAt ts t) new (ltb-false (length (k .imports)) mostImports r))))
 
     module _ (n : ℕ) where
       told-after : (e : Expr) (o : Judged) (ws : List Diag) → After us (expr′ e) (told ts n k (firstOf e) o ws)
@@ -222,19 +222,24 @@ module _ (ts : List Content) where
         }
 
   -- a run that is refused at a name has reached it
-  refused-reached : {t : ℕ} (ss us : List Stmt) (n : ℕ) (k : Known) (ds : List Diag) (hs : List Held) → Knows us k
-      → run ts ss n k ds hs ≡ refused t → Reached us ss t
+  refused-reached : {m t : ℕ} (ss us : List Stmt) (n : ℕ) (k : Known) (ds : List Diag) (hs : List Held) → Knows us k
+      → run ts ss n k ds hs ≡ refused m t → (m ≡ namesNumber) × Reached us ss t
   unfolding run After
   refused-reached [] us n k ds hs h e = never (cc)
-  refused-reached {t} (s ∷ ss) us n k ds hs h e =
+  refused-reached {m} {t} (s ∷ ss) us n k ds hs h e =
       by (stmt ts n k s) (stmt-after us k h n s) e (λ k′ es gs. refused-reached ss (us ++ s ∷ []) (suc n) k′ es gs)
     where
-      by : (o : Turn) → After us s o → onward ts o ds hs (λ k′ es gs. run ts ss (suc n) k′ es gs) ≡ refused t
-          → ((k′ : Known) (es : List Diag) (gs : List Held) → Knows (us ++ s ∷ []) k′ → run ts ss (suc n) k′ es gs ≡ refused t
-          → Reached (us ++ s ∷ []) ss t)
-          → Reached us (s ∷ ss) t
-      by (full u) a f rest = let q : u ≡ t = cc in reached-here us s ss (rw q at a)
-      by (goes k′ es gs) a f rest = reached-later us s ss (a .1) (rest k′ (ds ++ es) (hs ++ gs) (a .0) f)
+      by : (o : Turn) → After us s o → onward ts o ds hs (λ k′ es gs. run ts ss (suc n) k′ es gs) ≡ refused m t
+          → ((k′ : Known) (es : List Diag) (gs : List Held) → Knows (us ++ s ∷ []) k′ → run ts ss (suc n) k′ es gs ≡ refused m t
+          → (m ≡ namesNumber) × Reached (us ++ s ∷ []) ss t)
+          → (m ≡ namesNumber) × Reached us (s ∷ ss) t
+      by (refuses v u) a f rest =
+          let p : v ≡ m = cc in
+          let q : u ≡ t = cc in
+          (sym p ∙ a .0, reached-here us s ss (rw q at (a .1)))
+      by (goes k′ es gs) a f rest =
+          let r = rest k′ (ds ++ es) (hs ++ gs) (a .0) f in
+          (r .0, reached-later us s ss (a .1) (r .1))
 
   -- a statement has one name at the most
   pub one-token : {u t : ℕ} (us : List Stmt) (s : Stmt) → TooMany ts us s u → TooMany ts us s t → u ≡ t
@@ -244,12 +249,12 @@ module _ (ts : List Content) where
 
   -- a run that reaches a name is refused there
   reached-refused : {t : ℕ} (bs us : List Stmt) (s : Stmt) (ss : List Stmt) (n : ℕ) (k : Known) (ds : List Diag) (hs : List Held)
-      → Knows us k → Clear us bs → TooMany ts (us ++ bs) s t → run ts (bs ++ s ∷ ss) n k ds hs ≡ refused t
+      → Knows us k → Clear us bs → TooMany ts (us ++ bs) s t → run ts (bs ++ s ∷ ss) n k ds hs ≡ refused namesNumber t
   unfolding run After
   reached-refused {t} [] us s ss n k ds hs h c m = by (stmt ts n k s) (stmt-after us k h n s) (rw append-nil at m)
     where
-      by : (o : Turn) → After us s o → TooMany ts us s t → onward ts o ds hs (λ k′ es gs. run ts ss (suc n) k′ es gs) ≡ refused t
-      by (full u) a x = ap (λ (i : ℕ). refused i) (one-token us s a x)
+      by : (o : Turn) → After us s o → TooMany ts us s t → onward ts o ds hs (λ k′ es gs. run ts ss (suc n) k′ es gs) ≡ refused namesNumber t
+      by (refuses v u) a x = rw (a .0, one-token us s (a .1) x)
       by (goes k′ es gs) a x = absurd (a .1 t x)
   reached-refused {t} (b ∷ bs) us s ss n k ds hs h c m =
       let l = clear-less us b bs c in
@@ -257,9 +262,9 @@ module _ (ts : List Content) where
       (λ k′ es gs i. reached-refused bs (us ++ b ∷ []) s ss (suc n) k′ es gs i (l .1) (rw append-assoc m))
     where
       by : (o : Turn) → After us b o → ((u : ℕ) → ¬ TooMany ts us b u)
-          → ((k′ : Known) (es : List Diag) (gs : List Held) → Knows (us ++ b ∷ []) k′ → run ts (bs ++ s ∷ ss) (suc n) k′ es gs ≡ refused t)
-          → onward ts o ds hs (λ k′ es gs. run ts (bs ++ s ∷ ss) (suc n) k′ es gs) ≡ refused t
-      by (full u) a x rest = absurd (x u a)
+          → ((k′ : Known) (es : List Diag) (gs : List Held) → Knows (us ++ b ∷ []) k′ → run ts (bs ++ s ∷ ss) (suc n) k′ es gs ≡ refused namesNumber t)
+          → onward ts o ds hs (λ k′ es gs. run ts (bs ++ s ∷ ss) (suc n) k′ es gs) ≡ refused namesNumber t
+      by (refuses v u) a x rest = absurd (x u (a .1))
       by (goes k′ es gs) a x rest = rest k′ (ds ++ es) (hs ++ gs) (a .0)
 
   none-known : Knows [] (known [] [])
@@ -267,9 +272,11 @@ module _ (ts : List Content) where
   none-known = record { lets = none-kept bindingName mostNames; imports = none-kept importName mostImports }
 
 pub names-refused : NamesRefused
-names-refused ts ss t = (
-  λ e. let r = refused-reached ts ss [] 1 (known [] []) [] [] (none-known ts) e in
-      record { before = r .before; here = r .here; after = r .after; order = r .order; tooMany = r .tooMany; first = r .first },
-  λ f. rw (f .order)
+names-refused ts ss m t = (
+  λ e. let g = refused-reached ts ss [] 1 (known [] []) [] [] (none-known ts) e in
+      let r = g .1 in
+      (g .0, record { before = r .before; here = r .here; after = r .after; order = r .order; tooMany = r .tooMany; first = r .first }),
+  λ h. let f = h .1 in
+      rw (h .0, f .order)
       (reached-refused ts (f .before) [] (f .here) (f .after) 1 (known [] []) [] [] (none-known ts) (f .first) (f .tooMany)),
 )

@@ -15,6 +15,10 @@ use Rattle.language.specs.Tables.{bit, contentLow}
 use Rattle.language.specs.Sentences.{Expr, literal, sock4, local, path, member, call, slash′, Stmt, import′, let′, expr′, firstOf}
 use Rattle.language.specs.Values.{Value, isInteger, isBool, isSized, isIp4, isSock4, isString, isText, isFunction, Ty, tyInt, tyIp4, typeOf, entryAt, lookup}
 
+-- "a 513th distinct let name or 65th distinct import name"
+abbrev pub namesNumber : ℕ
+namesNumber = 9
+
 -- "at most 512 bound names; 64 imported names"
 abbrev pub mostNames : ℕ
 mostNames = 512
@@ -208,14 +212,14 @@ pub record Held : Type 0 where
 abbrev pub held : ℕ → Value → Held
 held at v = record { at = at; value = v }
 
--- what a statement leads to: what is known then, its findings, what it holds; or the name that is one too many
+-- what a statement leads to: what is known then, its findings, what it holds; or a refusal: its number, and the token where it stands
 pub data Turn : Type 0 where
   goes : Known → List Diag → List Held → Turn
-  full : ℕ → Turn
+  refuses : ℕ → ℕ → Turn
 
 pub data Outcome : Type 0 where
   judged : List Diag → List Held → Outcome
-  refused : ℕ → Outcome
+  refused : ℕ → ℕ → Outcome
 
 module _ (ts : List Content) where
   abbrev pub content : ℕ → Content
@@ -298,7 +302,7 @@ module _ (ts : List Content) where
     -- "importing a name again warns `MultipleImports`"
     abbrev pub importStmt : Known → ℕ → Option Import → Turn
     importStmt k t (some i) = goes k (diag n t multipleImports ∷ []) []
-    importStmt k t none = if′ (ltb (length (k .imports)) mostImports) (imported k t (lookup 0 (nameAt t))) (full t)
+    importStmt k t none = if′ (ltb (length (k .imports)) mostImports) (imported k t (lookup 0 (nameAt t))) (refuses namesNumber t)
 
     abbrev pub bind : Known → ℕ → Option Value → Known
     bind k t v = known (k .imports) (k .bindings ++ record { name = nameAt t; tok = t; value = v } ∷ [])
@@ -312,7 +316,7 @@ module _ (ts : List Content) where
     -- "`AlreadyBound` is found before the value is read"
     abbrev pub letStmt : Known → ℕ → Expr → Option Binding → Turn
     letStmt k t e (some b) = goes k (diag n t (alreadyBound (b .tok)) ∷ []) []
-    letStmt k t e none = if′ (ltb (length (k .bindings)) mostNames) (bound k t (judge k e .out) (judge k e .warns)) (full t)
+    letStmt k t e none = if′ (ltb (length (k .bindings)) mostNames) (bound k t (judge k e .out) (judge k e .warns)) (refuses namesNumber t)
 
     -- "A value statement warns `DiscardedValue` with its type"; "refused with `IntegralTooLarge` exactly if none does"
     abbrev pub discarded : Known → ℕ → Option Value → List Diag → Turn
@@ -333,7 +337,7 @@ module _ (ts : List Content) where
 
   abbrev pub onward : Turn → List Diag → List Held → (Known → List Diag → List Held → Outcome) → Outcome
   onward (goes k ds hs) es gs f = f k (es ++ ds) (gs ++ hs)
-  onward (full t) es gs f = refused t
+  onward (refuses m t) es gs f = refused m t
 
   unfoldable pub run : List Stmt → ℕ → Known → List Diag → List Held → Outcome
   run [] n k ds hs = judged ds hs

@@ -9,7 +9,7 @@ use Rattle.language.specs.Choice.{if′}
 use Rattle.language.specs.Lexemes.{same}
 use Rattle.language.specs.Tokens.{Content}
 use Rattle.language.specs.Sentences.{Stmt, import′, let′, expr′, ok, program}
-use Rattle.language.specs.Judgements.{mostNames, mostImports, nameAt, refused, judgeAll}
+use Rattle.language.specs.Judgements.{namesNumber, mostNames, mostImports, nameAt, refused, judgeAll}
 
 -- names other than w
 unfoldable pub without : List ℕ → List (List ℕ) → List (List ℕ)
@@ -63,9 +63,9 @@ NamedAt (expr′ e) u = ⊥
 
 -- ---- the claims
 
--- judging refuses statements at a token exactly when this name stands there
+-- judging refuses statements exactly when such a name stands there, with this number and at the earlier one
 abbrev pub NamesRefused : Type 0
-NamesRefused = (ts : List Content) (ss : List Stmt) (t : ℕ) → judgeAll ts ss ≡ refused t ↔ FirstTooMany ts ss t
+NamesRefused = (ts : List Content) (ss : List Stmt) (m t : ℕ) → judgeAll ts ss ≡ refused m t ↔ (m ≡ namesNumber) × FirstTooMany ts ss t
 
 -- of two statements of a program the one before has its name at the earlier token
 abbrev pub NamesAscend : Type 0

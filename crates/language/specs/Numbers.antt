@@ -190,11 +190,11 @@ checked s = judgeAll (contents (tokens s)) (statementsOf (program (contents (tok
 
 abbrev pub foundBy : Outcome → List Diag
 foundBy (judged ds hs) = ds
-foundBy (refused t) = []
+foundBy (refused m t) = []
 
 abbrev pub heldBy : Outcome → List Held
 heldBy (judged ds hs) = hs
-heldBy (refused t) = []
+heldBy (refused m t) = []
 
 -- "no errors, and statements exceed the room"; "if errors were counted, the statement table is all zero and its count 0"
 abbrev pub checkedWithin : ℕ → ℕ → ℕ → List Diag → List Held → Checked
@@ -204,9 +204,9 @@ checkedWithin room t n ds hs =
     (record { verdict = verdict 0 0 0; tokens = t; nodes = n; errors = 0; warnings = warningsIn ds; statements = length hs }))
     (record { verdict = verdict 0 0 0; tokens = t; nodes = n; errors = errorsIn ds; warnings = warningsIn ds; statements = 0 })
 
--- 9 at "the earlier such name", or what was judged
+-- a refusal at its token, or what was judged
 abbrev pub judgedWithin : List ℕ → ℕ → ℕ → ℕ → Outcome → Checked
-judgedWithin s room t n (refused at) = refusedCheck (placed 9 (tokenPlace s at))
+judgedWithin s room t n (refused m at) = refusedCheck (placed m (tokenPlace s at))
 judgedWithin s room t n (judged ds hs) = checkedWithin room t n ds hs
 
 -- "check 1 to 9 and 11": where parsing refuses, that; then "the tree holds a call"

@@ -11,7 +11,7 @@ use Rattle.language.specs.Lexemes.{Kind, tok, error, dot, ipv4Literal, d
 use Rattle.language.specs.Tokens.{Content, between, tokens, contents}
 use Rattle.language.specs.Sentences.{Stmt, program}
 use Rattle.language.specs.Values.{Value, isSized, isSock4, tyInt, tySock4}
-use Rattle.language.specs.Judgements.{What, unknownName, integralTooLarge, discardedValue, truncated, Binding, Known, known, goes, full, stmt}
+use Rattle.language.specs.Judgements.{What, unknownName, integralTooLarge, discardedValue, truncated, Binding, Known, known, goes, refuses, stmt}
 use Rattle.language.specs.Numbers.{Verdict, verdict, tokenPlace, statementsOf, checked, foundBy, heldBy, checkAnswer}
 
 -- the bytes of a text
@@ -54,7 +54,7 @@ pieces s = map (λ p. record { bytes = between s (p .start) (p .end); kind = p .
 -- what is known after statements, the first numbered n
 unfoldable pub knownAfter : List Content → List Stmt → ℕ → Known → Known
 knownAfter ts [] n k = k
-knownAfter ts (s ∷ ss) n k = elim (stmt ts n k s) [ goes k′ ds hs ↦ knownAfter ts ss (suc n) k′ | full t ↦ k ]
+knownAfter ts (s ∷ ss) n k = elim (stmt ts n k s) [ goes k′ ds hs ↦ knownAfter ts ss (suc n) k′ | refuses m t ↦ k ]
 
 -- at the place of a token
 abbrev pub there : {A : Type 0} → List ℕ → ℕ → A → At A
