@@ -6,62 +6,67 @@ use mathlib.Core.Option.{Option, none, some}
 use Prim.Native.Nat.{ℕ, _+_, _*_, _/_, _%_, _≤_, _<_}
 use native.Mathlib.Omega.{arith}
 use lib.ListN.{length, length-append}
-use Rattle.table.specs.Table.{putRow}
 use Rattle.language.specs.Choice.{if′}
 use Rattle.language.specs.Integers.{u16, low16, isTruncated}
 use Rattle.language.specs.Tables as tables
 use Rattle.language.specs.Tokens as tokens
 use Rattle.language.specs.Tokens.{Content, contents}
-use Rattle.language.specs.Sentences.{Expr, Args, literal, sock4, local, path, member, call, slash′, firstOf, exprSize}
+use Rattle.language.specs.Sentences.{Expr, Args, literal, sock4, local, path, member, call, slash′, firstOf, exprSize, nodeWidth}
 use Rattle.language.specs.Values as values
 use Rattle.language.specs.Values.{tyInt, tyIp4, typeOf}
 use Rattle.language.specs.Judgements as judgements
 use Rattle.language.specs.Judgements.{What, Diag, diag, val, err, poisoned, judgement, Known, andThen, goesOn, leftOf, rightOf, cut, left, right, noMembers, operandType, truncated, integerOf, ip4Of, literalAt, judge}
-use Rattle.language.specs.Findings.{diagRow}
 use Rattle.language.specs.Numbers.{tokenOf}
 use Rattle.language.proofs.Tests.{never}
-use Rattle.judging.specs.declared.Token.{Token}
-use Rattle.judging.specs.declared.Value.{Value}
-use Rattle.judging.specs.declared.Fault.{Fault}
-use Rattle.judging.specs.declared.Counts.{Counts}
-use Rattle.judging.specs.declared.Judged.{Judged}
-use Rattle.judging.specs.declared.Judged.the-variants.{Val, Err, Poisoned}
-use Rattle.judging.specs.declared.Judgement.{Judgement}
-use Rattle.judging.specs.Judging.{tokenAs, valueAs, sock4As, faultAs, typedAs, truncatedAs, faultRow, judgedAs, isIntegral, knownIn, Knows, Ready, LocalIs, PathIs, plusWarnings, Agrees, LeafIs, Members, Operand, Narrows, Integral, word, RepAt, is-literal, is-sock4, is-local, is-path, is-member, is-slash, is-call, Fits, SlashFits}
-use Rattle.judging.proofs.Rows.{no-rows, one-row, more-rows}
 use Rattle.language.proofs.TokensAt.{content-of}
-use Rattle.judging.proofs.Values.{integer-is, integer-not, ip4-is, ip4-not}
+use Rattle.wide.specs.declared.Wide.{Wide}
+use Rattle.wide.specs.Wide.{wideOf}
+use Rattle.rows.specs.Rows.{nodeWord}
+use Rattle.rows.specs.declared.token.Token.{Token}
+use Rattle.rows.specs.Tokens.{tokenAs}
+use Rattle.findings.specs.declared.Counts.{Counts}
+use Rattle.findings.specs.declared.Diagnostic.{Diagnostic}
+use Rattle.findings.specs.declared.Side.the-variants.{Left, Right}
+use Rattle.findings.specs.Findings.{diagnosticAs, added, Reports, Adds}
+use Rattle.findings.proofs.Adds.{adds-none, adds-then, adds-reported, adds-count}
+use Rattle.values.specs.declared.Value.{Value}
+use Rattle.values.specs.declared.Judged.{Judged}
+use Rattle.values.specs.declared.Judged.the-variants.{Val, Err, Poisoned}
+use Rattle.values.specs.declared.Judgement.{Judgement}
+use Rattle.values.specs.Values.{valueAs, sock4As, judgedAs, isIntegral}
+use Rattle.values.proofs.Values.{integer-is, integer-not, ip4-is, ip4-not}
+use Rattle.judging.specs.Judging.{mostFindings, knownIn, Knows, Ready, LocalIs, PathIs, Agrees, Members, Operand, Cuts, Narrows, Integral, RepAt, is-literal, is-sock4, is-local, is-path, is-member, is-slash, is-call, Fits, SlashFits}
 
 -- ---- rows
 
 pub record MemberAt (ws : List ℕ) (i : ℕ) (e : Expr) : Type 0 where
   pub inner : Expr
-  pub near : word ws i 2 < i
-  pub rep : RepAt ws (word ws i 2) inner
-  pub is : e ≡ member inner (word ws i 3)
+  pub near : nodeWord ws i 2 < i
+  pub rep : RepAt ws (nodeWord ws i 2) inner
+  pub is : e ≡ member inner (nodeWord ws i 3)
 
 pub record SlashAt (ws : List ℕ) (i : ℕ) (e : Expr) : Type 0 where
   pub left : Expr
   pub right : Expr
-  pub first : word ws i 1 ≡ firstOf left
-  pub near : word ws i 2 < i
-  pub near′ : word ws i 3 < i
-  pub left-rep : RepAt ws (word ws i 2) left
-  pub right-rep : RepAt ws (word ws i 3) right
+  pub first : nodeWord ws i 1 ≡ firstOf left
+  pub near : nodeWord ws i 2 < i
+  pub near′ : nodeWord ws i 3 < i
+  pub left-rep : RepAt ws (nodeWord ws i 2) left
+  pub right-rep : RepAt ws (nodeWord ws i 3) right
   pub is : e ≡ slash′ left right
 
 -- the tree by the kind of its row: a case over a number has only the trees with it
 data RowOf (ws : List ℕ) (i : ℕ) (e : Expr) : ℕ → Type 0 where
-  a-literal : e ≡ literal (word ws i 1) → RowOf ws i e 2
-  a-sock4 : e ≡ sock4 (word ws i 1) → RowOf ws i e 3
-  a-local : e ≡ local (word ws i 1) → RowOf ws i e 4
-  a-path : e ≡ path (word ws i 1) (word ws i 2) → RowOf ws i e 5
+  a-literal : e ≡ literal (nodeWord ws i 1) → RowOf ws i e 2
+  a-sock4 : e ≡ sock4 (nodeWord ws i 1) → RowOf ws i e 3
+  a-local : e ≡ local (nodeWord ws i 1) → RowOf ws i e 4
+  a-path : e ≡ path (nodeWord ws i 1) (nodeWord ws i 2) → RowOf ws i e 5
   a-member : MemberAt ws i e → RowOf ws i e 6
   a-slash : SlashAt ws i e → RowOf ws i e 7
   a-call : (d : Expr) (t : ℕ) (g : Args) → e ≡ call d t g → RowOf ws i e 8
 
 module _ {ws : List ℕ} where
-  pub row-in : {i : ℕ} {e : Expr} → RepAt ws i e → 5 * i + 5 ≤ length ws
+  pub row-in : {i : ℕ} {e : Expr} → RepAt ws i e → nodeWidth * i + nodeWidth ≤ length ws
   row-in (is-literal f k) = f
   row-in (is-sock4 f k) = f
   row-in (is-local f k) = f
@@ -71,7 +76,7 @@ module _ {ws : List ℕ} where
   row-in (is-call f k z) = f
 
   -- a row names the first token
-  pub first-at : {i : ℕ} {e : Expr} → RepAt ws i e → word ws i 1 ≡ firstOf e
+  pub first-at : {i : ℕ} {e : Expr} → RepAt ws i e → nodeWord ws i 1 ≡ firstOf e
   first-at (is-literal f k) = refl
   first-at (is-sock4 f k) = refl
   first-at (is-local f k) = refl
@@ -80,7 +85,7 @@ module _ {ws : List ℕ} where
   first-at (is-slash f k z n m a b) = z
   first-at (is-call f k z) = z
 
-  own-row : {i : ℕ} {e : Expr} → RepAt ws i e → RowOf ws i e (word ws i 0)
+  own-row : {i : ℕ} {e : Expr} → RepAt ws i e → RowOf ws i e (nodeWord ws i 0)
   own-row (is-literal f k) = rw k (a-literal refl)
   own-row (is-sock4 f k) = rw k (a-sock4 refl)
   own-row (is-local f k) = rw k (a-local refl)
@@ -90,7 +95,7 @@ module _ {ws : List ℕ} where
       rw k (a-slash (record { left = a; right = b; first = z; near = n; near′ = m; left-rep = u; right-rep = v; is = refl }))
   own-row (is-call {e = e} {t = t} {g = g} f k z) = rw k (a-call e t g refl)
 
-  row-of : {i k : ℕ} {e : Expr} → RepAt ws i e → word ws i 0 ≡ k → RowOf ws i e k
+  row-of : {i k : ℕ} {e : Expr} → RepAt ws i e → nodeWord ws i 0 ≡ k → RowOf ws i e k
   row-of {i} {e = e} r q = subst (λ (k : ℕ). RowOf ws i e k) q (own-row r)
 
   kinds : {i k : ℕ} {e : Expr} → RowOf ws i e k → (2 ≤ k) × (k ≤ 8)
@@ -102,15 +107,15 @@ module _ {ws : List ℕ} where
   kinds (a-slash m) = omega arith
   kinds (a-call d t g w) = omega arith
 
-  pub member-at : {i : ℕ} {e : Expr} → RepAt ws i e → word ws i 0 ≡ 6 → MemberAt ws i e
+  pub member-at : {i : ℕ} {e : Expr} → RepAt ws i e → nodeWord ws i 0 ≡ 6 → MemberAt ws i e
   member-at r q = elim (row-of r q) [ a-member m ↦ m ]
 
-  pub slash-at : {i : ℕ} {e : Expr} → RepAt ws i e → 6 ≤ word ws i 0 → (word ws i 0 ≡ 8 → ⊥) → (word ws i 0 ≡ 6 → ⊥) → SlashAt ws i e
+  pub slash-at : {i : ℕ} {e : Expr} → RepAt ws i e → 6 ≤ nodeWord ws i 0 → (nodeWord ws i 0 ≡ 8 → ⊥) → (nodeWord ws i 0 ≡ 6 → ⊥) → SlashAt ws i e
   slash-at r l p q = elim (row-of {k = 7} r (omega (arith, kinds (own-row r)))) [ a-slash m ↦ m ]
 
   -- both operands of a row that is `/`
   pub slash-parts : {i : ℕ} {a b : Expr} → RepAt ws i (slash′ a b)
-      → (word ws i 1 ≡ firstOf a) × (word ws i 3 < i) × RepAt ws (word ws i 3) b
+      → (nodeWord ws i 1 ≡ firstOf a) × (nodeWord ws i 3 < i) × RepAt ws (nodeWord ws i 3) b
   slash-parts (is-slash f k z n m u v) = (z, m, v)
 
 -- ---- what a code's answer says of a judgement
@@ -121,7 +126,7 @@ module _ (s : List ℕ) where
   as-val (err at w) e = never (cc)
   as-val poisoned e = never (cc)
 
-  as-err : (o : judgements.Judged) {f : Fault} → judgedAs s o ≡ Err f → (at : ℕ) × (w : What) × (o ≡ err at w)
+  as-err : (o : judgements.Judged) {f : Diagnostic} → judgedAs s o ≡ Err f → (at : ℕ) × (w : What) × (o ≡ err at w)
   as-err (val v) e = never (cc)
   as-err (err at w) e = (at, w, refl)
   as-err poisoned e = never (cc)
@@ -131,48 +136,29 @@ module _ (s : List ℕ) where
   as-none (err at w) e = never (cc)
   as-none poisoned e = refl
 
-plus-0 : (c : Counts) → c ≡ plusWarnings c 0
-plus-0 c = let e : c .warnings + 0 ≡ c .warnings = omega arith in rw e
-
-plus-more : (c : Counts) (a b : ℕ) → plusWarnings (plusWarnings c a) b ≡ plusWarnings c (a + b)
-plus-more c a b = let e : c .warnings + a + b ≡ c .warnings + (a + b) = omega arith in rw e
-
 module _ {s : List ℕ} where
   -- no warning
   pub give : {r : Judgement} {x : List ℕ} {c : Counts} (o : judgements.Judged) → r .out ≡ judgedAs s o → r .counts ≡ c → Agrees s r x x c (judgement o [])
-  give {c = c} o q e = record { out = q; counted = e ∙ plus-0 c; table = no-rows (diagRow (tokenOf s)) _ _ }
-
-  pub of-leaf : {r : Judgement} {x : List ℕ} {c : Counts} (j : judgements.Judgement) → LeafIs s (r .out) j → r .counts ≡ c → Agrees s r x x c j
-  of-leaf {c = c} j l e =
-      record { out = l .out; counted = e ∙ rw (l .quiet) (plus-0 c); table = rw (l .quiet) (no-rows (diagRow (tokenOf s)) _ _) }
+  give {x = x} {c = c} o q e = record { out = q; adds = λ u. rw e (adds-none s c x u) }
 
   module _ {L : Judgement} {x y : List ℕ} {c : Counts} (j : judgements.Judgement) (f : values.Value → judgements.Judgement) (l : Agrees s L x y c j) where
     -- a value goes on
     go : (u : values.Value) → j .out ≡ val u → {R : Judgement} {z : List ℕ} → Agrees s R y z (L .counts) (f u) → Agrees s R x z c (andThen j f)
     unfolding andThen
-    go u q {R} {z} r =
-        let row = diagRow (tokenOf s) in
-        let k : L .counts .errors + L .counts .warnings ≡ c .errors + c .warnings + length (j .warns) =
-        ap (λ (a : Counts). a .errors + a .warnings) (l .counted) ∙ omega arith in
-        rw q (record {
-          out = r .out;
-          counted = r .counted ∙ ap (λ (a : Counts). plusWarnings a (length (f u .warns))) (l .counted)
-              ∙ plus-more c (length (j .warns)) (length (f u .warns)) ∙ ap (plusWarnings c) (sym (length-append (j .warns) (f u .warns)));
-          table = r .table ∙ rw (l .table, k) (more-rows row x (c .errors + c .warnings) (j .warns) (f u .warns));
-        })
+    go u q r = rw q (record { out = r .out; adds = λ w. adds-then (l .adds w) (r .adds w) })
 
     pub goes : {v : Value} → L .out ≡ Val v → {R : Judgement} {z : List ℕ} → ((u : values.Value) → v ≡ valueAs u → Agrees s R y z (L .counts) (f u)) → Agrees s R x z c (andThen j f)
     goes e h = let q = as-val s (j .out) (sym (l .out) ∙ e) in go (q .0) (q .1) (h (q .0) (q .2))
 
     -- an error, or nothing, stays as it is
     stop : (o : judgements.Judged) → j .out ≡ o → andThen j f ≡ judgement o (j .warns) → Agrees s L x y c (andThen j f)
-    stop o q e = rw e (record { out = l .out ∙ ap (judgedAs s) q; counted = l .counted; table = l .table })
+    stop o q e = rw e (record { out = l .out ∙ ap (judgedAs s) q; adds = l .adds })
 
     stop-at : (at : ℕ) (w : What) → j .out ≡ err at w → Agrees s L x y c (andThen j f)
     unfolding andThen
     stop-at at w q = stop (err at w) q (ap (λ (o : judgements.Judged). goesOn o (j .warns) f) q)
 
-    pub stop-err : {g : Fault} → L .out ≡ Err g → Agrees s L x y c (andThen j f)
+    pub stop-err : {g : Diagnostic} → L .out ≡ Err g → Agrees s L x y c (andThen j f)
     stop-err e = let q = as-err s (j .out) (sym (l .out) ∙ e) in stop-at (q .0) (q .1) (q .2)
 
     pub stop-none : L .out ≡ Poisoned → Agrees s L x y c (andThen j f)
@@ -181,15 +167,12 @@ module _ {s : List ℕ} where
 
 -- ---- members
 
-pub no-members : (s : List ℕ) (t : ℕ) {tok : Token} → tok ≡ tokenAs (tokenOf s t) → (u : values.Value) → typedAs 1 9 tok (typeOf u) 0 0 0 ≡ faultAs s t (noMembers (typeOf u))
-no-members s t e u = rw e
-
 module _ (s : List ℕ) (t : ℕ) {l r : Judgement} where
-  pub members : {v : Value} {f : Fault} → l .out ≡ Val v → ((u : values.Value) → v ≡ valueAs u → f ≡ faultAs s t (noMembers (typeOf u)))
-      → r .out ≡ Err f → r .counts ≡ l .counts → Members s t l r
-  members e h q k = record { on = λ x y c j a. goes j _ a e (λ u w. give (err t (noMembers (typeOf u))) (q ∙ ap Err (h u w)) k) }
+  pub members : {v : Value} → l .out ≡ Val v → ((u : values.Value) → v ≡ valueAs u → r .out ≡ judgedAs s (err t (noMembers (typeOf u))))
+      → r .counts ≡ l .counts → Members s t l r
+  members e h k = record { on = λ x y c j a. goes j _ a e (λ u w. give (err t (noMembers (typeOf u))) (h u w) k) }
 
-pub members-err : (s : List ℕ) (t : ℕ) {l : Judgement} {f : Fault} → l .out ≡ Err f → Members s t l l
+pub members-err : (s : List ℕ) (t : ℕ) {l : Judgement} {f : Diagnostic} → l .out ≡ Err f → Members s t l l
 members-err s t e = record { on = λ x y c j a. stop-err j _ a e }
 
 pub members-none : (s : List ℕ) (t : ℕ) {l : Judgement} → l .out ≡ Poisoned → Members s t l l
@@ -212,13 +195,13 @@ module _ (ts : List Content) (at : ℕ) (f : ℕ → judgements.Judgement) (u : 
   left-some e = rw (e, leftOf)
 
 pub not-integer : (s : List ℕ) (ip t : ℕ) {r : Judgement} {v : Value} {c : Counts} {x : List ℕ} → isIntegral (v .kind) ≡ false
-    → Operand s t v 2 4 (r .out) → r .counts ≡ c → Narrows s ip t v c x r x
-not-integer s ip t h o k =
+    → Operand s t v Right 4 c r → Narrows s ip t v c x r x
+not-integer s ip t h o =
     record {
       is = λ n u e.
           let z = integer-not u (sym (ap (λ (w : Value). isIntegral (w .kind)) e) ∙ h) in
           rw (right-none (contents (tokens.tokens s)) n ip t u z)
-          (give (err t (operandType right (tyInt u16) (typeOf u))) (o .is u right (tyInt u16) e refl refl) k);
+          (give (err t (operandType right (tyInt u16) (typeOf u))) (o .is u right (tyInt u16) e refl refl) (o .counted));
     }
 
 abbrev total : Value → ℕ
@@ -239,30 +222,26 @@ module _ (s : List ℕ) (ip t : ℕ) (v : Value) (h : isIntegral (v .kind) ≡ t
             rw (right-some (contents (tokens.tokens s)) n ip t u (integer-of v h u e), ← b) (give (val (values.isSock4 ip (low16 (total v)))) (q ∙ port-is) k);
       }
 
-  pub narrows-cut : {r : Judgement} {c : Counts} {x : List ℕ} {tok : Token} {f : Fault} {y : List ℕ} → true ≡ isTruncated (total v)
-      → r .out ≡ Val (record { kind = 8; lo = ip; hi = port }) → v .lo < tables.wordLimit
-      → tok ≡ tokenAs (tokenOf s t) → f ≡ truncatedAs tok (v .lo) (v .hi) → y ≡ putRow x (c .errors + c .warnings) (faultRow f)
-      → r .counts ≡ plusWarnings c 1 → Narrows s ip t v c x r y
-  unfolding diagRow
-  narrows-cut {c = c} {x = x} {f = f} b q l e g o k =
-      let lo : total v % tables.wordLimit ≡ v .lo = omega (arith, l) in
-      let hi : total v / tables.wordLimit ≡ v .hi = omega (arith, l) in
+  pub narrows-cut : {r : Judgement} {c : Counts} {x y : List ℕ} → true ≡ isTruncated (total v) → r .out ≡ Val (record { kind = 8; lo = ip; hi = port })
+      → Cuts s t (record { hi = v .hi; lo = v .lo }) c x (r .counts) y → Narrows s ip t v c x r y
+  narrows-cut b q k =
       record {
-        is = λ n u w.
-            let d : Diag = diag n t (truncated (total v) (tyInt u16)) in
-            let same : faultRow f ≡ diagRow (tokenOf s) d = rw (g, e, lo, hi) in
-            rw (right-some (contents (tokens.tokens s)) n ip t u (integer-of v h u w), ← b) (record {
-              out = q ∙ port-is;
-              counted = k;
-              table = o ∙ rw same (one-row (diagRow (tokenOf s)) x (c .errors + c .warnings) d);
-            });
+        is = λ n u e.
+            rw (right-some (contents (tokens.tokens s)) n ip t u (integer-of v h u e), ← b) (record { out = q ∙ port-is; adds = λ w. k .adds n w });
       }
+
+-- the words of a number that is two words
+words-of : (n : Wide) → n .lo < tables.wordLimit → n ≡ wideOf (n .hi * tables.wordLimit + n .lo)
+words-of n l =
+    let lo : (n .hi * tables.wordLimit + n .lo) % tables.wordLimit ≡ n .lo = omega (arith, l) in
+    let hi : (n .hi * tables.wordLimit + n .lo) / tables.wordLimit ≡ n .hi = omega (arith, l) in
+    rw (lo, hi)
 
 module _ (s : List ℕ) (ip t : ℕ) {l : Judgement} {y : List ℕ} where
   pub integral-goes : {v : Value} {r : Judgement} {z : List ℕ} → l .out ≡ Val v → Narrows s ip t v (l .counts) y r z → Integral s ip t l y r z
   integral-goes e h = record { on = λ n x c j a. goes j _ a e (λ u w. h .is n u w) }
 
-  pub integral-err : {f : Fault} → l .out ≡ Err f → Integral s ip t l y l y
+  pub integral-err : {f : Diagnostic} → l .out ≡ Err f → Integral s ip t l y l y
   integral-err e = record { on = λ n x c j a. stop-err j _ a e }
 
   pub integral-none : l .out ≡ Poisoned → Integral s ip t l y l y
@@ -319,51 +298,74 @@ module _ (ts : List Content) (n : ℕ) (k : Known) where
 
 -- ---- leaves
 
-module _ (s : List ℕ) {ws : List ℕ} {i : ℕ} {e : Expr} (n : ℕ) (k : Known) (rep : RepAt ws i e) {t : ℕ} (at : t ≡ word ws i 1) where
-  pub leaf-literal : word ws i 0 ≡ 2 → {v : Value} → v ≡ valueAs (literalAt (contents (tokens.tokens s)) t) → LeafIs s (Val v) (judge (contents (tokens.tokens s)) n k e)
+module _ (s : List ℕ) {ws : List ℕ} {i : ℕ} {e : Expr} (n : ℕ) (k : Known) (rep : RepAt ws i e) {t : ℕ} (at : t ≡ nodeWord ws i 1) {r : Judgement} {c : Counts} {x : List ℕ} where
+  pub leaf-literal : nodeWord ws i 0 ≡ 2 → {v : Value} → v ≡ valueAs (literalAt (contents (tokens.tokens s)) t) → r .out ≡ Val v → r .counts ≡ c
+      → Agrees s r x x c (judge (contents (tokens.tokens s)) n k e)
   unfolding judge
-  leaf-literal q h = elim (row-of rep q) [ a-literal w ↦ rw (w, ← at) (record { out = ap Val h; quiet = refl }) ]
+  leaf-literal q h o m = elim (row-of rep q) [ a-literal w ↦ rw (w, ← at) (give (val (literalAt (contents (tokens.tokens s)) t)) (o ∙ ap Val h) m) ]
 
-  pub leaf-sock4 : word ws i 0 ≡ 3 → {v : Value} → v ≡ sock4As (tokenOf s t) (tokenOf s (t + 2)) → LeafIs s (Val v) (judge (contents (tokens.tokens s)) n k e)
+  pub leaf-sock4 : nodeWord ws i 0 ≡ 3 → {v : Value} → v ≡ sock4As (tokenOf s t) (tokenOf s (t + 2)) → r .out ≡ Val v → r .counts ≡ c
+      → Agrees s r x x c (judge (contents (tokens.tokens s)) n k e)
   unfolding judge
-  leaf-sock4 q h =
-      elim (row-of rep q) [ a-sock4 w ↦ rw (w, ← at) (record { out = ap Val (h ∙ rw (content-of s t, content-of s (t + 2))); quiet = refl }) ]
+  leaf-sock4 q h o m =
+      elim (row-of rep q) [ a-sock4 w ↦ rw (w, ← at) (give (val (values.isSock4 (tables.contentLow (judgements.content (contents (tokens.tokens s)) t)) (tables.contentLow (judgements.content (contents (tokens.tokens s)) (t + 2))))) (o ∙ ap Val (h ∙ rw (content-of s t, content-of s (t + 2)))) m) ]
 
-  module _ {toks : List ℕ} {bindings imports : List (List ℕ)} {c : Counts} (kn : Knows s bindings imports c k) (ready : Ready s toks bindings imports c) {r : Judged} where
-    pub leaf-local : {tok : Token} → word ws i 0 ≡ 4 → tok ≡ tokenAs (tokenOf s t) → LocalIs s bindings (c .used) tok r → LeafIs s r (judge (contents (tokens.tokens s)) n k e)
+  module _ {toks bindings imports : List ℕ} (kn : Knows s bindings imports c k) (ready : Ready s toks bindings imports c) where
+    pub leaf-local : {tok : Token} → nodeWord ws i 0 ≡ 4 → tok ≡ tokenAs (tokenOf s t) → LocalIs s bindings c tok r
+        → Agrees s r x x c (judge (contents (tokens.tokens s)) n k e)
     unfolding judge
-    leaf-local q g h = elim (row-of rep q) [ a-local w ↦ rw (w, ← at, kn .is) (record { out = h .is t g (ready .sound); quiet = refl }) ]
+    leaf-local q g h = elim (row-of rep q) [ a-local w ↦ rw (w, ← at, kn .is) (give _ (h .is t g (ready .sound)) (h .counted)) ]
 
-    pub leaf-path : (word ws i 0 ≡ 2 → ⊥) → (word ws i 0 ≡ 3 → ⊥) → (word ws i 0 ≡ 4 → ⊥) → word ws i 0 < 6 → {names : ℕ} → names ≡ word ws i 2
-        → PathIs s imports (c .imported) t names r → LeafIs s r (judge (contents (tokens.tokens s)) n k e)
+    pub leaf-path : (nodeWord ws i 0 ≡ 2 → ⊥) → (nodeWord ws i 0 ≡ 3 → ⊥) → (nodeWord ws i 0 ≡ 4 → ⊥) → nodeWord ws i 0 < 6 → {names : ℕ}
+        → names ≡ nodeWord ws i 2 → PathIs s imports c t names r → Agrees s r x x c (judge (contents (tokens.tokens s)) n k e)
     unfolding judge
     leaf-path o p q l m h =
-        elim (row-of {k = 5} rep (omega (arith, kinds (own-row rep)))) [ a-path w ↦ rw (w, ← at, ← m, kn .is) (record { out = h .is; quiet = refl }) ]
+        elim (row-of {k = 5} rep (omega (arith, kinds (own-row rep)))) [ a-path w ↦ rw (w, ← at, ← m, kn .is) (give _ (h .is) (h .counted)) ]
 
 -- ---- trees
 
-module _ {s : List ℕ} where
-  -- a warning changes no name
-  pub knows-on : {L : Judgement} {x y : List ℕ} {bindings imports : List (List ℕ)} {c : Counts} {j : judgements.Judgement} {k : Known} → Agrees s L x y c j
-      → Knows s bindings imports c k → Knows s bindings imports (L .counts) k
-  knows-on {bindings = bindings} {imports = imports} l kn = record { is = kn .is ∙ ap (knownIn s bindings imports) (sym (l .counted)) }
+module _ {s : List ℕ} {L : Judgement} {x y : List ℕ} {c : Counts} {j : judgements.Judgement} (l : Agrees s L x y c j) where
+  -- judging binds and imports no name
+  pub same-used : L .counts .used ≡ c .used
+  unfolding added
+  same-used = ap (λ (a : Counts). a .used) (l .adds [] .counted)
 
-  pub ready-on : {L : Judgement} {x y toks : List ℕ} {bindings imports : List (List ℕ)} {c : Counts} {j : judgements.Judgement} → Agrees s L x y c j
-      → Ready s toks bindings imports c → Ready s toks bindings imports (L .counts)
-  ready-on {toks = toks} {bindings = bindings} {imports = imports} {c = c} {j = j} l r =
-      let q : Ready s toks bindings imports (plusWarnings c (length (j .warns))) = record { lexed = r .lexed; bound = r .bound; modules = r .modules; sound = r .sound; keyed = r .keyed; keyed-modules = r .keyed-modules } in
-      subst (λ (a : Counts). Ready s toks bindings imports a) (sym (l .counted)) q
+  pub same-imported : L .counts .imported ≡ c .imported
+  unfolding added
+  same-imported = ap (λ (a : Counts). a .imported) (l .adds [] .counted)
+
+  pub same-statements : L .counts .statements ≡ c .statements
+  unfolding added
+  same-statements = ap (λ (a : Counts). a .statements) (l .adds [] .counted) ∙ omega arith
+
+  pub findings-after : L .counts .errors + L .counts .warnings ≡ c .errors + c .warnings + length (j .warns)
+  findings-after = adds-count (l .adds [])
+
+  module _ {bindings imports : List ℕ} where
+    pub knows-on : {k : Known} → Knows s bindings imports c k → Knows s bindings imports (L .counts) k
+    knows-on kn = record { is = rw (same-used, same-imported) (kn .is) }
+
+    pub ready-on : {toks : List ℕ} → Ready s toks bindings imports c → Ready s toks bindings imports (L .counts)
+    ready-on r =
+        record {
+          lexed = r .lexed;
+          bound = rw same-used (r .bound);
+          modules = rw same-imported (r .modules);
+          sound = rw same-used (r .sound);
+          keyed = rw same-used (r .keyed);
+          keyed-modules = rw same-imported (r .keyed-modules);
+        }
 
 module _ (s : List ℕ) (n : ℕ) (k : Known) where
   abbrev judged : Expr → judgements.Judgement
   judged e = judge (contents (tokens.tokens s)) n k e
 
-  pub of-call : {ws : List ℕ} {i : ℕ} {e : Expr} {r : Judgement} {x : List ℕ} {c : Counts} → RepAt ws i e → word ws i 0 ≡ 8 → r .out ≡ Poisoned → r .counts ≡ c
+  pub of-call : {ws : List ℕ} {i : ℕ} {e : Expr} {r : Judgement} {x : List ℕ} {c : Counts} → RepAt ws i e → nodeWord ws i 0 ≡ 8 → r .out ≡ Poisoned → r .counts ≡ c
       → Agrees s r x x c (judged e)
   unfolding judge
   of-call r q o w = elim (row-of r q) [ a-call d t g z ↦ rw z (give poisoned o w) ]
 
-  pub of-member : {ws : List ℕ} {i : ℕ} {e : Expr} {l r : Judgement} {x y : List ℕ} {c : Counts} {t : ℕ} (p : MemberAt ws i e) → t ≡ word ws i 3 → Members s t l r
+  pub of-member : {ws : List ℕ} {i : ℕ} {e : Expr} {l r : Judgement} {x y : List ℕ} {c : Counts} {t : ℕ} (p : MemberAt ws i e) → t ≡ nodeWord ws i 3 → Members s t l r
       → Agrees s l x y c (judged (p .inner)) → Agrees s r x y c (judged e)
   unfolding judge
   of-member p q m a = rw (p .is, ← q) (m .on _ _ _ _ a)
@@ -373,14 +375,14 @@ module _ (s : List ℕ) (n : ℕ) (k : Known) where
   of-slash p a = rw (p .is) a
 
   module _ (a b : Expr) {l : Judgement} {x y : List ℕ} {c : Counts} (h : Agrees s l x y c (judged a)) where
-    pub slash-bad : {v : Value} {r : Judgement} {t : ℕ} → l .out ≡ Val v → (v .kind ≡ 7 → ⊥) → t ≡ firstOf a → Operand s t v 1 7 (r .out) → r .counts ≡ l .counts
+    pub slash-bad : {v : Value} {r : Judgement} {t : ℕ} → l .out ≡ Val v → (v .kind ≡ 7 → ⊥) → t ≡ firstOf a → Operand s t v Left 7 (l .counts) r
         → Agrees s r x y c (judged (slash′ a b))
     unfolding judge
-    slash-bad e d q o w =
+    slash-bad e d q o =
         goes (judged a) _ h e (λ u g.
         rw (left-none (contents (tokens.tokens s)) (firstOf a) (λ ip. andThen (judged b) (rightOf (contents (tokens.tokens s)) n ip (firstOf b))) u (ip4-not u (λ z. d (ap (λ (f : Value). f .kind) g ∙ z))))
         (give (err (firstOf a) (operandType left tyIp4 (typeOf u)))
-        (o .is u left tyIp4 g refl refl ∙ ap (λ (f : ℕ). judgedAs s (err f (operandType left tyIp4 (typeOf u)))) q) w))
+        (o .is u left tyIp4 g refl refl ∙ ap (λ (f : ℕ). judgedAs s (err f (operandType left tyIp4 (typeOf u)))) q) (o .counted)))
 
     pub slash-good : {v : Value} {m r : Judgement} {z z′ : List ℕ} {t : ℕ} → l .out ≡ Val v → v .kind ≡ 7 → t ≡ firstOf b → Agrees s m y z (l .counts) (judged b)
         → Integral s (v .lo) t m z r z′ → Agrees s r x z′ c (judged (slash′ a b))
@@ -391,7 +393,7 @@ module _ (s : List ℕ) (n : ℕ) (k : Known) where
         (subst (λ (p : ℕ). Agrees s r y z′ (l .counts) (andThen (judged b) (rightOf (contents (tokens.tokens s)) n p (firstOf b)))) (ap (λ (w : Value). w .lo) f)
         (subst (λ (p : ℕ). Agrees s r y z′ (l .counts) (andThen (judged b) (rightOf (contents (tokens.tokens s)) n (v .lo) p))) q (o .on n _ _ _ g))))
 
-    pub slash-err : {f : Fault} → l .out ≡ Err f → Agrees s l x y c (judged (slash′ a b))
+    pub slash-err : {f : Diagnostic} → l .out ≡ Err f → Agrees s l x y c (judged (slash′ a b))
     unfolding judge
     slash-err e = stop-err (judged a) _ h e
 
@@ -404,8 +406,7 @@ module _ (s : List ℕ) (n : ℕ) (k : Known) where
     pub fits-slash : (f : Fits ws i (c .errors + c .warnings)) (p : SlashAt ws i (f .tree)) {l : Judgement} {x y : List ℕ}
         → Agrees s l x y c (judged (p .left)) → SlashFits ws i (l .counts .errors + l .counts .warnings)
     fits-slash f p {l} a =
-        let m : l .counts .errors + l .counts .warnings ≡ c .errors + c .warnings + length (judged (p .left) .warns) =
-        ap (λ (g : Counts). g .errors + g .warnings) (a .counted) ∙ omega arith in
+        let m = findings-after a in
         record {
           left = p .left;
           right = p .right;
@@ -414,23 +415,22 @@ module _ (s : List ℕ) (n : ℕ) (k : Known) where
         }
 
     pub fits-more : (f : SlashFits ws i (c .errors + c .warnings)) {m : Judgement} {x y : List ℕ} → Agrees s m x y c (judged (f .right))
-        → m .counts .errors + m .counts .warnings < 4611686018427387904
+        → m .counts .errors + m .counts .warnings < mostFindings
     fits-more f {m} a =
-        let w : m .counts .errors + m .counts .warnings ≡ c .errors + c .warnings + length (judged (f .right) .warns) =
-        ap (λ (g : Counts). g .errors + g .warnings) (a .counted) ∙ omega arith in
+        let w = findings-after a in
         omega (arith, w, f .room, few (contents (tokens.tokens s)) n k (f .right))
 
-pub fits-right : {ws : List ℕ} {i b count : ℕ} → SlashFits ws i count → b ≡ word ws i 3 → Fits ws b count
+pub fits-right : {ws : List ℕ} {i b count : ℕ} → SlashFits ws i count → b ≡ nodeWord ws i 3 → Fits ws b count
 fits-right f e = record { tree = f .right; rep = rw e (slash-parts (f .rep) .2); room = omega (arith, f .room) }
 
 -- the first operand, of `/` or of a member
 pub record ChildAt (ws : List ℕ) (i : ℕ) (e : Expr) : Type 0 where
   pub child : Expr
-  pub near : word ws i 2 < i
-  pub rep : RepAt ws (word ws i 2) child
+  pub near : nodeWord ws i 2 < i
+  pub rep : RepAt ws (nodeWord ws i 2) child
   pub less : exprSize child + 1 ≤ exprSize e
 
-pub child-at : {ws : List ℕ} {i : ℕ} {e : Expr} → RepAt ws i e → 6 ≤ word ws i 0 → (word ws i 0 ≡ 8 → ⊥) → ChildAt ws i e
+pub child-at : {ws : List ℕ} {i : ℕ} {e : Expr} → RepAt ws i e → 6 ≤ nodeWord ws i 0 → (nodeWord ws i 0 ≡ 8 → ⊥) → ChildAt ws i e
 child-at (is-literal f k) l p = absurd (omega arith)
 child-at (is-sock4 f k) l p = absurd (omega arith)
 child-at (is-local f k) l p = absurd (omega arith)
@@ -439,7 +439,7 @@ child-at (is-member {e = e} f k z n r) l p = record { child = e; near = n; rep =
 child-at (is-slash {a = a} f k z n m u v) l p = record { child = a; near = n; rep = u; less = omega arith }
 child-at (is-call f k z) l p = absurd (p k)
 
-pub fits-child : {ws : List ℕ} {i a count : ℕ} (f : Fits ws i count) (p : ChildAt ws i (f .tree)) → a ≡ word ws i 2 → Fits ws a count
+pub fits-child : {ws : List ℕ} {i a count : ℕ} (f : Fits ws i count) (p : ChildAt ws i (f .tree)) → a ≡ nodeWord ws i 2 → Fits ws a count
 fits-child f p e = record { tree = p .child; rep = rw e (p .rep); room = omega (arith, f .room, p .less) }
 
 pub at-row : {ws : List ℕ} {i j : ℕ} {e : Expr} → j ≡ i → RepAt ws i e → RepAt ws j e

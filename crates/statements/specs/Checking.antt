@@ -1,35 +1,41 @@
--- How the checker's counts, tables and answers stand for the language's.
+-- How the checker's counts, entries, tables and answers stand for the language's.
 use Prim.Native.Nat.{ℕ, _+_, _*_, _≤_, _<_}
 use mathlib.Core.Path.{_≡_}
-use mathlib.Core.List.{List, [], _∷_}
-use mathlib.Core.Option.{Option, none, some}
+use mathlib.Core.List.{List, [], _∷_, _++_}
+use mathlib.Core.Option.{Option}
 use lib.ListN.{length}
 use Rattle.table.specs.Table.{putRow}
 use Rattle.language.specs.Tokens as tokens
 use Rattle.language.specs.Tokens.{contents, between}
-use Rattle.language.specs.Sentences.{Expr, Stmt, import′, let′, expr′, firstOf, exprSize, programSize}
+use Rattle.language.specs.Sentences.{Expr, Stmt, import′, let′, expr′, firstOf, exprSize, programSize, nodeWidth}
 use Rattle.language.specs.Values as values
 use Rattle.language.specs.Values.{typeOf}
 use Rattle.language.specs.Judgements as judgements
-use Rattle.language.specs.Judgements.{Diag, Held, Known, narrowed, errorsIn, warningsIn, goes, full, discarded, told, bound, nameAt, judge}
-use Rattle.language.specs.Findings.{showsNothing, valueText, shownLow, shownHigh, tyKind, diagRow, stmtRow}
+use Rattle.language.specs.Judgements.{Diag, diag, Held, Known, known, Binding, Import, alreadyBound, mostNames, mostImports, narrowed, goes, refuses, discarded, told, bound, nameAt, judge}
+use Rattle.language.specs.Findings.{valueText, shownLow, shownHigh, tyKind}
 use Rattle.language.specs.Numbers.{tokenOf}
-use Rattle.judging.specs.declared.Token.{Token}
-use Rattle.judging.specs.declared.Value.{Value}
-use Rattle.judging.specs.declared.Text.{Text}
-use Rattle.judging.specs.declared.Fault.{Fault}
-use Rattle.judging.specs.declared.Counts.{Counts}
-use Rattle.judging.specs.declared.Judgement.{Judgement}
-use Rattle.judging.specs.Judging.{valueAs, detailAs, putRows, keyOf, Ready, Knows, Agrees, word, RepAt}
+use Rattle.constants.specs.Constants.{kindOf, lowOf, highOf}
+use Rattle.rows.specs.Rows.{nodeWord}
+use Rattle.rows.specs.declared.token.Token.{Token}
+use Rattle.rows.specs.Tokens.{tokenAs}
+use Rattle.names.specs.declared.Entry.{Entry}
+use Rattle.names.specs.Names.{keyOf}
+use Rattle.findings.specs.declared.Counts.{Counts}
+use Rattle.findings.specs.Findings.{Adds}
+use Rattle.values.specs.declared.Value.{Value}
+use Rattle.values.specs.declared.Judgement.{Judgement}
+use Rattle.values.specs.Values.{valueAs}
+use Rattle.paths.specs.Paths.{orNone}
+use Rattle.judging.specs.Judging.{mostFindings, Agrees, RepAt}
 use Rattle.statements.specs.declared.Turn.{Turn}
-use Rattle.statements.specs.declared.Turn.the-variants.{Went, Full}
-use Rattle.statements.specs.declared.Narrowed.{Narrowed}
-use Rattle.statements.specs.declared.Narrowed.the-variants as narrow
+use Rattle.statements.specs.declared.Turn.the-variants as turn
+use Rattle.statements.specs.declared.Outcome.{Outcome}
+use Rattle.statements.specs.declared.Outcome.the-variants as outcome
 
 -- ---- counts
 
-abbrev pub plusError : Counts → Counts
-plusError c = record { used = c .used; imported = c .imported; errors = c .errors + 1; warnings = c .warnings; statements = c .statements }
+abbrev pub noCounts : Counts
+noCounts = record { used = 0; imported = 0; errors = 0; warnings = 0; statements = 0 }
 
 abbrev pub plusStatement : Counts → Counts
 plusStatement c = record { used = c .used; imported = c .imported; errors = c .errors; warnings = c .warnings; statements = c .statements + 1 }
@@ -40,24 +46,34 @@ plusName c = record { used = c .used + 1; imported = c .imported; errors = c .er
 abbrev pub plusImport : Counts → Counts
 plusImport c = record { used = c .used; imported = c .imported + 1; errors = c .errors; warnings = c .warnings; statements = c .statements }
 
+-- the counts of findings and statements alone
+abbrev pub unnamed : Counts → Counts
+unnamed c = record { used = 0; imported = 0; errors = c .errors; warnings = c .warnings; statements = c .statements }
+
 -- one finding and one statement more can be counted
 pub record Room (c : Counts) : Type 0 where
-  pub findings : c .errors + c .warnings < 4611686018427387904
-  pub held : c .statements < 4611686018427387904
+  pub findings : c .errors + c .warnings < mostFindings
+  pub held : c .statements < mostFindings
+
+-- ---- entries
+
+-- the entry is of the name at the token t
+pub record Named (s : List ℕ) (t : ℕ) (e : Entry) : Type 0 where
+  pub name : between s (e .start) (e .end) ≡ nameAt (contents (tokens.tokens s)) t
+  pub key : e .key ≡ keyOf (nameAt (contents (tokens.tokens s)) t)
+  pub token : e .token ≡ t
+
+-- and stands for a value
+pub record Stands (v : Value) (e : Entry) : Type 0 where
+  pub kind : e .kind ≡ v .kind
+  pub low : e .lo ≡ v .lo
+  pub high : e .hi ≡ v .hi
+
+pub record Enters (tok : Token) (t key : ℕ) (v : Value) (e : Entry) : Type 0 where
+  pub named : (s : List ℕ) → tok ≡ tokenAs (tokenOf s t) → key ≡ keyOf (nameAt (contents (tokens.tokens s)) t) → Named s t e
+  pub stands : Stands v e
 
 -- ---- rows
-
-abbrev pub entryRow : ℕ → ℕ → ℕ → ℕ → Value → List ℕ
-entryRow start end key t v = start ∷ end ∷ t ∷ v .kind ∷ v .lo ∷ v .hi ∷ key ∷ []
-
-abbrev pub bareAs : ℕ → Token → Fault
-bareAs kind t = record { line = t .line; column = t .column; detail = detailAs (showsNothing 1 kind) }
-
-abbrev pub shownAs : values.Value → Text
-shownAs u = record { from = valueText u; start = shownLow u; end = shownHigh u }
-
-pub record Shown (v : Value) (r : Text) : Type 0 where
-  pub is : (u : values.Value) → v ≡ valueAs u → r ≡ shownAs u
 
 -- the row of a statement at a token
 abbrev pub heldRow : Token → values.Value → List ℕ
@@ -66,114 +82,108 @@ heldRow t u = t .line ∷ t .column ∷ 1 ∷ tyKind (typeOf u) ∷ valueText u 
 pub record HeldRow (t : Token) (v : Value) (row : ℕ) (x y : List ℕ) : Type 0 where
   pub is : (u : values.Value) → v ≡ valueAs u → y ≡ putRow x row (heldRow t u)
 
--- ---- values of statements
-
-abbrev pub narrowedAs : Option values.Value → Narrowed
-narrowedAs (some u) = narrow.Fits (valueAs u)
-narrowedAs none = narrow.TooLarge
-
-pub record Narrow (v : Value) (r : Narrowed) : Type 0 where
-  pub is : (u : values.Value) → v ≡ valueAs u → r ≡ narrowedAs (narrowed u)
-
 -- ---- turns
 
--- the findings ds and the held statements hs come after c and the tables x and u: then c′, y and v
-pub record Grows (s : List ℕ) (c : Counts) (x u : List ℕ) (c′ : Counts) (y v : List ℕ) (ds : List Diag) (hs : List Held) : Type 0 where
-  pub errors : c′ .errors ≡ c .errors + errorsIn ds
-  pub warnings : c′ .warnings ≡ c .warnings + warningsIn ds
-  pub statements : c′ .statements ≡ c .statements + length hs
-  pub diags : y ≡ putRows (diagRow (tokenOf s)) x (c .errors + c .warnings) ds
-  pub stmts : v ≡ putRows (stmtRow (tokenOf s)) u (c .statements) hs
-
--- no name more
-pub record SameNames (c c′ : Counts) : Type 0 where
-  pub used : c′ .used ≡ c .used
-  pub imported : c′ .imported ≡ c .imported
-
-abbrev pub GoesOf : List ℕ → Counts → List ℕ → List ℕ → Counts → List ℕ → List ℕ → Known → judgements.Turn → Type 0
-GoesOf s c x u c′ y v k (goes k′ ds hs) = (k′ ≡ k) × SameNames c c′ × Grows s c x u c′ y v ds hs
-GoesOf s c x u c′ y v k (full t) = ⊥
+-- it goes on, and no name is more: the tables of findings and of held statements from x and u to y and v
+abbrev pub GoesOf : List ℕ → Known → Counts → List ℕ → List ℕ → Counts → List ℕ → List ℕ → judgements.Turn → Type 0
+GoesOf s k c x u c′ y v (goes k′ ds hs) = (k′ ≡ k) × Adds s c x u c′ y v ds hs
+GoesOf s k c x u c′ y v (refuses m t) = ⊥
 
 -- a value that is told of
 pub record Tells (s : List ℕ) (t : ℕ) (v : Value) (c : Counts) (x u : List ℕ) (c′ : Counts) (y w : List ℕ) : Type 0 where
-  pub is : (n : ℕ) (k : Known) (d : values.Value) → v ≡ valueAs d → GoesOf s c x u c′ y w k (discarded (contents (tokens.tokens s)) n k t (narrowed d) [])
+  pub is : (n : ℕ) (k : Known) (d : values.Value) → v ≡ valueAs d → GoesOf s k c x u c′ y w (discarded (contents (tokens.tokens s)) n k t (narrowed d) [])
 
 -- an expression as a statement
 pub record Exprs (s : List ℕ) (n : ℕ) (k : Known) (e : Expr) (c : Counts) (x u : List ℕ) (c′ : Counts) (y v : List ℕ) : Type 0 where
-  pub is : GoesOf s c x u c′ y v k
+  pub is : GoesOf s k c x u c′ y v
       (told (contents (tokens.tokens s)) n k (firstOf e) (judge (contents (tokens.tokens s)) n k e .out) (judge (contents (tokens.tokens s)) n k e .warns))
 
 -- the expression of the statement in row i can be judged, and a finding and a statement more be counted
 pub record StmtFits (ws : List ℕ) (i : ℕ) (c : Counts) : Type 0 where
   pub tree : Expr
-  pub rep : RepAt ws (word ws i 2) tree
-  pub room : c .errors + c .warnings + exprSize tree + 1 ≤ 4611686018427387904
-  pub held : c .statements < 4611686018427387904
+  pub rep : RepAt ws (nodeWord ws i 2) tree
+  pub room : c .errors + c .warnings + exprSize tree + 1 ≤ mostFindings
+  pub held : c .statements < mostFindings
 
--- ---- turns that may bind a name
+-- a name that is bound, with its value or with none
+pub record BindsName (s : List ℕ) (k : Known) (c : Counts) (e : Entry) (k′ : Known) : Type 0 where
+  pub token : ℕ
+  pub value : Option values.Value
+  pub named : Named s token e
+  pub kind : e .kind ≡ kindOf value
+  pub low : e .lo ≡ lowOf value
+  pub high : e .hi ≡ highOf value
+  pub known : k′ ≡ known (k .imports) (k .bindings ++ record { name = nameAt (contents (tokens.tokens s)) token; tok = token; value = value } ∷ [])
+  pub room : c .used < mostNames
 
--- then the tables of names are b and i, the others y and v
-pub record Steps (s toks : List ℕ) (c : Counts) (x u : List ℕ) (c′ : Counts) (b i : List (List ℕ)) (y v : List ℕ) (k : Known) (ds : List Diag) (hs : List Held) : Type 0 where
-  pub knows : Knows s b i c′ k
-  pub ready : Ready s toks b i c′
-  pub grows : Grows s c x u c′ y v ds hs
+-- a name that is imported, with its module or with none
+pub record ImportsName (s : List ℕ) (k : Known) (c : Counts) (e : Entry) (k′ : Known) : Type 0 where
+  pub token : ℕ
+  pub named : Named s token e
+  pub known : k′ ≡ known (k .imports ++ record { name = nameAt (contents (tokens.tokens s)) token; found = orNone (e .kind) } ∷ []) (k .bindings)
+  pub room : c .imported < mostImports
 
-abbrev pub TurnOf : List ℕ → List ℕ → Counts → List ℕ → List ℕ → Turn → List (List ℕ) → List (List ℕ) → List ℕ → List ℕ → judgements.Turn → Type 0
-TurnOf s toks c x u (Went c′) b i y v (goes k ds hs) = Steps s toks c x u c′ b i y v k ds hs
-TurnOf s toks c x u (Went c′) b i y v (full t) = ⊥
-TurnOf s toks c x u (Full t) b i y v (goes k ds hs) = ⊥
-TurnOf s toks c x u (Full t) b i y v (full t′) = t ≡ t′
+abbrev pub TurnOf : List ℕ → Known → Counts → List ℕ → List ℕ → Turn → List ℕ → List ℕ → judgements.Turn → Type 0
+TurnOf s k c x u (turn.Went c′) y v (goes k′ ds hs) = (k′ ≡ k) × Adds s c x u c′ y v ds hs
+TurnOf s k c x u (turn.Binds c′ e) y v (goes k′ ds hs) = BindsName s k c e k′ × Adds s c x u c′ y v ds hs
+TurnOf s k c x u (turn.Imports c′ e) y v (goes k′ ds hs) = ImportsName s k c e k′ × Adds s c x u c′ y v ds hs
+TurnOf s k c x u (turn.Refused m t) y v (goes k′ ds hs) = ⊥
+TurnOf s k c x u (turn.Went c′) y v (refuses m t) = ⊥
+TurnOf s k c x u (turn.Binds c′ e) y v (refuses m t) = ⊥
+TurnOf s k c x u (turn.Imports c′ e) y v (refuses m t) = ⊥
+TurnOf s k c x u (turn.Refused m t) y v (refuses m′ t′) = (m ≡ m′) × (t ≡ t′)
 
-pub record Turns (s toks : List ℕ) (c : Counts) (x u : List ℕ) (r : Turn) (b i : List (List ℕ)) (y v : List ℕ) (t : judgements.Turn) : Type 0 where
-  pub turn : TurnOf s toks c x u r b i y v t
+pub record Turns (s : List ℕ) (k : Known) (c : Counts) (x u : List ℕ) (r : Turn) (y v : List ℕ) (t : judgements.Turn) : Type 0 where
+  pub turn : TurnOf s k c x u r y v t
 
 -- a `let` after its value was judged
-pub record Binds (b : List (List ℕ)) (x′ : List ℕ) (start end key t : ℕ) (j : Judgement) (c′ : Counts) (b′ : List (List ℕ)) (y : List ℕ) : Type 0 where
-  pub is : (s toks : List ℕ) (i : List (List ℕ)) (x u : List ℕ) (n : ℕ) (k : Known) (c : Counts) (e : Expr) → Knows s b i c k → Ready s toks b i c
-      → between s start end ≡ nameAt (contents (tokens.tokens s)) t → key ≡ keyOf (nameAt (contents (tokens.tokens s)) t) → Agrees s j x x′ c (judge (contents (tokens.tokens s)) n k e)
-      → TurnOf s toks c x u (Went c′) b′ i y u
+pub record Binds (tok : Token) (t key : ℕ) (j : Judgement) (x′ : List ℕ) (r : Turn) (y : List ℕ) : Type 0 where
+  pub is : (s x u : List ℕ) (n : ℕ) (k : Known) (c : Counts) (e : Expr) → c .used < mostNames → tok ≡ tokenAs (tokenOf s t)
+      → key ≡ keyOf (nameAt (contents (tokens.tokens s)) t) → Agrees s j x x′ c (judge (contents (tokens.tokens s)) n k e)
+      → TurnOf s k c x u r y u
       (bound (contents (tokens.tokens s)) n k t (judge (contents (tokens.tokens s)) n k e .out) (judge (contents (tokens.tokens s)) n k e .warns))
+
+-- a name that was bound before, at the token `first`
+pub record BoundTwice (s : List ℕ) (tok : Token) (first : ℕ) (c : Counts) (x : List ℕ) (c′ : Counts) (y : List ℕ) : Type 0 where
+  pub adds : (n t : ℕ) (u : List ℕ) → tok ≡ tokenAs (tokenOf s t) → Adds s c x u c′ y u (diag n t (alreadyBound first) ∷ []) []
 
 -- ---- statements in the node table: the loop goes over all rows
 
 pub data StmtsAt (ws : List ℕ) : ℕ → List Stmt → Type 0 where
-  at-end : {i : ℕ} → length ws ≤ 5 * i → StmtsAt ws i []
+  at-end : {i : ℕ} → length ws ≤ nodeWidth * i → StmtsAt ws i []
   -- a row of an expression
-  no-stmt : {i : ℕ} {ss : List Stmt} → 5 * i + 5 ≤ length ws → word ws i 0 < 11 → StmtsAt ws (i + 1) ss → StmtsAt ws i ss
-  an-import : {i : ℕ} {ss : List Stmt} → 5 * i + 5 ≤ length ws → word ws i 0 ≡ 11 → StmtsAt ws (i + 1) ss
-      → StmtsAt ws i (import′ (word ws i 1) ∷ ss)
-  a-let : {i : ℕ} {e : Expr} {ss : List Stmt} → 5 * i + 5 ≤ length ws → word ws i 0 ≡ 12 → RepAt ws (word ws i 2) e → StmtsAt ws (i + 1) ss
-      → StmtsAt ws i (let′ (word ws i 1) e ∷ ss)
-  an-expr : {i : ℕ} {e : Expr} {ss : List Stmt} → 5 * i + 5 ≤ length ws → word ws i 0 ≡ 13 → RepAt ws (word ws i 2) e → StmtsAt ws (i + 1) ss
-      → StmtsAt ws i (expr′ e ∷ ss)
+  no-stmt : {i : ℕ} {ss : List Stmt} → nodeWidth * i + nodeWidth ≤ length ws → nodeWord ws i 0 < 11 → StmtsAt ws (i + 1) ss → StmtsAt ws i ss
+  an-import : {i : ℕ} {ss : List Stmt} → nodeWidth * i + nodeWidth ≤ length ws → nodeWord ws i 0 ≡ 11 → StmtsAt ws (i + 1) ss
+      → StmtsAt ws i (import′ (nodeWord ws i 1) ∷ ss)
+  a-let : {i : ℕ} {e : Expr} {ss : List Stmt} → nodeWidth * i + nodeWidth ≤ length ws → nodeWord ws i 0 ≡ 12 → RepAt ws (nodeWord ws i 2) e
+      → StmtsAt ws (i + 1) ss → StmtsAt ws i (let′ (nodeWord ws i 1) e ∷ ss)
+  an-expr : {i : ℕ} {e : Expr} {ss : List Stmt} → nodeWidth * i + nodeWidth ≤ length ws → nodeWord ws i 0 ≡ 13 → RepAt ws (nodeWord ws i 2) e
+      → StmtsAt ws (i + 1) ss → StmtsAt ws i (expr′ e ∷ ss)
 
 -- the statements from row i on can be judged, and what they find and hold be counted: a statement has as many rows as it can
 -- have findings, or more
 pub record RowFits (ws : List ℕ) (i : ℕ) (c : Counts) : Type 0 where
   pub list : List Stmt
   pub stands : StmtsAt ws i list
-  pub room : c .errors + c .warnings + programSize list ≤ 4611686018427387904
-  pub held : c .statements + programSize list ≤ 4611686018427387904
+  pub room : c .errors + c .warnings + programSize list ≤ mostFindings
+  pub held : c .statements + programSize list ≤ mostFindings
 
 -- row i of the statements ss that are left: it passes a row of an expression, or takes a turn with the first. Before, the
--- tables of names were b and m, the others x and u.
-pub data RowTurns (s toks ws : List ℕ) (i n : ℕ) (k : Known) (c : Counts) (b m : List (List ℕ)) (x u : List ℕ)
-    (r : Turn) (b′ m′ : List (List ℕ)) (y v : List ℕ) : List Stmt → Type 0 where
-  passes : {ss : List Stmt} → StmtsAt ws (i + 1) ss → r ≡ Went c → b′ ≡ b → m′ ≡ m → y ≡ x → v ≡ u → RowTurns s toks ws i n k c b m x u r b′ m′ y v ss
-  takes : {st : Stmt} {ss : List Stmt} → StmtsAt ws (i + 1) ss → Turns s toks c x u r b′ m′ y v (judgements.stmt (contents (tokens.tokens s)) n k st)
-      → RowTurns s toks ws i n k c b m x u r b′ m′ y v (st ∷ ss)
+-- tables were x and u.
+pub data RowTurns (s ws : List ℕ) (i n : ℕ) (k : Known) (c : Counts) (x u : List ℕ) (r : Turn) (y v : List ℕ) : List Stmt → Type 0 where
+  passes : {ss : List Stmt} → StmtsAt ws (i + 1) ss → r ≡ turn.Went c → y ≡ x → v ≡ u → RowTurns s ws i n k c x u r y v ss
+  takes : {st : Stmt} {ss : List Stmt} → StmtsAt ws (i + 1) ss → Turns s k c x u r y v (judgements.stmt (contents (tokens.tokens s)) n k st)
+      → RowTurns s ws i n k c x u r y v (st ∷ ss)
 
 -- ---- the run
 
-abbrev pub noCounts : Counts
-noCounts = record { used = 0; imported = 0; errors = 0; warnings = 0; statements = 0 }
-
-abbrev pub ComesTo : List ℕ → List ℕ → List ℕ → Turn → List ℕ → List ℕ → judgements.Outcome → Type 0
-ComesTo s x u (Went c) y v (judgements.judged ds hs) = Grows s noCounts x u c y v ds hs
-ComesTo s x u (Went c) y v (judgements.refused t) = ⊥
-ComesTo s x u (Full t) y v (judgements.judged ds hs) = ⊥
-ComesTo s x u (Full t) y v (judgements.refused t′) = t ≡ t′
+-- what the statements found and held, whatever names they bound
+abbrev pub ComesTo : List ℕ → List ℕ → List ℕ → Outcome → List ℕ → List ℕ → judgements.Outcome → Type 0
+ComesTo s x u (outcome.Judged c) y v (judgements.judged ds hs) = Adds s noCounts x u (unnamed c) y v ds hs
+ComesTo s x u (outcome.Judged c) y v (judgements.refused m t) = ⊥
+ComesTo s x u (outcome.Refused m t) y v (judgements.judged ds hs) = ⊥
+ComesTo s x u (outcome.Refused m t) y v (judgements.refused m′ t′) = (m ≡ m′) × (t ≡ t′)
 
 -- the tables of findings and of held statements were x and u, and are y and v after the run
-pub record Comes (s x u : List ℕ) (r : Turn) (y v : List ℕ) (o : judgements.Outcome) : Type 0 where
+pub record Comes (s x u : List ℕ) (r : Outcome) (y v : List ℕ) (o : judgements.Outcome) : Type 0 where
   pub come : ComesTo s x u r y v o

@@ -1,75 +1,64 @@
 // Statements: what they come to, one after the other. Ports check.rs's `Checker`, its statements and its statement loop; the
-// definitions are `Judgements` and `Findings` of the crate `language`.
+// definitions are `Judgements` and `Findings` of the crate `language`. A statement reads the checker's state and says what it
+// binds or imports; the loop alone stores it.
 ghost use mathlib.Core.Path.{_≡_};
 ghost use mathlib.Core.List.{List};
-ghost use Prim.Native.Nat.{ℕ, _+_, _*_, _<_, _≤_};
-ghost use lib.ListN.{length, set};
-ghost use Rattle.table.specs.Table.{putRow};
-ghost use Rattle.language.specs.Tokens.{tokens, contents, between};
-ghost use Rattle.language.specs.Numbers.{tokenOf};
+ghost use Prim.Native.Nat.{ℕ, _+_, _*_, _/_, _<_, _≤_};
+ghost use lib.ListN.{length};
+ghost use Rattle.language.specs.Tables.{tokenWidth};
+ghost use Rattle.language.specs.Tokens.{tokens, contents};
 ghost use Rattle.language.specs.Values.{lookup};
+ghost use Rattle.language.specs.Sentences.{Expr, Stmt, import′, let′, nodeWidth};
+ghost use Rattle.language.specs.Judgements.{Known, mostNames, mostImports, stmt, judgeAll};
 ghost use Rattle.constants.specs.Constants.{orZero};
-ghost use Rattle.language.specs.Sentences.{Expr, Stmt, import′, let′};
-ghost use Rattle.language.specs.Judgements.{Known, nameAt, stmt, judgeAll, mostNames, mostImports};
-ghost use Rattle.judging.specs.Judging.{tokenAs, Lexed, keyOf, Keyed, Ready, Knows, RepAt, faultRow, word, plusWarnings};
-ghost use Rattle.statements.specs.Checking.{plusError, plusStatement, plusName, plusImport, entryRow, HeldRow, bareAs, Narrow, Shown, Tells, Exprs, Turns, Binds, Room, StmtFits, StmtsAt, RowFits, RowTurns, noCounts, Comes};
+ghost use Rattle.rows.specs.Rows.{nodeWord};
+ghost use Rattle.rows.specs.Tokens.{TokenTable};
+ghost use Rattle.names.specs.Names.{nameWidth, Keyed, stored};
+ghost use Rattle.judging.specs.Judging.{mostFindings, Ready, Knows, RepAt};
+ghost use Rattle.statements.specs.Checking.{noCounts, plusName, plusImport, plusStatement, Enters, HeldRow, Room, StmtFits, Tells, Exprs, Binds, BoundTwice, Turns, RowFits, StmtsAt, RowTurns, Comes};
 use constants::Constants;
-use judging::Counts;
-use judging::Detail;
-use judging::Entry;
-use judging::Fault;
-use judging::Judged;
-use judging::Judgement;
-use judging::Name;
-use judging::Value;
-use rows::DiagnosticRow;
+use findings::Counts;
+use findings::Diagnostic;
+use findings::What;
+use names::Entry;
 use rows::NodeKind;
 use rows::NodeRow;
 use rows::StatementRow;
-use rows::Text;
 use rows::TokKind;
 use rows::Token;
-use rows::Ty;
-use wide::Size;
-use wide::Wide;
+use rows::Verdict;
+use values::Judged;
+use values::Judgement;
+use values::Narrowed;
+use values::Value;
 
-// The checker's state: two arrays of empty entries for the names that are bound and imported, filled in order of binding,
-// and `Counts`, which says how many of each are filled.
-pub struct Checker {}
+// The checker's state: the names that are bound and imported, in order of binding. `Counts` says how many of each are filled.
+pub struct Checker {
+    pub bindings: [u64; Checker::NAMES * Entry::WORDS],
+    pub imports: [u64; Checker::IMPORTS * Entry::WORDS],
+}
 
 impl Checker {
     pub const NAMES: usize = 512;
 
     pub const IMPORTS: usize = 64;
 
-    // How many words a row of the diagnostic table and a row of the statement table have.
-    pub const DIAGNOSTIC_WORDS: usize = DiagnosticRow::WORDS;
-
-    pub const STATEMENT_WORDS: usize = 7;
-
     // The kind of a statement that is held: hir.rs `StmtKind::Discard`.
     pub const DISCARD: u64 = 1;
 
-    // An entry with no name and no value.
-    pub const EMPTY: Entry = [0; Name::WORDS];
-
-    // No names yet.
-    pub fn names() -> [Entry; Checker::NAMES]
-        ensures { λ r. ⌜ length r ≡ mostNames ⌝ }
+    // Empty entries.
+    pub fn new() -> Self
+        ensures { λ r. ⌜ (length (r .bindings) ≡ mostNames * nameWidth) × (length (r .imports) ≡ mostImports * nameWidth) ⌝ }
     {
-        [Checker::EMPTY; Checker::NAMES]
-    }
-
-    // No imports yet.
-    pub fn modules() -> [Entry; Checker::IMPORTS]
-        ensures { λ r. ⌜ length r ≡ mostImports ⌝ }
-    {
-        [Checker::EMPTY; Checker::IMPORTS]
+        Checker {
+            bindings: [0; Checker::NAMES * Entry::WORDS],
+            imports: [0; Checker::IMPORTS * Entry::WORDS],
+        }
     }
 
     // Nothing is bound, imported, found or held.
     pub fn start() -> Counts
-        ensures { λ r. ⌜ r ≡ record { used = 0; imported = 0; errors = 0; warnings = 0; statements = 0 } ⌝ }
+        ensures { λ r. ⌜ r ≡ noCounts ⌝ }
     {
         Counts {
             used: 0,
@@ -81,25 +70,324 @@ impl Checker {
     }
 }
 
-// A statement goes on with these counts, or it has the name that is one too many.
+// What a statement leads to.
 pub enum Turn {
+    // it binds and imports nothing
     Went(Counts),
-    Full(u64),
+    Binds(Counts, Entry),
+    Imports(Counts, Entry),
+    // the number of a refusal, and the token where it stands
+    Refused(u64, u64),
 }
 
-// A part of the source.
-pub struct Span {
-    pub start: u64,
-    pub end: u64,
+// What all statements come to.
+pub enum Outcome {
+    Judged(Counts),
+    Refused(u64, u64),
 }
 
-// An integer with the smallest type that holds it, if any does.
-pub enum Narrowed {
-    Fits(Value),
-    TooLarge,
+// ---- the state
+
+// Stores a name that is bound.
+fn put_binding(bindings: &mut [u64; Checker::NAMES * Entry::WORDS], row: usize, e: Entry)
+    requires { ⌜ row < mostNames ⌝ }
+    ensures { λ _. ⌜ now (bindings .exit) ≡ stored mostNames (now (bindings .entry)) row e ⌝ }
+{
+    let at = Checker::NAMES + 6 * row;
+    bindings[row] = e.key;
+    bindings[at] = e.start;
+    bindings[at + 1] = e.end;
+    bindings[at + 2] = e.token;
+    bindings[at + 3] = e.kind;
+    bindings[at + 4] = e.lo;
+    bindings[at + 5] = e.hi;
 }
 
-// ---- counts
+// Stores a name that is imported.
+fn put_import(imports: &mut [u64; Checker::IMPORTS * Entry::WORDS], row: usize, e: Entry)
+    requires { ⌜ row < mostImports ⌝ }
+    ensures { λ _. ⌜ now (imports .exit) ≡ stored mostImports (now (imports .entry)) row e ⌝ }
+{
+    let at = Checker::IMPORTS + 6 * row;
+    imports[row] = e.key;
+    imports[at] = e.start;
+    imports[at + 1] = e.end;
+    imports[at + 2] = e.token;
+    imports[at + 3] = e.kind;
+    imports[at + 4] = e.lo;
+    imports[at + 5] = e.hi;
+}
+
+// The name at the token t, with its key and what it stands for.
+fn entry(tok: Token, t: u64, key: u64, v: Value) -> Entry
+    ensures { λ r. ⌜ Enters tok t key v r ⌝ }
+{
+    if tok.kind == TokKind::IDENTIFIER {
+        return Entry {
+            key,
+            start: tok.start,
+            end: tok.end,
+            token: t,
+            kind: v.kind,
+            lo: v.lo,
+            hi: v.hi,
+        };
+    }
+    Entry {
+        key,
+        start: 0,
+        end: 0,
+        token: t,
+        kind: v.kind,
+        lo: v.lo,
+        hi: v.hi,
+    }
+}
+
+// ---- statements
+
+// Writes a statement that discards a value, where its row fits.
+fn put_stmt(stmts: &mut [u64], row: usize, tok: Token, v: Value)
+    requires { ⌜ row < mostFindings ⌝ }
+    ensures { λ _. ⌜ HeldRow tok v row (now (stmts .entry)) (now (stmts .exit)) ⌝ }
+{
+    let text = values::shown(v);
+    let ty = values::type_of(v);
+    let words: [u64; StatementRow::WORDS] = [
+        tok.line,
+        tok.column,
+        Checker::DISCARD,
+        ty.kind,
+        text.from,
+        text.start,
+        text.end,
+    ];
+    table::put_row(stmts, row, &words);
+}
+
+fn held_one(counts: Counts) -> Counts
+    requires { ⌜ counts .statements < mostFindings ⌝ }
+    ensures { λ r. ⌜ r ≡ plusStatement counts ⌝ }
+{
+    Counts {
+        statements: counts.statements + 1,
+        ..counts
+    }
+}
+
+// The value of an expression statement, at the token t: it is discarded, with a warning.
+fn tell(
+    toks: &[u64],
+    diags: &mut [u64],
+    stmts: &mut [u64],
+    t: u64,
+    v: Value,
+    counts: Counts,
+) -> Counts
+    requires { ⌜ tokenWidth ≤ length (now toks) ⌝ }
+    requires { ⌜ Room counts ⌝ }
+    ensures { λ r. ⌜ ((s : List ℕ) → TokenTable s (now (toks .entry)) → Tells s t v counts (now (diags .entry)) (now (stmts .entry)) r (now (diags .exit)) (now (stmts .exit))) ⌝ }
+{
+    let tok = rows::token_at(toks, t);
+    match values::narrow(v) {
+        Narrowed::Fits(w) => {
+            put_stmt(stmts, counts.statements, tok, w);
+            held_one(findings::report(
+                diags,
+                counts,
+                Diagnostic::at(tok, What::DiscardedValue(values::type_of(w))),
+            ))
+        }
+        Narrowed::TooLarge => {
+            findings::report(diags, counts, Diagnostic::at(tok, What::IntegralTooLarge))
+        }
+    }
+}
+
+// An expression as a statement: row i.
+fn expr_stmt(
+    source: &[u8],
+    toks: &[u64],
+    nodes: &[u64],
+    bindings: &[u64],
+    imports: &[u64],
+    diags: &mut [u64],
+    stmts: &mut [u64],
+    i: usize,
+    counts: Counts,
+) -> Counts
+    requires { ⌜ Ready (now source) (now toks) (now bindings) (now imports) counts ⌝ }
+    requires { ⌜ StmtFits (now nodes) i counts × (nodeWidth * i + nodeWidth ≤ length (now nodes)) ⌝ }
+    ensures { λ r. ⌜ ((n : ℕ) (k : Known) (e : Expr) → Knows (now (source .entry)) (now (bindings .entry)) (now (imports .entry)) counts k
+        → RepAt (now (nodes .entry)) (nodeWord (now (nodes .entry)) i 2) e
+        → Exprs (now (source .entry)) n k e counts (now (diags .entry)) (now (stmts .entry)) r (now (diags .exit)) (now (stmts .exit))) ⌝ }
+{
+    let e = rows::node_word(nodes, i, NodeRow::FIRST) as usize;
+    let j = judging::judge(source, toks, nodes, bindings, imports, diags, e, counts);
+    let out = j.out;
+    let found = j.counts;
+    match out {
+        Judged::Val(v) => tell(
+            toks,
+            diags,
+            stmts,
+            rows::node_word(nodes, e, NodeRow::TOKEN),
+            v,
+            found,
+        ),
+        Judged::Err(d) => findings::report(diags, found, d),
+        Judged::Poisoned => found,
+    }
+}
+
+// The number of the module with a name, 0 where there is none.
+fn module_named(name: &[u8]) -> u64
+    ensures { λ r. ⌜ r ≡ orZero (lookup 0 (now (name .entry))) ⌝ }
+{
+    let table = Constants::new();
+    let rows = table.rows;
+    let text = table.text;
+    constants::lookup(&rows, &text, 0, name)
+}
+
+// `import` of the name at the token t. A failed import poisons its name, as a failed `let` does.
+fn import(
+    source: &[u8],
+    toks: &[u64],
+    imports: &[u64],
+    diags: &mut [u64],
+    t: u64,
+    counts: Counts,
+) -> Turn
+    requires { ⌜ TokenTable (now source) (now toks) × (counts .imported ≤ length (now imports) / nameWidth) × Keyed (now source) (now imports) (counts .imported) ⌝ }
+    requires { ⌜ Room counts ⌝ }
+    ensures { λ r. ⌜ ((n : ℕ) (k : Known) (b u : List ℕ) → Knows (now (source .entry)) b (now (imports .entry)) counts k
+        → Turns (now (source .entry)) k counts (now (diags .entry)) u r (now (diags .exit)) u (stmt (contents (tokens (now (source .entry)))) n k (import′ t))) ⌝ }
+{
+    let tok = rows::token_at(toks, t);
+    let name = rows::name_at(source, tok);
+    let key = names::key_of(name);
+    let found = names::find(source, imports, counts.imported, key, name);
+    if found.at < counts.imported {
+        return Turn::Went(findings::report(
+            diags,
+            counts,
+            Diagnostic::at(tok, What::MultipleImports),
+        ));
+    }
+    if Checker::IMPORTS <= counts.imported {
+        return Turn::Refused(Verdict::NAMES, t);
+    }
+    let kind = module_named(name);
+    let e = entry(tok, t, key, Value { kind, lo: 0, hi: 0 });
+    if kind == 0 {
+        let more = findings::report(diags, counts, Diagnostic::at(tok, What::UnknownModule));
+        return Turn::Imports(more, e);
+    }
+    Turn::Imports(counts, e)
+}
+
+// The name at the token t is bound to what its value came to; where that failed, to nothing.
+fn bind(diags: &mut [u64], tok: Token, t: u64, key: u64, j: Judgement) -> Turn
+    requires { ⌜ j .counts .errors + j .counts .warnings < mostFindings ⌝ }
+    ensures { λ r. ⌜ Binds tok t key j (now (diags .entry)) r (now (diags .exit)) ⌝ }
+{
+    let out = j.out;
+    let counts = j.counts;
+    match out {
+        Judged::Val(v) => Turn::Binds(counts, entry(tok, t, key, v)),
+        Judged::Err(d) => {
+            let more = findings::report(diags, counts, d);
+            Turn::Binds(more, entry(tok, t, key, Value::NONE))
+        }
+        Judged::Poisoned => Turn::Binds(counts, entry(tok, t, key, Value::NONE)),
+    }
+}
+
+// A name that is bound already: the finding shows where it was bound first, at the token `first`.
+fn bound_twice(toks: &[u64], diags: &mut [u64], tok: Token, first: u64, counts: Counts) -> Counts
+    requires { ⌜ tokenWidth ≤ length (now toks) ⌝ }
+    requires { ⌜ counts .errors + counts .warnings < mostFindings ⌝ }
+    ensures { λ r. ⌜ ((s : List ℕ) → TokenTable s (now (toks .entry)) → BoundTwice s tok first counts (now (diags .entry)) r (now (diags .exit))) ⌝ }
+{
+    let then = rows::token_at(toks, first);
+    findings::report(
+        diags,
+        counts,
+        Diagnostic::at(tok, What::AlreadyBound(then.line, then.column)),
+    )
+}
+
+// `let` in row i. `AlreadyBound` is found before the value is read.
+fn let_stmt(
+    source: &[u8],
+    toks: &[u64],
+    nodes: &[u64],
+    bindings: &[u64],
+    imports: &[u64],
+    diags: &mut [u64],
+    i: usize,
+    counts: Counts,
+) -> Turn
+    requires { ⌜ Ready (now source) (now toks) (now bindings) (now imports) counts ⌝ }
+    requires { ⌜ StmtFits (now nodes) i counts × (nodeWidth * i + nodeWidth ≤ length (now nodes)) ⌝ }
+    ensures { λ r. ⌜ ((n : ℕ) (k : Known) (e : Expr) (u : List ℕ) → Knows (now (source .entry)) (now (bindings .entry)) (now (imports .entry)) counts k
+        → RepAt (now (nodes .entry)) (nodeWord (now (nodes .entry)) i 2) e
+        → Turns (now (source .entry)) k counts (now (diags .entry)) u r (now (diags .exit)) u
+        (stmt (contents (tokens (now (source .entry)))) n k (let′ (nodeWord (now (nodes .entry)) i 1) e))) ⌝ }
+{
+    let t = rows::node_word(nodes, i, NodeRow::TOKEN);
+    let tok = rows::token_at(toks, t);
+    let name = rows::name_at(source, tok);
+    let key = names::key_of(name);
+    let found = names::find(source, bindings, counts.used, key, name);
+    let at = found.at;
+    if at < counts.used {
+        let first = names::word(bindings, at, Entry::TOKEN);
+        return Turn::Went(bound_twice(toks, diags, tok, first, counts));
+    }
+    if Checker::NAMES <= counts.used {
+        return Turn::Refused(Verdict::NAMES, t);
+    }
+    let e = rows::node_word(nodes, i, NodeRow::FIRST) as usize;
+    let j = judging::judge(source, toks, nodes, bindings, imports, diags, e, counts);
+    bind(diags, tok, t, key, j)
+}
+
+// Row i: a statement takes its turn, a row of an expression is passed.
+fn stmt(
+    source: &[u8],
+    toks: &[u64],
+    nodes: &[u64],
+    bindings: &[u64],
+    imports: &[u64],
+    diags: &mut [u64],
+    stmts: &mut [u64],
+    i: usize,
+    counts: Counts,
+) -> Turn
+    requires { ⌜ Ready (now source) (now toks) (now bindings) (now imports) counts ⌝ }
+    requires { ⌜ RowFits (now nodes) i counts × (nodeWidth * i + nodeWidth ≤ length (now nodes)) ⌝ }
+    ensures { λ r. ⌜ ((n : ℕ) (k : Known) (ss : List Stmt) → Knows (now (source .entry)) (now (bindings .entry)) (now (imports .entry)) counts k
+        → StmtsAt (now (nodes .entry)) i ss
+        → RowTurns (now (source .entry)) (now (nodes .entry)) i n k counts (now (diags .entry)) (now (stmts .entry)) r (now (diags .exit)) (now (stmts .exit)) ss) ⌝ }
+{
+    match rows::node_word(nodes, i, NodeRow::KIND) {
+        NodeKind::IMPORT => import(
+            source,
+            toks,
+            imports,
+            diags,
+            rows::node_word(nodes, i, NodeRow::TOKEN),
+            counts,
+        ),
+        NodeKind::LET => let_stmt(source, toks, nodes, bindings, imports, diags, i, counts),
+        NodeKind::EXPRESSION => Turn::Went(expr_stmt(
+            source, toks, nodes, bindings, imports, diags, stmts, i, counts,
+        )),
+        _ => Turn::Went(counts),
+    }
+}
 
 fn named_one(counts: Counts) -> Counts
     requires { ⌜ counts .used < mostNames ⌝ }
@@ -121,419 +409,20 @@ fn imported_one(counts: Counts) -> Counts
     }
 }
 
-fn held_one(counts: Counts) -> Counts
-    requires { ⌜ counts .statements < 9223372036854775808 ⌝ }
-    ensures { λ r. ⌜ r ≡ plusStatement counts ⌝ }
-{
-    Counts {
-        statements: counts.statements + 1,
-        ..counts
-    }
-}
-
-// ---- rows
-
-// Where the bytes of a name's token are; of any other none.
-fn name_span(tok: Token) -> Span
-    ensures { λ r. ⌜ ((s : List ℕ) (t : ℕ) → tok ≡ tokenAs (tokenOf s t) → between s (r .start) (r .end) ≡ nameAt (contents (tokens s)) t) ⌝ }
-{
-    if tok.kind == TokKind::IDENTIFIER {
-        return Span {
-            start: tok.start,
-            end: tok.end,
-        };
-    }
-    Span { start: 0, end: 0 }
-}
-
-// The key of a name's token.
-fn key_at(source: &[u8], tok: Token) -> u64
-    ensures { λ r. ⌜ ((t : ℕ) → tok ≡ tokenAs (tokenOf (now (source .entry)) t) → r ≡ keyOf (nameAt (contents (tokens (now (source .entry)))) t)) ⌝ }
-{
-    judging::key_of(rows::name_at(source, tok))
-}
-
-// Writes an entry of a table of names.
-fn put_entry(entries: &mut [Entry], row: usize, name: Span, key: u64, t: u64, v: Value)
-    requires { ⌜ row < length (now entries) ⌝ }
-    ensures { λ _. ⌜ now (entries .exit) ≡ set (now (entries .entry)) row (entryRow (name .start) (name .end) key t v) ⌝ }
-{
-    entries[row] = [name.start, name.end, t, v.kind, v.lo, v.hi, key];
-}
-
-// What is shown of a value that a statement discards: which text, and two words.
-fn shown(v: Value) -> Text
-    ensures { λ r. ⌜ Shown v r ⌝ }
-{
-    let kind = v.kind;
-    match kind {
-        Ty::FUNCTION => judging::type_text(v),
-        Ty::TABLE_BYTES => Text {
-            from: Text::TABLE,
-            start: v.lo,
-            end: v.hi,
-        },
-        Ty::BYTES => Text {
-            from: Text::SOURCE,
-            start: v.lo,
-            end: v.hi,
-        },
-        _ => Text {
-            from: Text::NONE,
-            start: v.lo,
-            end: v.hi,
-        },
-    }
-}
-
-// Writes a statement that discards a value, where its row fits.
-fn put_stmt(stmts: &mut [u64], row: usize, tok: Token, v: Value)
-    ensures { λ _. ⌜ HeldRow tok v row (now (stmts .entry)) (now (stmts .exit)) ⌝ }
-{
-    let text = shown(v);
-    let words: [u64; StatementRow::WORDS] = [
-        tok.line,
-        tok.column,
-        Checker::DISCARD,
-        judging::type_kind(v),
-        text.from,
-        text.start,
-        text.end,
-    ];
-    if row < stmts.len() / StatementRow::WORDS {
-        let at = row * StatementRow::WORDS;
-        table::put_row(&mut stmts[at..], 0, &words);
-    }
-}
-
-// ---- findings
-
-fn error(diags: &mut [u64], f: Fault, counts: Counts) -> Counts
-    requires { ⌜ counts .errors + counts .warnings < 9223372036854775808 ⌝ }
-    ensures { λ r. ⌜ (r ≡ plusError counts) × (now (diags .exit) ≡ putRow (now (diags .entry)) (counts .errors + counts .warnings) (faultRow f)) ⌝ }
-{
-    judging::put_diag(diags, counts.errors + counts.warnings, f);
-    Counts {
-        errors: counts.errors + 1,
-        ..counts
-    }
-}
-
-fn warn(diags: &mut [u64], f: Fault, counts: Counts) -> Counts
-    requires { ⌜ counts .errors + counts .warnings < 4611686018427387904 ⌝ }
-    ensures { λ r. ⌜ (r ≡ plusWarnings counts 1) × (now (diags .exit) ≡ putRow (now (diags .entry)) (counts .errors + counts .warnings) (faultRow f)) ⌝ }
-{
-    judging::put_diag(diags, counts.errors + counts.warnings, f);
-    judging::warned(counts)
-}
-
-// A finding that shows nothing more than its place.
-fn bare(kind: u64, tok: Token) -> Fault
-    ensures { λ r. ⌜ r ≡ bareAs kind tok ⌝ }
-{
-    let detail = Detail {
-        severity: Fault::ERROR,
-        kind,
-        text: Text::NONE,
-        start: 0,
-        end: 0,
-        ty: Ty::NONE,
-        first: 0,
-        second: 0,
-        third: 0,
-    };
-    Fault {
-        line: tok.line,
-        column: tok.column,
-        detail,
-    }
-}
-
-// ---- statements
-
-// For an integer with no size, narrows to the smallest type that can hold it. Any other value is returned unchanged.
-fn narrow(v: Value) -> Narrowed
-    ensures { λ r. ⌜ Narrow v r ⌝ }
-{
-    if v.kind != Ty::INTEGER {
-        return Narrowed::Fits(v);
-    }
-    let n = Wide { hi: v.hi, lo: v.lo };
-    let lo = v.lo;
-    match n.smallest() {
-        Size::U8 => Narrowed::Fits(Value {
-            kind: Ty::U8,
-            lo,
-            hi: 0,
-        }),
-        Size::U16 => Narrowed::Fits(Value {
-            kind: Ty::U16,
-            lo,
-            hi: 0,
-        }),
-        Size::U32 => Narrowed::Fits(Value {
-            kind: Ty::U32,
-            lo,
-            hi: 0,
-        }),
-        Size::U64 => Narrowed::Fits(Value {
-            kind: Ty::U64,
-            lo,
-            hi: 0,
-        }),
-        Size::TooLarge => Narrowed::TooLarge,
-    }
-}
-
-// The value of an expression statement, at the token t: it is discarded, with a warning.
-fn tell(
-    toks: &[u64],
-    diags: &mut [u64],
-    stmts: &mut [u64],
-    t: u64,
-    v: Value,
-    counts: Counts,
-) -> Counts
-    requires { ⌜ 7 ≤ length (now toks) ⌝ }
-    requires { ⌜ Room counts ⌝ }
-    ensures { λ r. ⌜ ((s : List ℕ) → Lexed s (now (toks .entry)) → Tells s t v counts (now (diags .entry)) (now (stmts .entry)) r (now (diags .exit)) (now (stmts .exit))) ⌝ }
-{
-    let tok = rows::token_at(toks, t);
-    match narrow(v) {
-        Narrowed::Fits(w) => {
-            put_stmt(stmts, counts.statements, tok, w);
-            held_one(warn(
-                diags,
-                judging::typed(Fault::WARNING, Fault::DISCARDED_VALUE, tok, w, 0, 0, 0),
-                counts,
-            ))
-        }
-        Narrowed::TooLarge => error(diags, bare(Fault::INTEGRAL_TOO_LARGE, tok), counts),
-    }
-}
-
-// An expression as a statement: row i.
-fn expr_stmt(
-    source: &[u8],
-    toks: &[u64],
-    nodes: &[u64],
-    bindings: &[Entry],
-    imports: &[Entry],
-    diags: &mut [u64],
-    stmts: &mut [u64],
-    i: usize,
-    counts: Counts,
-) -> Counts
-    requires { ⌜ Ready (now source) (now toks) (now bindings) (now imports) counts ⌝ }
-    requires { ⌜ StmtFits (now nodes) i counts × (5 * i + 5 ≤ length (now nodes)) ⌝ }
-    ensures { λ r. ⌜ ((n : ℕ) (k : Known) (e : Expr) → Knows (now (source .entry)) (now (bindings .entry)) (now (imports .entry)) counts k
-        → RepAt (now (nodes .entry)) (word (now (nodes .entry)) i 2) e
-        → Exprs (now (source .entry)) n k e counts (now (diags .entry)) (now (stmts .entry)) r (now (diags .exit)) (now (stmts .exit))) ⌝ }
-{
-    let e = rows::node_word(nodes, i, NodeRow::FIRST) as usize;
-    let j = judging::judge(source, toks, nodes, bindings, imports, diags, e, counts);
-    let out = j.out;
-    let found = j.counts;
-    match out {
-        Judged::Val(v) => tell(
-            toks,
-            diags,
-            stmts,
-            rows::node_word(nodes, e, NodeRow::TOKEN),
-            v,
-            found,
-        ),
-        Judged::Err(f) => error(diags, f, found),
-        Judged::Poisoned => found,
-    }
-}
-
-// The number of the module with a name, 0 where there is none.
-fn module_at(source: &[u8], tok: Token) -> u64
-    ensures { λ r. ⌜ ((t : ℕ) → tok ≡ tokenAs (tokenOf (now (source .entry)) t) → r ≡ orZero (lookup 0 (nameAt (contents (tokens (now (source .entry)))) t))) ⌝ }
-{
-    let table = Constants::new();
-    let rows = table.rows;
-    let text = table.text;
-    constants::lookup(&rows, &text, 0, rows::name_at(source, tok))
-}
-
-// `import` of the name at the token t. A failed import poisons its name, as a failed `let` does.
-fn import(
-    source: &[u8],
-    toks: &[u64],
-    imports: &mut [Entry],
-    diags: &mut [u64],
-    t: u64,
-    counts: Counts,
-) -> Turn
-    requires { ⌜ Lexed (now source) (now toks) × (mostImports ≤ length (now imports)) × (counts .imported ≤ mostImports) × Keyed (now source) (now imports) (counts .imported) ⌝ }
-    requires { ⌜ Room counts ⌝ }
-    ensures { λ r. ⌜ ((n : ℕ) (k : Known) (b : List (List ℕ)) (u : List ℕ) → Knows (now (source .entry)) b (now (imports .entry)) counts k
-        → Ready (now (source .entry)) (now (toks .entry)) b (now (imports .entry)) counts
-        → Turns (now (source .entry)) (now (toks .entry)) counts (now (diags .entry)) u r b (now (imports .exit)) (now (diags .exit)) u
-        (stmt (contents (tokens (now (source .entry)))) n k (import′ t))) ⌝ }
-{
-    let tok = rows::token_at(toks, t);
-    let imported = counts.imported;
-    let i = judging::find(source, imports, imported, rows::name_at(source, tok));
-    if i < imported {
-        return Turn::Went(warn(
-            diags,
-            judging::named(Fault::WARNING, Fault::MULTIPLE_IMPORTS, tok, 0, 0),
-            counts,
-        ));
-    }
-    if Checker::IMPORTS <= imported {
-        return Turn::Full(t);
-    }
-    let kind = module_at(source, tok);
-    let v = Value { kind, lo: 0, hi: 0 };
-    put_entry(imports, imported, name_span(tok), key_at(source, tok), t, v);
-    let more = imported_one(counts);
-    if kind == 0 {
-        return Turn::Went(error(
-            diags,
-            judging::named(Fault::ERROR, Fault::UNKNOWN_MODULE, tok, 0, 0),
-            more,
-        ));
-    }
-    Turn::Went(more)
-}
-
-// Binds a name to what its value came to; where that failed, to nothing.
-fn bind(
-    bindings: &mut [Entry],
-    diags: &mut [u64],
-    name: Span,
-    key: u64,
-    t: u64,
-    j: Judgement,
-) -> Counts
-    requires { ⌜ (j .counts .used < mostNames) × (mostNames ≤ length (now bindings)) ⌝ }
-    requires { ⌜ Room (j .counts) ⌝ }
-    ensures { λ r. ⌜ Binds (now (bindings .entry)) (now (diags .entry)) (name .start) (name .end) key t j r (now (bindings .exit)) (now (diags .exit)) ⌝ }
-{
-    let out = j.out;
-    let counts = j.counts;
-    let none = Value {
-        kind: Ty::NONE,
-        lo: 0,
-        hi: 0,
-    };
-    match out {
-        Judged::Val(v) => {
-            put_entry(bindings, counts.used, name, key, t, v);
-            named_one(counts)
-        }
-        Judged::Err(f) => {
-            put_entry(bindings, counts.used, name, key, t, none);
-            named_one(error(diags, f, counts))
-        }
-        Judged::Poisoned => {
-            put_entry(bindings, counts.used, name, key, t, none);
-            named_one(counts)
-        }
-    }
-}
-
-// `let` in row i. `AlreadyBound` is found before the value is read.
-fn let_stmt(
-    source: &[u8],
-    toks: &[u64],
-    nodes: &[u64],
-    bindings: &mut [Entry],
-    imports: &[Entry],
-    diags: &mut [u64],
-    i: usize,
-    counts: Counts,
-) -> Turn
-    requires { ⌜ Ready (now source) (now toks) (now bindings) (now imports) counts × (length (now bindings) ≡ mostNames) ⌝ }
-    requires { ⌜ StmtFits (now nodes) i counts × (5 * i + 5 ≤ length (now nodes)) ⌝ }
-    ensures { λ r. ⌜ ((n : ℕ) (k : Known) (e : Expr) (u : List ℕ) → Knows (now (source .entry)) (now (bindings .entry)) (now (imports .entry)) counts k
-        → RepAt (now (nodes .entry)) (word (now (nodes .entry)) i 2) e
-        → Turns (now (source .entry)) (now (toks .entry)) counts (now (diags .entry)) u r (now (bindings .exit)) (now (imports .entry)) (now (diags .exit)) u
-        (stmt (contents (tokens (now (source .entry)))) n k (let′ (word (now (nodes .entry)) i 1) e))) ⌝ }
-{
-    let t = rows::node_word(nodes, i, NodeRow::TOKEN);
-    let tok = rows::token_at(toks, t);
-    let used = counts.used;
-    let at = judging::find(source, bindings, used, rows::name_at(source, tok));
-    if at < used {
-        let first = rows::token_at(toks, bindings[at][Name::TOKEN]);
-        return Turn::Went(error(
-            diags,
-            judging::named(
-                Fault::ERROR,
-                Fault::ALREADY_BOUND,
-                tok,
-                first.line,
-                first.column,
-            ),
-            counts,
-        ));
-    }
-    if Checker::NAMES <= used {
-        return Turn::Full(t);
-    }
-    let e = rows::node_word(nodes, i, NodeRow::FIRST) as usize;
-    let j = judging::judge(source, toks, nodes, bindings, imports, diags, e, counts);
-    Turn::Went(bind(bindings, diags, name_span(tok), key_at(source, tok), t, j))
-}
-
-// Row i: a statement takes its turn, a row of an expression is passed.
-fn stmt(
-    source: &[u8],
-    toks: &[u64],
-    nodes: &[u64],
-    bindings: &mut [Entry],
-    imports: &mut [Entry],
-    diags: &mut [u64],
-    stmts: &mut [u64],
-    i: usize,
-    counts: Counts,
-) -> Turn
-    requires { ⌜ Ready (now source) (now toks) (now bindings) (now imports) counts × (length (now bindings) ≡ mostNames) × (length (now imports) ≡ mostImports) ⌝ }
-    requires { ⌜ RowFits (now nodes) i counts × (5 * i + 5 ≤ length (now nodes)) ⌝ }
-    ensures { λ r. ⌜ ((n : ℕ) (k : Known) (ss : List Stmt) → Knows (now (source .entry)) (now (bindings .entry)) (now (imports .entry)) counts k
-        → StmtsAt (now (nodes .entry)) i ss
-        → RowTurns (now (source .entry)) (now (toks .entry)) (now (nodes .entry)) i n k counts (now (bindings .entry)) (now (imports .entry)) (now (diags .entry)) (now (stmts .entry))
-        r (now (bindings .exit)) (now (imports .exit)) (now (diags .exit)) (now (stmts .exit)) ss) ⌝ }
-{
-    match rows::node_word(nodes, i, NodeRow::KIND) {
-        NodeKind::IMPORT => import(
-            source,
-            toks,
-            imports,
-            diags,
-            rows::node_word(nodes, i, NodeRow::TOKEN),
-            counts,
-        ),
-        NodeKind::LET => let_stmt(source, toks, nodes, bindings, imports, diags, i, counts),
-        NodeKind::EXPRESSION => Turn::Went(expr_stmt(
-            source,
-            toks,
-            nodes,
-            bindings,
-            imports,
-            diags,
-            stmts,
-            i,
-            counts,
-        )),
-        _ => Turn::Went(counts),
-    }
-}
-
 // All statements, one row after the other. Ports `run`.
-pub fn run(source: &[u8], toks: &[u64], nodes: &[u64], diags: &mut [u64], stmts: &mut [u64]) -> Turn
-    requires { ⌜ Lexed (now source) (now toks) ⌝ }
+pub fn run(
+    source: &[u8],
+    toks: &[u64],
+    nodes: &[u64],
+    diags: &mut [u64],
+    stmts: &mut [u64],
+) -> Outcome
+    requires { ⌜ TokenTable (now source) (now toks) ⌝ }
     requires { ⌜ RowFits (now nodes) 0 noCounts ⌝ }
     ensures { λ r. ⌜ ((ss : List Stmt) → StmtsAt (now (nodes .entry)) 0 ss
         → Comes (now (source .entry)) (now (diags .entry)) (now (stmts .entry)) r (now (diags .exit)) (now (stmts .exit)) (judgeAll (contents (tokens (now (source .entry)))) ss)) ⌝ }
 {
-    let mut bindings = Checker::names();
-    let mut imports = Checker::modules();
+    let mut checker = Checker::new();
     let mut counts = Checker::start();
     let rows = nodes.len() / NodeRow::WORDS;
     let mut i: usize = 0;
@@ -542,17 +431,25 @@ pub fn run(source: &[u8], toks: &[u64], nodes: &[u64], diags: &mut [u64], stmts:
             source,
             toks,
             nodes,
-            &mut bindings,
-            &mut imports,
+            &checker.bindings,
+            &checker.imports,
             diags,
             stmts,
             i,
             counts,
         ) {
             Turn::Went(then) => counts = then,
-            Turn::Full(t) => return Turn::Full(t),
+            Turn::Binds(then, e) => {
+                put_binding(&mut checker.bindings, then.used, e);
+                counts = named_one(then);
+            }
+            Turn::Imports(then, e) => {
+                put_import(&mut checker.imports, then.imported, e);
+                counts = imported_one(then);
+            }
+            Turn::Refused(number, t) => return Outcome::Refused(number, t),
         }
         i += 1;
     }
-    Turn::Went(counts)
+    Outcome::Judged(counts)
 }

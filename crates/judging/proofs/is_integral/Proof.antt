@@ -1,9 +1,0 @@
-use Rattle.judging.proofs.Values.{integral-is}
-use Rattle.judging.proofs.is_integral.Statement.{statement}
-use Rattle.judging.proofs.is_integral.Tie as tie
-
-returns : tie.Need-returns
-returns c = integral-is (c .args .kind)
-
-pub is-integral-spec : {M : Type 1} → statement M
-is-integral-spec = tie.close (tie.spec returns)
