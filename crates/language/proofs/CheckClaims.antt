@@ -11,7 +11,7 @@ use Rattle.language.specs.Choice.{if′}
 use Rattle.language.specs.Tokens.{Content, name, Token, tokens, contents, between}
 use Rattle.language.specs.Tables.{tokenWidth}
 use Rattle.language.specs.Sentences.{is, program, nodeWidth}
-use Rattle.language.specs.Values.{isString, Ty, tyBool, tyInt, tyIp4, tySock4, tyBytes, tyFunction, tyInteger, entryAt}
+use Rattle.language.specs.Values.{isString, Ty, tyBool, tyInt, tyIp4, tySock4, tyBytes, tyFunction, tyInteger}
 use Rattle.language.specs.Judgements.{What, unknownName, unknownItem, unknownModule, notImported, notAModule, notAValue, alreadyBound, noMembers, operandType, integralTooLarge, multipleImports, discardedValue, truncated, Diag, errorsIn, Held, Outcome, judged, refused, judgeAll, nameAt}
 use Rattle.language.specs.Findings.{tyText, whatKind, Detail, named, detail, stmtRow, stmtWidth}
 use Rattle.language.specs.Canonical.{text, Lexes}
@@ -170,7 +170,7 @@ module _ (s u : List ℕ) where
 
     same-finding : (at : ℕ) (w : What) → Shown cs w at → SameDetail s u w (detail (tokenOf s) at w) (detail (tokenOf u) at w)
     same-finding at unknownName h = shows at unknownName 0 0 h (omega arith)
-    same-finding at (unknownItem m) h = shows at (unknownItem m) (entryAt m .start) (entryAt m .end) (h .0) (omega arith)
+    same-finding at (unknownItem m) h = shows at (unknownItem m) m 0 (h .0) (omega arith)
     same-finding at unknownModule h = shows at unknownModule 0 0 h (omega arith)
     same-finding at notImported h = shows at notImported 0 0 h (omega arith)
     same-finding at notAModule h = shows at notAModule 0 0 h (omega arith)

@@ -18,7 +18,7 @@ use Rattle.language.specs.Grammar.{PathNames, is-start, is-name, Chain, 
 use Rattle.language.specs.Values.{Value, isInteger, isBool, isSized, isIp4, isSock4, isString, isText, isFunction, Ty, tyBool, tyInt, tyIp4, tySock4, tyBytes, tyFunction, tyInteger, typeOf, Entry, entry, tableText, entries, entryAt, entryName, lookupFrom, lookup}
 use Rattle.language.specs.Judgements.{left, right, What, unknownName, unknownItem, unknownModule, notImported, notAModule, notAValue, alreadyBound, noMembers, operandType, integralTooLarge, multipleImports, discardedValue, truncated, Diag, Judged, val, err, poisoned, Judgement, judgement, andThen, goesOn, ip4Of, integerOf, Known, known, Import, Binding, Held, Turn, goes, refuses, Outcome, firstNamed, find, findImport, mostImports, mostNames, content, nameAt, tokValue, literalValue, leftOf, rightOf, cut, narrowed, lastItem, innerItem, walk, below, boundTo, judge, imported, importStmt, bound, letStmt, discarded, told, stmt, onward, run, judgeAll}
 use Rattle.language.specs.Numbers.{statementsOf, foundBy, heldBy}
-use Rattle.language.specs.Checks.{PartOf}
+use Rattle.language.specs.Checks.{PartOf, ModuleEntry}
 use Rattle.language.proofs.Tests.{both, each-side}
 use Rattle.language.proofs.Each.{Each, All, of-none, of-one, of-both}
 use Rattle.language.proofs.SentenceOutcomes.{Every}
@@ -74,11 +74,16 @@ lookup-named : (m : ℕ) (w : List ℕ) → If NamedEntry (lookup m w)
 unfolding entries tableText allNamed
 lookup-named m w = lookup-from entries 1 m w refl
 
+-- what is looked up outside of every module is a module
+root-module : (w : List ℕ) → If ModuleEntry (lookup 0 w)
+unfolding entries tableText lookupFrom
+root-module w = each-side (If ModuleEntry) (same (entryName (entry 0 0 5 none)) w) (record { named = part 0 5 refl; plain = refl }) tt
+
 module _ (ts : List Content) where
   -- the kinds that show a name ask for one where they stand, those that show an entry of the table for its name
   abbrev pub Shown : What → ℕ → Type 0
   Shown unknownName at = is ts at (name []) ≡ true
-  Shown (unknownItem m) at = (is ts at (name []) ≡ true) × NamedEntry m
+  Shown (unknownItem m) at = (is ts at (name []) ≡ true) × ModuleEntry m
   Shown unknownModule at = is ts at (name []) ≡ true
   Shown notImported at = is ts at (name []) ≡ true
   Shown notAModule at = is ts at (name []) ≡ true
@@ -169,9 +174,9 @@ module _ (ts : List Content) where
   Bound b = If Right (b .value)
 
   abbrev Found : Import → Type 0
-  Found i = If NamedEntry (i .found)
+  Found i = If ModuleEntry (i .found)
 
-  -- values are right, and modules have a name
+  -- values are right, and modules are modules
   record Sure (k : Known) : Type 0 where
     values : Each Bound (k .bindings)
     modules : Each Found (k .imports)
@@ -225,11 +230,11 @@ module _ (ts : List Content) where
   last-sound t (some v) a h = h
   last-sound t none a h = a
 
-  inner-sound : (t : ℕ) (o : Option Value) (j : Judged) → is ts t (name []) ≡ true → Sound j → Sound (innerItem ts t o j)
+  inner-sound : (t : ℕ) (o : Option Value) (j : Judged) → is ts t (name []) ≡ true → (o ≡ none → Sound j) → Sound (innerItem ts t o j)
   inner-sound t (some v) j a h = a
-  inner-sound t none j a h = h
+  inner-sound t none j a h = h refl
 
-  walk-sound : (n m t : ℕ) → Names t n → NamedEntry m → Sound (walk ts n m t)
+  walk-sound : (n m t : ℕ) → Names t n → ModuleEntry m → Sound (walk ts n m t)
   unfolding walk
   walk-sound zero m t h e = tt
   walk-sound (suc zero) m t h e =
@@ -242,19 +247,19 @@ module _ (ts : List Content) where
       go (lookup m (nameAt ts (t + 2))) (lookup-named m (nameAt ts (t + 2))) (λ k. walk-sound (suc n) k (t + 2) (λ j i.
       let on : t + 2 * suc (suc j) ≡ t + 2 + 2 * suc j = omega arith in rw on at (h (suc j) (omega arith))))
     where
-      go : (o : Option ℕ) → If NamedEntry o → ((k : ℕ) → NamedEntry k → Sound (walk ts (suc n) k (t + 2)))
+      go : (o : Option ℕ) → If NamedEntry o → ((k : ℕ) → ModuleEntry k → Sound (walk ts (suc n) k (t + 2)))
           → Sound (elim o [
             | none ↦ err (t + 2) (unknownItem m)
             | some k ↦ innerItem ts (t + 2) (entryAt k .value) (walk ts (suc n) k (t + 2))
           ])
       go none l f = (h 0 (omega arith), e)
-      go (some k) l f = inner-sound (t + 2) (entryAt k .value) (walk ts (suc n) k (t + 2)) (h 0 (omega arith)) (f k l)
+      go (some k) l f = inner-sound (t + 2) (entryAt k .value) (walk ts (suc n) k (t + 2)) (h 0 (omega arith)) (λ p. f k (record { named = l; plain = p }))
 
   below-sound : (t n : ℕ) (o : Option Import) → is ts t (name []) ≡ true → Names t n → If Found o → Sound (below ts t n o)
   below-sound t n none a h f = a
   below-sound t n (some i) a h f = go (i .found) f
     where
-      go : (o : Option ℕ) → If NamedEntry o → Sound (elim o [ none ↦ poisoned | some m ↦ walk ts n m t ])
+      go : (o : Option ℕ) → If ModuleEntry o → Sound (elim o [ none ↦ poisoned | some m ↦ walk ts n m t ])
       go none l = tt
       go (some m) l = walk-sound n m t h l
 
@@ -325,7 +330,7 @@ module _ (ts : List Content) where
     more-modules : (i : Import) → Found i → Sure (known (k .imports ++ i ∷ []) (k .bindings))
     more-modules i h = record { values = sure .values; modules = of-both (sure .modules) (of-one h) }
 
-    imported-turned : (t : ℕ) (o : Option ℕ) → is ts t (name []) ≡ true → If NamedEntry o → Turned (imported ts n k t o)
+    imported-turned : (t : ℕ) (o : Option ℕ) → is ts t (name []) ≡ true → If ModuleEntry o → Turned (imported ts n k t o)
     imported-turned t (some m) a l = (more-modules _ l, of-none, of-none)
     imported-turned t none a l = (more-modules _ tt, of-one a, of-none)
 
@@ -333,7 +338,7 @@ module _ (ts : List Content) where
     import-turned t (some i) a = (sure, of-one a, of-none)
     import-turned t none a =
         each-side Turned (ltb (length (k .imports)) mostImports)
-        (imported-turned t (lookup 0 (nameAt ts t)) a (lookup-named 0 (nameAt ts t))) tt
+        (imported-turned t (lookup 0 (nameAt ts t)) a (root-module (nameAt ts t))) tt
 
     bound-turned : (t : ℕ) (o : Judged) (ws : List Diag) → Sound o → Each Stands ws → Turned (bound ts n k t o ws)
     bound-turned t (val v) ws h l = (more-values _ h, l, of-none)

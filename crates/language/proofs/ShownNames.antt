@@ -10,7 +10,7 @@ use Rattle.language.specs.Values.{Value, isInteger, isBool, isSized, isI
 use Rattle.language.specs.Judgements.{What, unknownName, unknownItem, unknownModule, notImported, notAModule, notAValue, alreadyBound, noMembers, operandType, integralTooLarge, multipleImports, discardedValue, truncated, diag}
 use Rattle.language.specs.Findings.{whatKind, tyEntry, tyText, named, typed, detail, valueText, shownLow, shownHigh}
 use Rattle.language.specs.Numbers.{checked, tokenOf}
-use Rattle.language.specs.Checks.{PartOf, NameShown, TextShown, NamesShown}
+use Rattle.language.specs.Checks.{PartOf, ModuleEntry, NameShown, TextShown, NamesShown}
 use Rattle.language.proofs.Tests.{never}
 use Rattle.language.proofs.TokensAt.{content-of}
 use Rattle.language.proofs.TokenTexts.{name-shown, bodies-shown, part-shown}
@@ -44,7 +44,7 @@ module _ (s : List ℕ) where
 
   module _ (n at : ℕ) where
     -- the name of a token, and no other
-    shows-name : (w : What) (a b : ℕ) → is cs at (name []) ≡ true → ((m : ℕ) → w ≡ unknownItem m → PartOf tableText a b)
+    shows-name : (w : What) (a b : ℕ) → is cs at (name []) ≡ true → ((m : ℕ) → w ≡ unknownItem m → ModuleEntry a)
         → NameShown s (diag n at w) (named w (tokenOf s at) a b)
     shows-name w a b h more =
         record {
@@ -66,8 +66,7 @@ module _ (s : List ℕ) where
 
     finding-shown : (w : What) → Shown cs w at → NameShown s (diag n at w) (detail (tokenOf s) at w)
     finding-shown unknownName h = shows-name unknownName 0 0 h (λ m e. never (cc))
-    finding-shown (unknownItem m) h =
-        shows-name (unknownItem m) (entryAt m .start) (entryAt m .end) (h .0) (λ k e. let z : m ≡ k = cc in h .1)
+    finding-shown (unknownItem m) h = shows-name (unknownItem m) m 0 (h .0) (λ k e. h .1)
     finding-shown unknownModule h = shows-name unknownModule 0 0 h (λ m e. never (cc))
     finding-shown notImported h = shows-name notImported 0 0 h (λ m e. never (cc))
     finding-shown notAModule h = shows-name notAModule 0 0 h (λ m e. never (cc))

@@ -5,13 +5,14 @@
 use Prim.Native.Nat.{ℕ, _≤_, _<_}
 use mathlib.Core.Path.{_≡_}
 use mathlib.Core.List.{List, [], _∷_, List·Memᴰ}
+use mathlib.Core.Option.{none}
 use lib.Dec.{eqb}
 use lib.ListN.{length, drop}
 use Rattle.table.specs.Table.{tabled}
 use Rattle.language.specs.Choice.{if′}
 use Rattle.language.specs.Tokens.{string, tokens, contents, between, bodiesIn}
 use Rattle.language.specs.Canonical.{text, Lexes, Fits}
-use Rattle.language.specs.Values.{Value, isString, tableText}
+use Rattle.language.specs.Values.{Value, isString, tableText, entryAt}
 use Rattle.language.specs.Judgements.{What, unknownItem, alreadyBound, Diag, errorsIn, Held, nameAt}
 use Rattle.language.specs.Findings.{Detail, detail, diagRow, diagWidth, valueText, shownLow, shownHigh, stmtRow, stmtWidth}
 use Rattle.language.specs.Numbers.{Checked, checkAnswer, checkNodes, checkDiags, checkStmts, checked, foundBy, heldBy, tokenOf, whereDone, SameVerdict}
@@ -106,13 +107,18 @@ TextChecked = (s : List ℕ) → Fits s → CheckedAlike (text s) s
 abbrev pub PartOf : List ℕ → ℕ → ℕ → Type 0
 PartOf text start end = (start < end) × (end ≤ length text)
 
+-- an entry of the constant table that is a module: it has a name and no value
+pub record ModuleEntry (k : ℕ) : Type 0 where
+  pub named : PartOf tableText (entryAt k .start) (entryAt k .end)
+  pub plain : entryAt k .value ≡ none
+
 -- "A name shown in a diagnostic is a part of the source or of the table's text": in the source it is the name of the token
--- where the finding stands. An unknown item shows its module's name too, by its first two numbers.
+-- where the finding stands. An unknown item's first number is the entry of its module, whose name is in the table's text.
 pub record NameShown (s : List ℕ) (d : Diag) (a : Detail) : Type 0 where
   pub known : a .text ≤ 2
   pub source : a .text ≡ 1 → PartOf s (a .start) (a .end) × (between s (a .start) (a .end) ≡ nameAt (contents (tokens s)) (d .at))
   pub table : a .text ≡ 2 → PartOf tableText (a .start) (a .end)
-  pub inside : (m : ℕ) → d .what ≡ unknownItem m → PartOf tableText (a .first) (a .second)
+  pub inside : (m : ℕ) → d .what ≡ unknownItem m → ModuleEntry (a .first)
 
 -- a statement's text: in the source a string by its token, whose span lies there and holds its bodies; else a part of the
 -- table's text, the bytes or the function's name

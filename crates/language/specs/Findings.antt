@@ -165,11 +165,11 @@ detailRow t d =
     t .line ∷ t .column ∷ d .severity ∷ d .kind ∷ d .text ∷ d .start ∷ d .end ∷ d .type ∷ d .first ∷ d .second ∷ d .third ∷ []
 
 module _ (tokenAt : ℕ → Token) where
-  -- of a kind that stands at a token: an unknown item shows its module's name in the table's text, a name bound twice the
-  -- place where it was bound first, an operand its side, the type wanted and the operator, which is `/`
+  -- of a kind that stands at a token: an unknown item shows the number of its module's entry in the constant table, a name
+  -- bound twice the place where it was bound first, an operand its side, the type wanted and the operator, which is `/`
   abbrev pub detail : ℕ → What → Detail
   detail at unknownName = named unknownName (tokenAt at) 0 0
-  detail at (unknownItem m) = named (unknownItem m) (tokenAt at) (entryAt m .start) (entryAt m .end)
+  detail at (unknownItem m) = named (unknownItem m) (tokenAt at) m 0
   detail at unknownModule = named unknownModule (tokenAt at) 0 0
   detail at notImported = named notImported (tokenAt at) 0 0
   detail at notAModule = named notAModule (tokenAt at) 0 0

@@ -73,12 +73,100 @@ module _ (room : ℕ) (ws : List ℕ) (u : ℕ) (e : Entry) (size : length ws �
   stored-long = simp length-set
 
   -- a word that is none of the entry's
-  other : (p : ℕ) → (p ≡ u → ⊥) → (at ≤ p → at + 5 < p) → getD now p 0 ≡ getD ws p 0
+  other : (p : ℕ) → (p ≡ u → ⊥) → p < at → getD now p 0 ≡ getD ws p 0
   other p a b =
-      getD-set-other w6 (at + 5) p (e .hi) 0 (λ q. absurd (omega (arith, q, b)))
-      ∙ getD-set-other w5 (at + 4) p (e .lo) 0 (λ q. absurd (omega (arith, q, b)))
-      ∙ getD-set-other w4 (at + 3) p (e .kind) 0 (λ q. absurd (omega (arith, q, b)))
-      ∙ getD-set-other w3 (at + 2) p (e .token) 0 (λ q. absurd (omega (arith, q, b)))
-      ∙ getD-set-other w2 (at + 1) p (e .end) 0 (λ q. absurd (omega (arith, q, b)))
-      ∙ getD-set-other w1 at p (e .start) 0 (λ q. absurd (omega (arith, q, b)))
+      getD-set-other w6 (at + 5) p (e .hi) 0 (λ q. absurd (omega (arith, q)))
+      ∙ getD-set-other w5 (at + 4) p (e .lo) 0 (λ q. absurd (omega (arith, q)))
+      ∙ getD-set-other w4 (at + 3) p (e .kind) 0 (λ q. absurd (omega (arith, q)))
+      ∙ getD-set-other w3 (at + 2) p (e .token) 0 (λ q. absurd (omega (arith, q)))
+      ∙ getD-set-other w2 (at + 1) p (e .end) 0 (λ q. absurd (omega (arith, q)))
+      ∙ getD-set-other w1 at p (e .start) 0 (λ q. absurd (omega (arith, q)))
       ∙ getD-set-other ws u p (e .key) 0 (λ q. a (sym q))
+
+  rooms : length ws / nameWidth ≡ room
+  rooms = omega (arith, size)
+
+  rooms-now : length now / nameWidth ≡ room
+  rooms-now = ap (λ (n : ℕ). n / nameWidth) stored-long ∙ rooms
+
+  pub old-key : (i : ℕ) → i < u → keyAt (stored room ws u e) i ≡ keyAt ws i
+  old-key i h = other i (λ q. absurd (omega (arith, q))) (omega arith)
+
+  pub old-word : (i j : ℕ) → i < u → j < 6 → nameWord (stored room ws u e) i j ≡ nameWord ws i j
+  old-word i j h l = rw (rooms-now, rooms) (other (room + 6 * i + j) (λ q. absurd (omega (arith, q))) (omega arith))
+
+  pub new-key : keyAt (stored room ws u e) u ≡ e .key
+  new-key =
+      getD-set-other w6 (at + 5) u (e .hi) 0 (λ q. absurd (omega (arith, q)))
+      ∙ getD-set-other w5 (at + 4) u (e .lo) 0 (λ q. absurd (omega (arith, q)))
+      ∙ getD-set-other w4 (at + 3) u (e .kind) 0 (λ q. absurd (omega (arith, q)))
+      ∙ getD-set-other w3 (at + 2) u (e .token) 0 (λ q. absurd (omega (arith, q)))
+      ∙ getD-set-other w2 (at + 1) u (e .end) 0 (λ q. absurd (omega (arith, q)))
+      ∙ getD-set-other w1 at u (e .start) 0 (λ q. absurd (omega (arith, q)))
+      ∙ getD-set-same ws u (e .key) 0 (omega (arith, size))
+
+  pub new-start : nameWord (stored room ws u e) u 0 ≡ e .start
+  new-start =
+      let z : room + 6 * u + 0 ≡ at = omega arith in
+      let l : length w1 ≡ length ws = simp length-set in
+      rw (rooms-now, z) (
+        getD-set-other w6 (at + 5) at (e .hi) 0 (λ q. absurd (omega (arith, q)))
+        ∙ getD-set-other w5 (at + 4) at (e .lo) 0 (λ q. absurd (omega (arith, q)))
+        ∙ getD-set-other w4 (at + 3) at (e .kind) 0 (λ q. absurd (omega (arith, q)))
+        ∙ getD-set-other w3 (at + 2) at (e .token) 0 (λ q. absurd (omega (arith, q)))
+        ∙ getD-set-other w2 (at + 1) at (e .end) 0 (λ q. absurd (omega (arith, q)))
+        ∙ getD-set-same w1 at (e .start) 0 (omega (arith, size, l)))
+
+  pub new-end : nameWord (stored room ws u e) u 1 ≡ e .end
+  new-end =
+      let l : length w2 ≡ length ws = simp length-set in
+      rw rooms-now (
+        getD-set-other w6 (at + 5) (at + 1) (e .hi) 0 (λ q. absurd (omega (arith, q)))
+        ∙ getD-set-other w5 (at + 4) (at + 1) (e .lo) 0 (λ q. absurd (omega (arith, q)))
+        ∙ getD-set-other w4 (at + 3) (at + 1) (e .kind) 0 (λ q. absurd (omega (arith, q)))
+        ∙ getD-set-other w3 (at + 2) (at + 1) (e .token) 0 (λ q. absurd (omega (arith, q)))
+        ∙ getD-set-same w2 (at + 1) (e .end) 0 (omega (arith, size, l)))
+
+  pub new-token : nameWord (stored room ws u e) u 2 ≡ e .token
+  new-token =
+      let l : length w3 ≡ length ws = simp length-set in
+      rw rooms-now (
+        getD-set-other w6 (at + 5) (at + 2) (e .hi) 0 (λ q. absurd (omega (arith, q)))
+        ∙ getD-set-other w5 (at + 4) (at + 2) (e .lo) 0 (λ q. absurd (omega (arith, q)))
+        ∙ getD-set-other w4 (at + 3) (at + 2) (e .kind) 0 (λ q. absurd (omega (arith, q)))
+        ∙ getD-set-same w3 (at + 2) (e .token) 0 (omega (arith, size, l)))
+
+  pub new-kind : nameWord (stored room ws u e) u 3 ≡ e .kind
+  new-kind =
+      let l : length w4 ≡ length ws = simp length-set in
+      rw rooms-now (
+        getD-set-other w6 (at + 5) (at + 3) (e .hi) 0 (λ q. absurd (omega (arith, q)))
+        ∙ getD-set-other w5 (at + 4) (at + 3) (e .lo) 0 (λ q. absurd (omega (arith, q)))
+        ∙ getD-set-same w4 (at + 3) (e .kind) 0 (omega (arith, size, l)))
+
+  pub new-low : nameWord (stored room ws u e) u 4 ≡ e .lo
+  new-low =
+      let l : length w5 ≡ length ws = simp length-set in
+      rw rooms-now (getD-set-other w6 (at + 5) (at + 4) (e .hi) 0 (λ q. absurd (omega (arith, q))) ∙ getD-set-same w5 (at + 4) (e .lo) 0 (omega (arith, size, l)))
+
+  pub new-high : nameWord (stored room ws u e) u 5 ≡ e .hi
+  new-high =
+      let l : length w6 ≡ length ws = simp length-set in
+      rw rooms-now (getD-set-same w6 (at + 5) (e .hi) 0 (omega (arith, size, l)))
+
+  -- the names before are as they were, and the last is the entry's
+  pub old-name : (s : List ℕ) (i : ℕ) → i < u → nameOf s (stored room ws u e) i ≡ nameOf s ws i
+  old-name s i h = rw (old-word i 0 h (omega arith), old-word i 1 h (omega arith))
+
+  pub new-name : (s : List ℕ) → nameOf s (stored room ws u e) u ≡ between s (e .start) (e .end)
+  new-name s = rw (new-start, new-end)
+
+  pub store-key : (s : List ℕ) → Keyed s ws u → e .key ≡ keyOf (between s (e .start) (e .end)) → Keyed s (stored room ws u e) (u + 1)
+  store-key s keyed k =
+      record {
+        key = λ i h.
+            elim (decLe (suc i) u) [
+              | yes g ↦ old-key i g ∙ keyed .key i g ∙ ap keyOf (sym (old-name s i g))
+              | no g ↦ let z : i ≡ u = omega arith in rw z (new-key ∙ k ∙ ap keyOf (sym (new-name s)))
+            ];
+      }

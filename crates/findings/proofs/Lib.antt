@@ -1,0 +1,4 @@
+-- The laws that the proofs of the functions cite.
+pub mod Rows
+pub mod Texts
+pub mod Adds
