@@ -175,7 +175,7 @@ fn shows_name(kind: u64) -> bool
 // ---- rows
 
 // The text that a type shows: a function's name, in the constant table's text.
-fn type_text(ty: Type) -> Text
+pub fn type_text(ty: Type) -> Text
     ensures { λ r. ⌜ r ≡ typeText ty ⌝ }
 {
     if ty.kind != Ty::FUNCTION {

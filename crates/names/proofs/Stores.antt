@@ -81,7 +81,7 @@ module _ (room : ℕ) (ws : List ℕ) (u : ℕ) (e : Entry) (size : length ws �
       ∙ getD-set-other w3 (at + 2) p (e .token) 0 (λ q. absurd (omega (arith, q)))
       ∙ getD-set-other w2 (at + 1) p (e .end) 0 (λ q. absurd (omega (arith, q)))
       ∙ getD-set-other w1 at p (e .start) 0 (λ q. absurd (omega (arith, q)))
-      ∙ getD-set-other ws u p (e .key) 0 (λ q. a (sym q))
+      ∙ getD-set-other ws u p (e .key) 0 (λ q. a q)
 
   rooms : length ws / nameWidth ≡ room
   rooms = omega (arith, size)
