@@ -19,10 +19,21 @@ use Rattle.language.specs.Values.{Entry, entries, entryAt, entryName, tableText
 use Rattle.language.specs.Judgements.{err, poisoned, unknownItem, notAModule, notAValue, nameAt, walk, lastItem, innerItem}
 use Rattle.language.specs.Judgements as judgements
 use Rattle.language.proofs.TokensAt.{content-of, past-token}
-use Rattle.values.specs.declared.Judged.the-variants.{Val}
+use Rattle.language.specs.Numbers.{tokenOf}
+use Rattle.rows.specs.declared.token.Token.{Token}
+use Rattle.rows.specs.Tokens.{tokenAs}
+use Rattle.findings.specs.declared.What.{What}
+use Rattle.findings.specs.Findings.{whatAs, atToken}
+use Rattle.findings.proofs.Texts.{at-token}
+use Rattle.values.specs.declared.Judged.the-variants.{Val, Err}
 use Rattle.values.specs.Values.{judgedAs}
 use Rattle.values.proofs.Values.{some-kind}
 use Rattle.paths.specs.Paths.{orNone}
+
+-- an error at a token
+pub judged-err : (s : List ℕ) (at : ℕ) (w : judgements.What) {tok : Token} {what : What} → tok ≡ tokenAs (tokenOf s at) → what ≡ whatAs (tokenOf s) w
+    → Err (atToken tok what) ≡ judgedAs s (err at w)
+judged-err s at w e q = ap Err (at-token s at w e q)
 
 -- no entry has an empty name
 no-empty : (m : ℕ) → lookup m [] ≡ none
