@@ -139,3 +139,12 @@ adds-then {s} {c} {c1} {x = x} {u} {ds = ds} {es} {hs} {gs} a b =
       diags = b .diags ∙ rw (a .diags, k) (more-rows (diagRow (tokenOf s)) x (c .errors + c .warnings) ds es);
       stmts = b .stmts ∙ rw (a .stmts, m) (more-rows (stmtRow (tokenOf s)) u (c .statements) hs gs);
     }
+
+-- what was found is counted, and so is what is held
+pub adds-count : {s : List ℕ} {c c′ : Counts} {x u y v : List ℕ} {ds : List Diag} {hs : List Held} → Adds s c x u c′ y v ds hs
+    → c′ .errors + c′ .warnings ≡ c .errors + c .warnings + length ds
+adds-count {c = c} {ds = ds} {hs = hs} a = rw (a .counted) (found-more c ds hs)
+
+pub adds-held-count : {s : List ℕ} {c c′ : Counts} {x u y v : List ℕ} {ds : List Diag} {hs : List Held} → Adds s c x u c′ y v ds hs
+    → c′ .statements ≡ c .statements + length hs
+adds-held-count {c = c} {ds = ds} {hs = hs} a = rw (a .counted) (held-more c ds hs)

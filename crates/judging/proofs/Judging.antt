@@ -27,7 +27,9 @@ use Rattle.rows.specs.Tokens.{tokenAs}
 use Rattle.findings.specs.declared.Counts.{Counts}
 use Rattle.findings.specs.declared.Diagnostic.{Diagnostic}
 use Rattle.findings.specs.declared.Side.the-variants.{Left, Right}
-use Rattle.findings.specs.Findings.{diagnosticAs, added, Reports, Adds}
+use Rattle.findings.specs.declared.What.the-variants.{Truncated}
+use Rattle.findings.specs.Findings.{atToken, added, Reports}
+use Rattle.findings.proofs.Texts.{at-token}
 use Rattle.findings.proofs.Adds.{adds-none, adds-then, adds-reported, adds-count}
 use Rattle.values.specs.declared.Value.{Value}
 use Rattle.values.specs.declared.Judged.{Judged}
@@ -447,3 +449,12 @@ at-row q r = rw q r
 
 pub same-tree : {ws : List ℕ} {i : ℕ} {e d : Expr} → e ≡ d → RepAt ws i e → RepAt ws i d
 same-tree {ws} {i} q r = subst (λ (t : Expr). RepAt ws i t) q r
+
+-- ---- an integer that is cut
+
+pub cuts : (s : List ℕ) (t : ℕ) (n : Wide) {tok : Token} {d : Diagnostic} {c c′ : Counts} {x y : List ℕ} → n .lo < tables.wordLimit → tok ≡ tokenAs (tokenOf s t)
+    → d ≡ atToken tok (Truncated n (record { kind = 4; entry = 0 })) → Reports c d x c′ y → Cuts s t n c x c′ y
+cuts s t n l e q r =
+    let w : judgements.What = truncated (n .hi * tables.wordLimit + n .lo) (tyInt u16) in
+    let k = ap (λ (m : Wide). Truncated m (record { kind = 4; entry = 0 })) (words-of n l) in
+    record { adds = λ m u. adds-reported s m t w (q ∙ at-token s t w e k) r }

@@ -15,5 +15,5 @@ returns-3 c = λ s o. integral-none s (c .before .before .before .before .args .
 pub integral-spec : {M : Type 1} → statement M
 integral-spec =
     tie.close
-    (tie.spec (λ c. search needs) (λ c. search needs) (λ c. search needs) (λ c. search needs) (λ c. search needs)
+    (tie.spec (λ c. search needs) (λ c κs. search needs) (λ c. search needs) (λ c. search needs) (λ c. search needs)
     returns returns-2 returns-3)

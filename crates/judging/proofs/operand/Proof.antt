@@ -1,12 +1,14 @@
-use mathlib.Core.Path.{ap, _∙_}
-use Rattle.judging.specs.declared.Judged.the-variants.{Err}
-use Rattle.judging.proofs.Values.{operand-is}
+use mathlib.Core.Path.{refl, _∙_}
+use Rattle.language.specs.Values.{typeOf}
+use Rattle.language.specs.Judgements.{operandType}
+use Rattle.paths.proofs.Paths.{judged-err}
 use borrow.Author.Needs.{needs}
 use Rattle.judging.proofs.operand.Statement.{statement}
 use Rattle.judging.proofs.operand.Tie as tie
 
 returns : tie.Need-returns
-returns c = λ s o. record { is = λ u d ty e p q. ap Err (c .typed .ensures .is u e ∙ operand-is s _ (c .before .token-at .ensures s o) u d ty p q) }
+returns c = λ s o. record { is = λ u d ty e p q. c .error .ensures ∙ judged-err s (c .before .before .before .before .args .t) (operandType d ty (typeOf u)) (c .before .before .token-at .ensures s o) (rw (p, q, c .before .type-of .ensures .is u e)); counted = refl }
 
 pub operand-spec : {M : Type 1} → statement M
-operand-spec = tie.close (tie.spec (λ c. search needs) (λ c. search needs) returns)
+operand-spec = tie.close
+    (tie.spec (λ c κs. search needs) (λ c κs. search needs) (λ c κs. search needs) returns)
