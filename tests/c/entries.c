@@ -686,5 +686,5 @@ int main(int argc, char **argv)
         try_source(bytes, ascii_noise(random_below(120)));
     }
     printf("entries: %d sources of each kind, in all rooms and on both sides\n", count);
-    return 0;
+    return lent_done();
 }

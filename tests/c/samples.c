@@ -540,5 +540,5 @@ int main(void)
     try_all_names();
     try_texts();
     printf("samples: as written down\n");
-    return 0;
+    return lent_done();
 }

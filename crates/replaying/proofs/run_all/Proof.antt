@@ -1,7 +1,7 @@
 -- Each is given by hand, since a search would count the zeros of the arrays.
 use Rattle.replaying.proofs.Zeros.{as-long}
-use Rattle.replaying.proofs.run.Statement.{statement}
-use Rattle.replaying.proofs.run.Tie as tie
+use Rattle.replaying.proofs.run_all.Statement.{statement}
+use Rattle.replaying.proofs.run_all.Tie as tie
 
 slice-aggregate-run-in : tie.Need-slice-aggregate-run-in
 slice-aggregate-run-in c = as-long 262144
@@ -15,6 +15,6 @@ run-in-requires c κs = tt
 returns : tie.Need-returns
 returns c = tt
 
-pub run-spec : {M : Type 1} → statement M
-run-spec =
+pub run-all-spec : {M : Type 1} → statement M
+run-all-spec =
     tie.close (tie.spec slice-aggregate-run-in slice-aggregate-run-in-2 run-in-requires returns)
