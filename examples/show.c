@@ -373,24 +373,7 @@ struct tree {
     const struct script *script;
     const terkinoha_token *tokens;
     const terkinoha_node *nodes;
-    uint64_t *after; /* for an argument: the row of the one after it plus 1, or 0 */
 };
-
-static int is_argument(const terkinoha_node *node)
-{
-    return node->kind == TERKINOHA_NODE_ARGUMENT || node->kind == TERKINOHA_NODE_NAMED_ARGUMENT;
-}
-
-/* An argument's row names the one before it. Printing wants the one after it. */
-static uint64_t *turn_round(const terkinoha_node *nodes, uint64_t count)
-{
-    uint64_t *after = (uint64_t *)lend(count, sizeof *after);
-    memset(after, 0, count * sizeof *after);
-    for (uint64_t row = 0; row < count; row++)
-        if (is_argument(&nodes[row]) && nodes[row].second != 0)
-            after[nodes[row].second - 1] = row + 1;
-    return after;
-}
 
 static void put_named(const struct tree *tree, uint64_t token)
 {
@@ -413,11 +396,8 @@ static void put_call(const struct tree *tree, const terkinoha_node *call)
 {
     printf("(call ");
     put_node(tree, call->first);
-    uint64_t argument = call->second; /* the last one; walk back to the first */
-    while (argument != 0 && tree->nodes[argument - 1].second != 0)
-        argument = tree->nodes[argument - 1].second;
-    for (; argument != 0; argument = tree->after[argument - 1])
-        put_argument(tree, &tree->nodes[argument - 1]);
+    for (uint64_t next = call->second; next != 0; next = tree->nodes[next - 1].second)
+        put_argument(tree, &tree->nodes[next - 1]);
     putchar(')');
 }
 
@@ -499,11 +479,10 @@ static int show_tree(const struct script *script, size_t room)
     int status = 0;
     if (parsed.verdict.number != TERKINOHA_DONE) {
         status = report(script, parsed.verdict);
-    } else if (parsed.nodes != 0) {
-        struct tree tree = {script, tokens, nodes, turn_round(nodes, parsed.nodes)};
+    } else {
+        struct tree tree = {script, tokens, nodes};
         for (uint64_t row = 0; row < parsed.nodes; row++)
             put_statement(&tree, &nodes[row]);
-        free(tree.after);
     }
     free(nodes);
     free(tokens);
