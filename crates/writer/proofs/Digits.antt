@@ -5,7 +5,7 @@ use mathlib.Core.List.{List, _++_}
 use native.Mathlib.Omega.{arith}
 use lib.ListN.{length, take, drop, replicate, length-append, length-drop, length-replicate}
 use lib.Seq.{take-all, drop-at}
-use Rattle.language.specs.Integers.{digitsIn, decimal, hexadecimal, ascii}
+use Rattle.language.specs.Integers.{digitsIn, mostDigits, decimal, mostHexDigits, hexadecimal, ascii}
 use Rattle.language.specs.Canonical.{spellDigits}
 use Rattle.language.proofs.Integers.{right}
 use Rattle.language.proofs.SpellingDigits.{length-spelt}
@@ -34,17 +34,17 @@ buffer base most n two room {b} {r} e d =
     }
 
 module _ (hi lo : ℕ) (a : hi < wordLimit) (c : lo < wordLimit) (b : List ℕ) (r : ℕ) where
-  pub decimal-buffer : (r ≡ 39 - length (decimal (hi * wordLimit + lo))) × (b ≡ replicate r 0 ++ ascii (decimal (hi * wordLimit + lo)))
-      → Buffer 39 b r (spellDigits (decimal (hi * wordLimit + lo)))
+  pub decimal-buffer : (r ≡ mostDigits - length (decimal (hi * wordLimit + lo))) × (b ≡ replicate r 0 ++ ascii (decimal (hi * wordLimit + lo)))
+      → Buffer mostDigits b r (spellDigits (decimal (hi * wordLimit + lo)))
   unfolding decimal
   decimal-buffer (e, d) =
       let n = hi * wordLimit + lo in
       let room = decimal-start hi lo a c .room in
       let small = right 10 (omega arith) 38 n room .small in
-      buffer 10 38 n (omega arith) room e (rw (spelt-ascii (digitsIn 10 39 n) (λ i l. small i)) d)
+      buffer 10 38 n (omega arith) room e (rw (spelt-ascii (digitsIn 10 mostDigits n) (λ i l. small i)) d)
 
-  pub hexadecimal-buffer : (r ≡ 32 - length (hexadecimal (hi * wordLimit + lo))) × (b ≡ replicate r 0 ++ spellDigits (hexadecimal (hi * wordLimit + lo)))
-      → Buffer 32 b r (spellDigits (hexadecimal (hi * wordLimit + lo)))
+  pub hexadecimal-buffer : (r ≡ mostHexDigits - length (hexadecimal (hi * wordLimit + lo))) × (b ≡ replicate r 0 ++ spellDigits (hexadecimal (hi * wordLimit + lo)))
+      → Buffer mostHexDigits b r (spellDigits (hexadecimal (hi * wordLimit + lo)))
   unfolding hexadecimal
   hexadecimal-buffer (e, d) = buffer 16 31 (hi * wordLimit + lo) (omega arith) (hexadecimal-start hi lo a c .room) e d
 

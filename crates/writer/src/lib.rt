@@ -3,7 +3,7 @@
 ghost use mathlib.Core.List.{[], _∷_};
 ghost use Prim.Native.Nat.{_+_, _≤_, _<_};
 ghost use lib.ListN.{length};
-ghost use Rattle.language.specs.Integers.{decimal, hexadecimal};
+ghost use Rattle.language.specs.Integers.{mostDigits, decimal, mostHexDigits, hexadecimal};
 ghost use Rattle.language.specs.Tables.{wordLimit};
 ghost use Rattle.language.specs.Canonical.{spellDigits};
 ghost use Rattle.wide.specs.Wide.{valueOf};
@@ -32,9 +32,9 @@ pub fn copy(bytes: &[u8], text: &mut [u8], at: usize) -> usize
 
 // A number in decimal, with no leading zeros.
 pub fn decimal(v: Wide, text: &mut [u8], at: usize) -> usize
-    requires { ⌜ at + 39 < wordLimit ⌝ }
+    requires { ⌜ at + mostDigits < wordLimit ⌝ }
     ensures { λ r. ⌜ Writes (now (text .entry)) at (spellDigits (decimal (valueOf v))) r (now (text .exit)) ⌝ }
-    ensures { λ r. ⌜ r ≤ at + 39 ⌝ }
+    ensures { λ r. ⌜ r ≤ at + mostDigits ⌝ }
 {
     let mut digits = [0u8; Wide::MOST_DIGITS];
     let start = v.decimal(&mut digits);
@@ -43,9 +43,9 @@ pub fn decimal(v: Wide, text: &mut [u8], at: usize) -> usize
 
 // A number of one word in decimal.
 pub fn decimal_word(n: u64, text: &mut [u8], at: usize) -> usize
-    requires { ⌜ at + 39 < wordLimit ⌝ }
+    requires { ⌜ at + mostDigits < wordLimit ⌝ }
     ensures { λ r. ⌜ Writes (now (text .entry)) at (spellDigits (decimal n)) r (now (text .exit)) ⌝ }
-    ensures { λ r. ⌜ r ≤ at + 39 ⌝ }
+    ensures { λ r. ⌜ r ≤ at + mostDigits ⌝ }
 {
     let v = Wide { hi: 0, lo: n };
     decimal(v, text, at)
@@ -53,9 +53,9 @@ pub fn decimal_word(n: u64, text: &mut [u8], at: usize) -> usize
 
 // A number in hexadecimal, in lower case, with no leading zeros and nothing before the digits.
 pub fn hexadecimal(v: Wide, text: &mut [u8], at: usize) -> usize
-    requires { ⌜ at + 32 < wordLimit ⌝ }
+    requires { ⌜ at + mostHexDigits < wordLimit ⌝ }
     ensures { λ r. ⌜ Writes (now (text .entry)) at (spellDigits (hexadecimal (valueOf v))) r (now (text .exit)) ⌝ }
-    ensures { λ r. ⌜ r ≤ at + 32 ⌝ }
+    ensures { λ r. ⌜ r ≤ at + mostHexDigits ⌝ }
 {
     let mut digits = [0u8; Wide::MOST_HEX_DIGITS];
     let start = v.hexadecimal(&mut digits);
