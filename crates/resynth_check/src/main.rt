@@ -1,4 +1,11 @@
 // The check program: checks the source on standard input and prints what was found, or one line for a refusal.
+ghost use mathlib.Core.Path.{_≡_};
+ghost use Prim.Native.Nat.{_*_};
+ghost use lib.ListN.{length};
+ghost use Rattle.language.specs.Tables.{tokenWidth};
+ghost use Rattle.language.specs.Sentences.{nodeWidth};
+ghost use Rattle.language.specs.Findings.{diagWidth, stmtWidth};
+ghost use Rattle.language.specs.Samples.{programTokens, programNodes, programDiags, programStmts};
 use libc::STDIN_FILENO;
 use printing::output;
 use rows::NodeRow;
@@ -20,7 +27,7 @@ impl Program {
     const STATEMENTS: usize = 512;
 }
 
-// Checks a source and puts the answer at the start of `out`.
+// Checks a source and puts the answer at the start of `out`. It asks for the rooms that 01 names, so that those lent are these.
 fn answer(
     source: &[u8],
     tokens: &mut [u64],
@@ -28,7 +35,9 @@ fn answer(
     diags: &mut [u64],
     stmts: &mut [u64],
     out: &mut [u8],
-) -> usize {
+) -> usize
+    requires { ⌜ (length (now tokens) ≡ programTokens * tokenWidth) × (length (now nodes) ≡ programNodes * nodeWidth) × (length (now diags) ≡ programDiags * diagWidth) × (length (now stmts) ≡ programStmts * stmtWidth) ⌝ }
+{
     let checked = checker::check_source(source, tokens, nodes, diags, stmts);
     showing_check::report(source, diags, checked, out, 0)
 }
