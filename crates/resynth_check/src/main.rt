@@ -1,5 +1,12 @@
 // The check program: checks the source on standard input and prints what was found, or one line for a refusal. Where the source
 // is not read whole, or arguments were given, it prints nothing, and a line on standard error says why.
+ghost use mathlib.Core.Path.{_≡_};
+ghost use Prim.Native.Nat.{_*_};
+ghost use lib.ListN.{length};
+ghost use Rattle.language.specs.Tables.{tokenWidth};
+ghost use Rattle.language.specs.Sentences.{nodeWidth};
+ghost use Rattle.language.specs.Findings.{diagWidth, stmtWidth};
+ghost use Rattle.language.specs.Samples.{programTokens, programNodes, programDiags, programStmts};
 use printing::input;
 use printing::output;
 use printing::streams;
@@ -23,7 +30,8 @@ impl Program {
     const STATEMENTS: usize = 512;
 }
 
-// Checks a source and writes the answer. What was counted and is not in it is said on standard error.
+// Checks a source and writes the answer. What was counted and is not in it is said on standard error. It asks for the rooms
+// that 01 names, so that those lent are these.
 fn answer(
     source: &[u8],
     tokens: &mut [u64],
@@ -31,7 +39,9 @@ fn answer(
     diags: &mut [u64],
     stmts: &mut [u64],
     out: &mut [u8],
-) {
+)
+    requires { ⌜ (length (now tokens) ≡ programTokens * tokenWidth) × (length (now nodes) ≡ programNodes * nodeWidth) × (length (now diags) ≡ programDiags * diagWidth) × (length (now stmts) ≡ programStmts * stmtWidth) ⌝ }
+{
     let checked = checker::check_source(source, tokens, nodes, diags, stmts);
     let at = showing_check::report(source, diags, checked, out, 0);
     if output::flush(out, at) {

@@ -1,7 +1,7 @@
--- What it is to write bytes after those that are there, and which bytes a row of the token table stands for.
+-- Which bytes a row of the token table stands for, and what it is to write those of all rows.
 use Prim.Native.Nat.{ℕ, _+_, _*_, _≤_, _<_}
 use mathlib.Core.Path.{_≡_}
-use mathlib.Core.List.{List, [], _∷_, _++_}
+use mathlib.Core.List.{List, [], _∷_}
 use lib.Dec.{eqb}
 use lib.ListN.{length, getD}
 use Rattle.table.specs.Table.{padTo}
@@ -11,13 +11,6 @@ use Rattle.language.specs.Integers.{decimal, hexadecimal}
 use Rattle.language.specs.Tables.{wordLimit}
 use Rattle.language.specs.Tokens.{between, bodiesIn, mostBytes}
 use Rattle.language.specs.Canonical.{spellDigits, spellQuad, quoted, spellBodies, text}
-
--- bytes written at the place `at` of a lent text: t before, u after, and r the place after them. Those past the end are
--- counted, and not kept.
-pub record Writes (t : List ℕ) (at : ℕ) (bytes : List ℕ) (r : ℕ) (u : List ℕ) : Type 0 where
-  pub moved : r ≡ at + length bytes
-  pub size : length u ≡ length t
-  pub text : (done : List ℕ) → length done ≡ at → t ≡ padTo (length t) done → u ≡ padTo (length t) (done ++ bytes)
 
 -- ---- strings
 
