@@ -6,7 +6,7 @@
 ghost use mathlib.Core.Path.{_≡_};
 ghost use Prim.Native.Nat.{_+_, _*_, _<_, _≤_};
 ghost use Rattle.language.specs.Values.{tableText, lookup};
-ghost use Rattle.constants.specs.Constants.{tableRows, orZero, isHit, entryWord, NameText};
+ghost use Rattle.constants.specs.Constants.{entryWidth, entryCount, tableRows, orZero, isHit, entryWord, NameText};
 use rows::Ty;
 
 pub struct Constants {
@@ -17,7 +17,7 @@ pub struct Constants {
 impl Constants {
     pub const ENTRIES: usize = 9;
     pub const ROW_WORDS: usize = 6;
-    pub const WORDS: usize = 54;
+    pub const WORDS: usize = Constants::ENTRIES * Constants::ROW_WORDS;
     pub const BYTES: usize = 38;
 
     // The number of the last entry.
@@ -63,7 +63,7 @@ pub fn name_text<'a>(from_table: bool, source: &'a [u8], text: &'a [u8], a: usiz
 
 // Word j of the entry numbered k, 0 where there is no such entry.
 pub fn entry_word(rows: &[u64; Constants::WORDS], k: u64, j: usize) -> u64
-    requires { ⌜ j < 6 ⌝ }
+    requires { ⌜ j < entryWidth ⌝ }
     ensures { λ r. ⌜ r ≡ entryWord (now (rows .entry)) k j ⌝ }
 {
     if k == 0 {
@@ -83,7 +83,7 @@ fn is_hit(
     inside: u64,
     name: &[u8],
 ) -> bool
-    requires { ⌜ i < 9 ⌝ }
+    requires { ⌜ i < entryCount ⌝ }
     ensures { λ r. ⌜ r ≡ isHit (now (rows .entry)) (now (text .entry)) i inside (now (name .entry)) ⌝ }
 {
     let at = i * Constants::ROW_WORDS;
@@ -103,7 +103,7 @@ pub fn lookup(
     name: &[u8],
 ) -> u64
     requires { ⌜ (now rows ≡ tableRows) × (now text ≡ tableText) ⌝ }
-    ensures { λ r. ⌜ (r ≡ orZero (lookup inside (now (name .entry)))) × (r ≤ 9) ⌝ }
+    ensures { λ r. ⌜ (r ≡ orZero (lookup inside (now (name .entry)))) × (r ≤ entryCount) ⌝ }
 {
     let mut i: usize = 0;
     while i < Constants::ENTRIES {

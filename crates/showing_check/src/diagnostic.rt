@@ -142,10 +142,10 @@ pub fn diagnostics<'a>(
     let mut left = count;
     let mut word: usize = 0;
     while 0 < left {
-        if diags.len() - word < Diagnostic::ROW_WORDS {
+        if diags.len() - word < DiagnosticRow::WORDS {
             return p;
         }
-        let next = word + Diagnostic::ROW_WORDS;
+        let next = word + DiagnosticRow::WORDS;
         p = line_of(source, text, &diags[word..next], out, p);
         word = next;
         left -= 1;

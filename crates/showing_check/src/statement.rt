@@ -126,10 +126,10 @@ pub fn statements(
     let mut left = count;
     let mut word: usize = 0;
     while 0 < left {
-        if stmts.len() - word < Statement::ROW_WORDS {
+        if stmts.len() - word < StatementRow::WORDS {
             return p;
         }
-        let next = word + Statement::ROW_WORDS;
+        let next = word + StatementRow::WORDS;
         p = line_of(source, text, tokens, &stmts[word..next], out, p);
         word = next;
         left -= 1;
