@@ -354,7 +354,7 @@ module _ {s toks ws : List ℕ} {i : ℕ} {x0 u0 x u b m : List ℕ} {c : Counts
         sizes : length (stored mostImports m (c1 .imported) e) ≡ length m
         sizes = simp length-set
 
-    pub again : Turned s ws i b m x u c y v r → length y ≡ length x → length v ≡ length u → Looped s toks ws x0 u0 y v b2 m2 c2 (i + 1)
+    again : Turned s ws i b m x u c y v r → length y ≡ length x → length v ≡ length u → Looped s toks ws x0 u0 y v b2 m2 c2 (i + 1)
     again h f g =
         let fs = l .fits in
         let k = knownIn s b m c in
@@ -372,6 +372,16 @@ module _ {s toks ws : List ℕ} {i : ℕ} {x0 u0 x u b m : List ℕ} {c : Counts
           runs = λ all a. let w = l .runs all a in runs-on all w (h (w .number) (w .known) (w .rest) (w .knows) (w .stands));
         }
 
+  module _ {r : Turn} (h : Turned s ws i b m x u c y v r) (f : length y ≡ length x) (g : length v ≡ length u) where
+    pub again-went : {d : Counts} → r ≡ Went d → Looped s toks ws x0 u0 y v b m d (i + 1)
+    again-went e = again stores-none (subst (Turned s ws i b m x u c y v) e h) f g
+
+    pub again-name : {d d′ : Counts} {e : Entry} {b2 : List ℕ} → r ≡ Binds d e → b2 ≡ stored mostNames b (d .used) e → d′ ≡ plusName d → Looped s toks ws x0 u0 y v b2 m d′ (i + 1)
+    again-name e p q = rw (p, q) (again stores-name (subst (Turned s ws i b m x u c y v) e h) f g)
+
+    pub again-import : {d d′ : Counts} {e : Entry} {m2 : List ℕ} → r ≡ Imports d e → m2 ≡ stored mostImports m (d .imported) e → d′ ≡ plusImport d → Looped s toks ws x0 u0 y v b m2 d′ (i + 1)
+    again-import e p q = rw (p, q) (again stores-import (subst (Turned s ws i b m x u c y v) e h) f g)
+
   refused-by : (number at n : ℕ) (k : Known) (ds : List Diag) (hs : List Held) (ss : List Stmt)
       → RowTurns s ws i n k c x u (Refused number at) y v ss → ComesTo s x0 u0 (outcome.Refused number at) y v (run ts ss n k ds hs)
   refused-by number at n k ds hs ss (passes a e f g) = never (cc)
@@ -380,6 +390,33 @@ module _ {s toks ws : List ℕ} {i : ℕ} {x0 u0 x u b m : List ℕ} {c : Counts
       by : (z : judgements.Turn) → stmt ts n k st ≡ z → TurnOf s k c x u (Refused number at) y v z → ComesTo s x0 u0 (outcome.Refused number at) y v (run ts (st ∷ ss) n k ds hs)
       by (goes k′ es gs) e w = absurd w
       by (refuses o p) e w = subst (ComesTo s x0 u0 (outcome.Refused number at) y v) (sym (run-refuses ts st ss n k ds hs e)) w
+
+  -- there is room for what a turn binds or imports
+  module _ {r : Turn} (h : Turned s ws i b m x u c y v r) where
+    turned : RowTurns s ws i 0 (knownIn s b m c) c x u r y v (l .fits .list)
+    turned = h 0 (knownIn s b m c) (l .fits .list) (record { is = refl }) (l .fits .stands)
+
+    pub room-name : {d : Counts} {e : Entry} → r ≡ Binds d e → d .used < mostNames
+    room-name {d} {e} q = by (l .fits .list) (subst (λ (z : Turn). RowTurns s ws i 0 (knownIn s b m c) c x u z y v (l .fits .list)) q turned)
+      where
+        of : (t : judgements.Turn) → TurnOf s (knownIn s b m c) c x u (Binds d e) y v t → d .used < mostNames
+        of (goes k′ ds hs) a = rw (used-same (a .1)) (a .0 .room)
+        of (refuses o t) a = absurd a
+
+        by : (ss : List Stmt) → RowTurns s ws i 0 (knownIn s b m c) c x u (Binds d e) y v ss → d .used < mostNames
+        by ss (passes a f g z) = never (cc)
+        by (st ∷ ss) (takes a t) = of (stmt ts 0 (knownIn s b m c) st) (t .turn)
+
+    pub room-import : {d : Counts} {e : Entry} → r ≡ Imports d e → d .imported < mostImports
+    room-import {d} {e} q = by (l .fits .list) (subst (λ (z : Turn). RowTurns s ws i 0 (knownIn s b m c) c x u z y v (l .fits .list)) q turned)
+      where
+        of : (t : judgements.Turn) → TurnOf s (knownIn s b m c) c x u (Imports d e) y v t → d .imported < mostImports
+        of (goes k′ ds hs) a = rw (imported-same (a .1)) (a .0 .room)
+        of (refuses o t) a = absurd a
+
+        by : (ss : List Stmt) → RowTurns s ws i 0 (knownIn s b m c) c x u (Imports d e) y v ss → d .imported < mostImports
+        by ss (passes a f g z) = never (cc)
+        by (st ∷ ss) (takes a t) = of (stmt ts 0 (knownIn s b m c) st) (t .turn)
 
   pub stopped : {r : Turn} {number at : ℕ} → Turned s ws i b m x u c y v r → r ≡ Refused number at → (all : List Stmt) → StmtsAt ws 0 all
       → Comes s x0 u0 (outcome.Refused number at) y v (judgeAll ts all)

@@ -16,6 +16,8 @@ use Rattle.language.specs.Judgements.{Diag, diag, Held, held, Known, val, err, 
 use Rattle.language.specs.Findings.{stmtRow, tyKind}
 use Rattle.language.specs.Numbers.{tokenOf}
 use Rattle.language.proofs.Tests.{never}
+use Rattle.language.proofs.Tests.{each-side}
+use lib.Dec.{eqb}
 use Rattle.rows.specs.Rows.{nodeWord}
 use Rattle.rows.specs.declared.token.Token.{Token}
 use Rattle.rows.specs.declared.types.Text.{Text}
@@ -25,7 +27,7 @@ use Rattle.findings.specs.declared.Counts.{Counts}
 use Rattle.findings.specs.declared.Diagnostic.{Diagnostic}
 use Rattle.findings.specs.declared.What.{What}
 use Rattle.findings.specs.declared.What.the-variants.{DiscardedValue, IntegralTooLarge}
-use Rattle.findings.specs.Findings.{typeAs, atToken, diagnosticAs, added, Reports, Adds}
+use Rattle.findings.specs.Findings.{typeAs, atToken, diagnosticAs, kindNumber, severityNumber, plusFinding, added, Reports, Adds}
 use Rattle.findings.proofs.Adds.{adds-none, adds-then, adds-reported, adds-held, adds-count, adds-held-count}
 use Rattle.findings.proofs.Texts.{at-token}
 use Rattle.values.specs.declared.Value.{Value}
@@ -140,3 +142,11 @@ module _ {ws : List ℕ} {i : ℕ} {c : Counts} (f : StmtFits ws i c) where
         findings = omega (arith, findings-after a, f .room, few (contents (tokens.tokens s)) n k (f .tree));
         held = omega (arith, same-statements a, f .held);
       }
+
+-- a finding holds no statement
+plus-held-same : (c : Counts) (w : What) → plusFinding c w .statements ≡ c .statements
+unfolding plusFinding
+plus-held-same c w = each-side (λ (z : Counts). z .statements ≡ c .statements) (eqb (severityNumber (kindNumber w)) 1) refl refl
+
+pub same-held : {c c′ : Counts} {d : Diagnostic} {x y : List ℕ} → Reports c d x c′ y → c′ .statements ≡ c .statements
+same-held {c} {d = d} r = ap (λ (z : Counts). z .statements) (r .counted) ∙ plus-held-same c (d .what)

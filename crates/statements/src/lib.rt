@@ -355,12 +355,12 @@ fn let_stmt(
 }
 
 // Row i: a statement takes its turn, a row of an expression is passed.
-fn stmt(
+fn stmt<'a>(
     source: &[u8],
     toks: &[u64],
     nodes: &[u64],
-    bindings: &[u64],
-    imports: &[u64],
+    bindings: &'a [u64],
+    imports: &'a [u64],
     diags: &mut [u64],
     stmts: &mut [u64],
     i: usize,
@@ -438,18 +438,22 @@ pub fn run(
             i,
             counts,
         ) {
-            Turn::Went(then) => counts = then,
+            Turn::Went(then) => {
+                counts = then;
+                i += 1;
+            }
             Turn::Binds(then, e) => {
                 put_binding(&mut checker.bindings, then.used, e);
                 counts = named_one(then);
+                i += 1;
             }
             Turn::Imports(then, e) => {
                 put_import(&mut checker.imports, then.imported, e);
                 counts = imported_one(then);
+                i += 1;
             }
             Turn::Refused(number, t) => return Outcome::Refused(number, t),
         }
-        i += 1;
     }
     Outcome::Judged(counts)
 }
