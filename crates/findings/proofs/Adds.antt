@@ -20,7 +20,7 @@ use Rattle.language.proofs.JudgementClaims.{all-counted, errors-append}
 use Rattle.findings.specs.declared.What.{What}
 use Rattle.findings.specs.declared.Diagnostic.{Diagnostic}
 use Rattle.findings.specs.declared.Counts.{Counts}
-use Rattle.findings.specs.Findings.{kindNumber, severityNumber, showsName, whatAs, placed, atToken, diagnosticAs, diagnosticRow, putRows, plusFinding, added, Reports, Adds}
+use Rattle.findings.specs.Findings.{kindNumber, severityNumber, showsName, whatAs, placed, atToken, diagnosticAs, diagnosticRow, plusFinding, added, Reports, Adds}
 use Rattle.findings.proofs.Rows.{no-rows, one-row, more-rows}
 use Rattle.findings.proofs.Texts.{diagnostic-row}
 

@@ -4,3 +4,4 @@ pub mod Texts
 pub mod Adds
 pub mod Guesses
 pub mod ReadingClaims
+pub mod Examples

@@ -1,8 +1,8 @@
 -- A row is read as what it was, and as nothing where no finding has it.
 use Prim.Native.Nat.{ℕ}
 use mathlib.Core.Path.{_≡_, refl, sym, ap, _∙_}
-use mathlib.Core.Bool.{Bool, true, false, _&&_, _||_}
-use borrow.Author.Tests.{eq-eqb, eqb-true, eqb-false}
+use mathlib.Core.Bool.{Bool, true, false, _&&_}
+use borrow.Author.Tests.{eq-eqb, eqb-true}
 use lib.Dec.{eqb, ltb}
 use Rattle.rows.specs.declared.layout.DiagnosticRow.{DiagnosticRow}
 use Rattle.rows.specs.declared.types.Type.{«Type»}
@@ -18,7 +18,7 @@ use Rattle.findings.specs.declared.Read.the-variants.{Is, Nothing}
 use Rattle.findings.specs.declared.reading.Guess.{Guess}
 use Rattle.findings.specs.declared.reading.Guess.the-variants as guess-is
 use Rattle.findings.specs.Findings.{severityNumber, showsName, placed, typeText, typedRow, rowOf}
-use Rattle.findings.specs.Reading.{isPlain, isType, soundType, soundWhat, soundDiagnostic, sameRow, typeIn, operandIn, truncatedIn, guessBy, guessOf, foundIn, confirmed, readBy, readOf, ReadsBack, ReadsOnly, ReadsNothing}
+use Rattle.findings.specs.Reading.{isPlain, isType, soundType, soundDiagnostic, sameRow, typeIn, operandIn, truncatedIn, guessBy, guessOf, foundIn, confirmed, readBy, readOf, ReadsBack, ReadsOnly, ReadsNothing}
 
 -- ---- rows word by word
 

@@ -14,7 +14,6 @@ use Rattle.language.specs.Findings.{tyText, tyEntry, diagRow}
 use Rattle.language.specs.Numbers.{tokenOf}
 use Rattle.rows.specs.declared.layout.DiagnosticRow.{DiagnosticRow}
 use Rattle.rows.specs.declared.token.Token.{Token}
-use Rattle.rows.specs.declared.types.Text.{Text}
 use Rattle.rows.specs.declared.types.Type.{«Type»}
 use Rattle.rows.specs.Tokens.{tokenAs}
 use Rattle.rows.proofs.Plain.{strange}

@@ -21,12 +21,16 @@ pub enum Side {
 }
 
 impl Side {
+    pub const LEFT: u64 = 1;
+
+    pub const RIGHT: u64 = 2;
+
     pub fn number(self) -> u64
         ensures { λ r. ⌜ r ≡ sideNumber self ⌝ }
     {
         match self {
-            Side::Left => 1,
-            Side::Right => 2,
+            Side::Left => Side::LEFT,
+            Side::Right => Side::RIGHT,
         }
     }
 }

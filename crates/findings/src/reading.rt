@@ -117,10 +117,10 @@ fn operand_in(row: DiagnosticRow) -> Guess
     ensures { λ r. ⌜ r ≡ operandIn row ⌝ }
 {
     let ty = type_in(row);
-    if row.first == 1 {
+    if row.first == Side::LEFT {
         return Guess::Is(What::OperandType(Side::Left, row.second, ty));
     }
-    if row.first == 2 {
+    if row.first == Side::RIGHT {
         return Guess::Is(What::OperandType(Side::Right, row.second, ty));
     }
     Guess::Nothing
