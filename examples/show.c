@@ -258,8 +258,7 @@ static void tell_name(const struct script *script, const terkinoha_diagnostic *f
         put_shown(script, found);
         break;
     case TERKINOHA_FINDING_UNKNOWN_ITEM:
-        put_item(found->first, found->second);
-        fputs(" has no item ", stderr);
+        fprintf(stderr, "`%s` has no item ", terkinoha_entry_name(found->first));
         put_shown(script, found);
         break;
     case TERKINOHA_FINDING_UNKNOWN_MODULE:

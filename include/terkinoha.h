@@ -300,7 +300,7 @@ enum terkinoha_text_place {
     TERKINOHA_TEXT_TABLE = 2   /* in TERKINOHA_TABLE_TEXT */
 };
 
-/* The names and bytes of the constant table. */
+/* The names and bytes of the constant table, whose entries are numbered from 1. */
 #define TERKINOHA_TABLE_TEXT "benchHTTPLOOPBIGONBANNERokpingdeepZERO"
 
 /* The kinds of findings. Beside each is what `type`, `first`, `second` and `third` are; what is not
@@ -310,8 +310,8 @@ enum terkinoha_text_place {
 enum terkinoha_finding {
     /* no `let` has bound the name. Shows the name */
     TERKINOHA_FINDING_UNKNOWN_NAME = 1,
-    /* a module has no such item. Shows the item. first, second: start and end of the module's name
-     * in the table's text */
+    /* a module has no such item. Shows the item. first: the module's entry in the constant table,
+     * whose name `terkinoha_entry_name` gives */
     TERKINOHA_FINDING_UNKNOWN_ITEM = 2,
     /* there is no such module. Shows the name */
     TERKINOHA_FINDING_UNKNOWN_MODULE = 4,
@@ -619,6 +619,23 @@ static inline const char *terkinoha_finding_text(uint64_t kind)
     case TERKINOHA_FINDING_DISCARDED_VALUE: return "value is discarded";
     case TERKINOHA_FINDING_TRUNCATED: return "integer is cut to fit";
     default: return "unknown finding";
+    }
+}
+
+/* Of an entry of the constant table, by its number: its name. */
+static inline const char *terkinoha_entry_name(uint64_t entry)
+{
+    switch (entry) {
+    case 1: return "bench";
+    case 2: return "HTTP";
+    case 3: return "LOOP";
+    case 4: return "BIG";
+    case 5: return "ON";
+    case 6: return "BANNER";
+    case 7: return "ping";
+    case 8: return "deep";
+    case 9: return "ZERO";
+    default: return "unknown entry";
     }
 }
 

@@ -240,6 +240,11 @@ static const terkinoha_token *token_at(struct lent lent, uint64_t count, uint64_
     return low < count && rows[low].line == line && rows[low].column == column ? &rows[low] : NULL;
 }
 
+static int is_module(uint64_t entry)
+{
+    return strcmp(terkinoha_entry_name(entry), "bench") == 0 || strcmp(terkinoha_entry_name(entry), "deep") == 0;
+}
+
 static int is_part_of_table(uint64_t start, uint64_t end)
 {
     return start < end && end <= sizeof TERKINOHA_TABLE_TEXT - 1;
@@ -285,7 +290,7 @@ static int is_finding(const terkinoha_diagnostic *d, const terkinoha_token *toke
     case TERKINOHA_FINDING_NOT_A_MODULE:
     case TERKINOHA_FINDING_NOT_A_VALUE:
     case TERKINOHA_FINDING_MULTIPLE_IMPORTS: return shows_name(d, token) && fields(d, 0, 0, 0);
-    case TERKINOHA_FINDING_UNKNOWN_ITEM: return shows_name(d, token) && is_part_of_table(d->first, d->second);
+    case TERKINOHA_FINDING_UNKNOWN_ITEM: return shows_name(d, token) && is_module(d->first) && fields(d, d->first, 0, 0);
     case TERKINOHA_FINDING_ALREADY_BOUND:
         return shows_name(d, token) && d->first >= 1 && d->second >= 1 &&
                (d->first < d->line || (d->first == d->line && d->second < d->column));

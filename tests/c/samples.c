@@ -370,8 +370,8 @@ static void try_kinds(void)
         {4, 9, 1, TERKINOHA_FINDING_UNKNOWN_NAME, 1, 49, 50, 0, 0, 0, 0},
         {5, 5, 1, TERKINOHA_FINDING_ALREADY_BOUND, 1, 56, 57, 0, 4, 5, 0},
         {6, 1, 1, TERKINOHA_FINDING_NOT_IMPORTED, 1, 63, 68, 0, 0, 0, 0},
-        {7, 8, 1, TERKINOHA_FINDING_UNKNOWN_ITEM, 1, 80, 81, 0, 0, 5, 0},
-        {8, 14, 1, TERKINOHA_FINDING_UNKNOWN_ITEM, 1, 96, 97, 0, 30, 34, 0},
+        {7, 8, 1, TERKINOHA_FINDING_UNKNOWN_ITEM, 1, 80, 81, 0, 1, 0, 0},
+        {8, 14, 1, TERKINOHA_FINDING_UNKNOWN_ITEM, 1, 96, 97, 0, 8, 0, 0},
         {9, 8, 1, TERKINOHA_FINDING_NOT_A_MODULE, 1, 106, 110, 0, 0, 0, 0},
         {10, 8, 1, TERKINOHA_FINDING_NOT_A_VALUE, 1, 122, 126, 0, 0, 0, 0},
         {11, 13, 1, TERKINOHA_FINDING_NO_MEMBERS, 2, 26, 30, TERKINOHA_TYPE_FUNCTION, 0, 0, 0},
@@ -515,6 +515,9 @@ static void try_texts(void)
     CHECK(strcmp(terkinoha_node_text(14), "unknown node") == 0);
     CHECK(strcmp(terkinoha_finding_text(3), "unknown finding") == 0);
     CHECK(strcmp(terkinoha_finding_text(25), "integer is cut to fit") == 0);
+    CHECK(strcmp(terkinoha_entry_name(0), "unknown entry") == 0);
+    CHECK(strcmp(terkinoha_entry_name(8), "deep") == 0);
+    CHECK(strcmp(terkinoha_entry_name(10), "unknown entry") == 0);
     CHECK(strcmp(terkinoha_type_text(15), "unknown type") == 0);
     CHECK(strcmp(terkinoha_type_text(16), "integer") == 0);
 }

@@ -11,7 +11,7 @@ use Rattle.table.specs.Table.{flat}
 use Rattle.language.specs.Sentences.{Node, nodeRow}
 use Rattle.language.specs.Numbers.{sooner, firstCall}
 use Rattle.language.proofs.Tests.{never}
-use Rattle.judging.specs.Judging.{word}
+use Rattle.rows.specs.Rows.{nodeWord}
 use Rattle.checker.specs.declared.Call.{Call}
 use Rattle.checker.specs.declared.Call.the-variants.{At, Nowhere}
 use Rattle.checker.specs.Entry.{callAs}
@@ -73,10 +73,10 @@ module _ {words : List ℕ} {i : ℕ} {found : Call} (o : Earliest words i found
         let l : i - 1 < length ns = omega (arith, o .inside, ap length e, rows-long ns) in
         drop-cons ns (i - 1) nowhere l ∙ rw z
 
-    word-is : (j : ℕ) → j < 5 → word words (i - 1) j ≡ getD (nodeRow (getD ns (i - 1) nowhere)) j 0
+    word-is : (j : ℕ) → j < 5 → nodeWord words (i - 1) j ≡ getD (nodeRow (getD ns (i - 1) nowhere)) j 0
     word-is j k = rw e (row-word ns (i - 1) j (omega (arith, o .inside, ap length e, rows-long ns)) k)
 
-  pub no-call : {k : ℕ} → k ≡ word words (i - 1) 0 → (k ≡ 8 → ⊥) → Earliest words (i - 1) found
+  pub no-call : {k : ℕ} → k ≡ nodeWord words (i - 1) 0 → (k ≡ 8 → ⊥) → Earliest words (i - 1) found
   unfolding firstCall nodeRow
   no-call {k} w n =
       record {
@@ -86,7 +86,7 @@ module _ {words : List ℕ} {i : ℕ} {found : Call} (o : Earliest words i found
             o .is ns e ∙ rw (one-more ns e, ne-eqb (getD ns (i - 1) nowhere .kind) 8 (λ q. n (a ∙ q)));
       }
 
-  pub a-call : {k t : ℕ} {r : Call} → k ≡ word words (i - 1) 0 → k ≡ 8 → t ≡ word words (i - 1) 4
+  pub a-call : {k t : ℕ} {r : Call} → k ≡ nodeWord words (i - 1) 0 → k ≡ 8 → t ≡ nodeWord words (i - 1) 4
       → ((m : Option ℕ) → found ≡ callAs m → r ≡ callAs (sooner t m)) → Earliest words (i - 1) r
   unfolding firstCall nodeRow
   a-call {k} {t} w n u s =

@@ -12,7 +12,7 @@ use lib.Seq.{length-take-le}
 use Rattle.table.specs.Table.{padTo, flat}
 use Rattle.table.proofs.Laws.{tabled-none}
 use Rattle.language.specs.Tokens.{contents, tokens}
-use Rattle.language.specs.Tables.{tokenRow}
+use Rattle.language.specs.Tables.{tokenRow, tokenWidth}
 use Rattle.language.specs.Sentences.{Stmt, Node, program, nodeRow}
 use Rattle.language.specs.Judgements as judgements
 use Rattle.language.specs.Judgements.{Diag, Held, Outcome, errorsIn, warningsIn, judgeAll}
@@ -21,18 +21,20 @@ use Rattle.language.specs.Numbers as numbers
 use Rattle.language.specs.Numbers.{verdict, tokenOf, placed, tokenPlace, parseAnswer, parseTokens, parseNodes, parsedNodes, statementsOf, firstCall, checked, refusedCheck, judgedWithin, checkAnswer, checkTokens, checkNodes, checkDiags, checkStmts}
 use Rattle.rows.specs.declared.verdict.Verdict.{Verdict}
 use Rattle.rows.specs.Rows.{verdictAs}
-use Rattle.judging.specs.declared.Token.{Token}
-use Rattle.judging.specs.declared.Counts.{Counts}
-use Rattle.judging.specs.Judging.{tokenAs, Lexed}
+use Rattle.rows.specs.declared.token.Token.{Token}
+use Rattle.findings.specs.declared.Counts.{Counts}
+use Rattle.rows.specs.Tokens.{tokenAs, TokenTable}
 use Rattle.parse.specs.declared.ParseAnswer.{ParseAnswer}
 use Rattle.parse.specs.Entry.{ParseSource}
-use Rattle.statements.specs.declared.Turn.{Turn}
-use Rattle.statements.specs.declared.Turn.the-variants.{Went, Full}
+use Rattle.statements.specs.declared.Outcome as outcome
+use Rattle.statements.specs.declared.Outcome.the-variants.{Judged, Refused}
+use Rattle.findings.specs.Findings.{added, Adds}
 use Rattle.checker.specs.declared.Call.{Call}
 use Rattle.checker.specs.declared.Call.the-variants.{At, Nowhere}
 use Rattle.checker.specs.declared.CheckAnswer.{CheckAnswer}
-use Rattle.statements.specs.Checking.{StmtsAt, noCounts, Grows, ComesTo, Comes}
+use Rattle.statements.specs.Checking.{StmtsAt, noCounts, unnamed, ComesTo, Comes}
 use Rattle.checker.specs.Entry.{refusal, callAs, Parses, GivesUp, CheckSource}
+use Rattle.language.proofs.Names.{names-refused}
 use Rattle.checker.proofs.Tables.{all-findings, all-held}
 use Rattle.checker.proofs.Calls.{some-call, none-called}
 use Rattle.checker.proofs.Parsed.{lexed-part, node-part, stmts-part, number-is, tokens-long, nodes-left}
@@ -76,15 +78,18 @@ module _ {s toks tree : List ℕ} {count rows : ℕ} (p : Parses s toks tree cou
 
   -- all statements were judged
   module _ (quiet : firstCall (parsedNodes (program (contents (tokens s)))) ≡ none) {ds : List Diag} {hs : List Held} (o : checked s ≡ judgements.judged ds hs)
-      {c : Counts} {found held : List ℕ} (g : Grows s noCounts (padTo (length found) []) (padTo (length held) []) c found held ds hs) where
+      (c : Counts) {found held : List ℕ} (g : Adds s noCounts (padTo (length found) []) (padTo (length held) []) (unnamed c) found held ds hs) where
     errors-are : c .errors ≡ errorsIn ds
-    errors-are = omega (arith, g .errors)
+    unfolding added
+    errors-are = ap (λ (z : Counts). z .errors) (g .counted)
 
     warnings-are : c .warnings ≡ warningsIn ds
-    warnings-are = omega (arith, g .warnings)
+    unfolding added
+    warnings-are = ap (λ (z : Counts). z .warnings) (g .counted)
 
     held-are : c .statements ≡ length hs
-    held-are = omega (arith, g .statements)
+    unfolding added
+    held-are = ap (λ (z : Counts). z .statements) (g .counted)
 
     -- errors: the statements are not kept
     pub with-errors : {r : CheckAnswer} {x : List ℕ} → (c .errors ≡ 0 → ⊥) → x ≡ padTo (length held) []
@@ -135,21 +140,28 @@ module _ {s toks tree : List ℕ} {count rows : ℕ} (p : Parses s toks tree cou
 
 -- ---- the run
 
-module _ {s x u y v : List ℕ} {r : Turn} where
-  went : {c : Counts} {o : Outcome} → r ≡ Went c → Comes s x u r y v o
-      → (ds : List Diag) × (hs : List Held) × (o ≡ judgements.judged ds hs) × Grows s noCounts x u c y v ds hs
-  went {c} {o = judgements.judged ds hs} q h = (ds, hs, refl, subst (λ (z : Turn). ComesTo s x u z y v (judgements.judged ds hs)) q (h .come))
-  went {c} {o = judgements.refused t} q h = absurd (subst (λ (z : Turn). ComesTo s x u z y v (judgements.refused t)) q (h .come))
+-- the number is 9
+number-nine : (s : List ℕ) {n t : ℕ} → checked s ≡ judgements.refused n t → eqb n 0 ≡ false
+unfolding checked
+number-nine s {n} {t} e = let z = names-refused (contents (tokens s)) (statementsOf (program (contents (tokens s)))) n t .0 e .0 in rw z
 
-  full-at : {t : ℕ} {o : Outcome} → r ≡ Full t → Comes s x u r y v o → o ≡ judgements.refused t
-  full-at {t} {o = judgements.judged ds hs} q h = absurd (subst (λ (z : Turn). ComesTo s x u z y v (judgements.judged ds hs)) q (h .come))
-  full-at {t} {o = judgements.refused t′} q h = ap judgements.refused (sym (subst (λ (z : Turn). ComesTo s x u z y v (judgements.refused t′)) q (h .come)))
+module _ {s x u y v : List ℕ} {r : outcome.Outcome} where
+  went : {c : Counts} {o : Outcome} → r ≡ Judged c → Comes s x u r y v o
+      → (ds : List Diag) × (hs : List Held) × (o ≡ judgements.judged ds hs) × Adds s noCounts x u (unnamed c) y v ds hs
+  went {c} {o = judgements.judged ds hs} q h = (ds, hs, refl, subst (λ (z : outcome.Outcome). ComesTo s x u z y v (judgements.judged ds hs)) q (h .come))
+  went {c} {o = judgements.refused m t} q h = absurd (subst (λ (z : outcome.Outcome). ComesTo s x u z y v (judgements.refused m t)) q (h .come))
+
+  refused-at : {n t : ℕ} {o : Outcome} → r ≡ Refused n t → Comes s x u r y v o → o ≡ judgements.refused n t
+  refused-at {n} {t} {o = judgements.judged ds hs} q h = absurd (subst (λ (z : outcome.Outcome). ComesTo s x u z y v (judgements.judged ds hs)) q (h .come))
+  refused-at {n} {t} {o = judgements.refused n′ t′} q h =
+      let e = subst (λ (z : outcome.Outcome). ComesTo s x u z y v (judgements.refused n′ t′)) q (h .come) in
+      rw (e .0, e .1)
 
 module _ {s toks tree : List ℕ} {count rows : ℕ} (p : Parses s toks tree count rows) where
   -- 8
   pub refused-call : {t d k : ℕ} {w : Verdict} {f : Call} {r : CheckAnswer} {a b e g : List ℕ} → f ≡ At t
       → ((ns : List Node) → take (5 * rows) tree ≡ flat nodeRow ns → f ≡ callAs (firstCall ns))
-      → ((z : List ℕ) → Lexed z (take (7 * count) toks) → w ≡ verdictAs (placed 8 (tokenPlace z t)))
+      → ((z : List ℕ) → TokenTable z (take (tokenWidth * count) toks) → w ≡ verdictAs (placed 8 (tokenPlace z t)))
       → GivesUp w (length toks) (length tree) d k r a b e g → CheckSource s (length toks) (length tree) d k r a b e g
   refused-call {t} {d} {k} q c l g =
       gave-up s (length toks) (length tree) d k (placed 8 (tokenPlace s t)) (called-as p (k / 7) t (some-call (sym q ∙ c _ (node-part p)))) refl (l s (lexed-part p)) g
@@ -158,31 +170,31 @@ module _ {s toks tree : List ℕ} {count rows : ℕ} (p : Parses s toks tree cou
       → firstCall (parsedNodes (program (contents (tokens s)))) ≡ none
   no-calls q c = none-called (sym q ∙ c _ (node-part p))
 
-  module _ (quiet : firstCall (parsedNodes (program (contents (tokens s)))) ≡ none) {x u y v : List ℕ} {r : Turn} (same-found : length y ≡ length x) (same-held : length v ≡ length u)
+  module _ (quiet : firstCall (parsedNodes (program (contents (tokens s)))) ≡ none) {x u y v : List ℕ} {r : outcome.Outcome} (same-found : length y ≡ length x) (same-held : length v ≡ length u)
       (on : (ss : List Stmt) → StmtsAt (take (5 * rows) tree) 0 ss → Comes s x u r y v (judgeAll (contents (tokens s)) ss)) where
     came : Comes s x u r y v (checked s)
     unfolding checked
     came = on (statementsOf (program (contents (tokens s)))) (stmts-part p)
 
-    pub concluded : {c : Counts} {q : CheckAnswer} {a b e f : List ℕ} → (x ≡ padTo (length x) []) × (u ≡ padTo (length u) []) → r ≡ Went c
+    pub concluded : {c : Counts} {q : CheckAnswer} {a b e f : List ℕ} → (x ≡ padTo (length x) []) × (u ≡ padTo (length u) []) → r ≡ Judged c
         → ((z : List ℕ) (ds : List Diag) (hs : List Held) → Parses z toks tree count rows → firstCall (parsedNodes (program (contents (tokens z)))) ≡ none
-        → checked z ≡ judgements.judged ds hs → Grows z noCounts (padTo (length y) []) (padTo (length v) []) c y v ds hs
+        → checked z ≡ judgements.judged ds hs → Adds z noCounts (padTo (length y) []) (padTo (length v) []) (unnamed c) y v ds hs
         → CheckSource z (length toks) (length tree) (length y) (length v) q a b e f)
         → CheckSource s (length toks) (length tree) (length x) (length u) q a b e f
     concluded {c} {q} {a} {b} {e} {f} zero i h =
         let w = went i came in
-        let g : Grows s noCounts (padTo (length y) []) (padTo (length v) []) c y v (w .0) (w .1) =
-        subst (λ (m : List ℕ). Grows s noCounts (padTo (length y) []) m c y v (w .0) (w .1)) (zero .1 ∙ ap (λ (m : ℕ). padTo m []) (sym same-held))
-        (subst (λ (m : List ℕ). Grows s noCounts m u c y v (w .0) (w .1)) (zero .0 ∙ ap (λ (m : ℕ). padTo m []) (sym same-found)) (w .3)) in
+        let g : Adds s noCounts (padTo (length y) []) (padTo (length v) []) (unnamed c) y v (w .0) (w .1) =
+        subst (λ (m : List ℕ). Adds s noCounts (padTo (length y) []) m (unnamed c) y v (w .0) (w .1)) (zero .1 ∙ ap (λ (m : ℕ). padTo m []) (sym same-held))
+        (subst (λ (m : List ℕ). Adds s noCounts m u (unnamed c) y v (w .0) (w .1)) (zero .0 ∙ ap (λ (m : ℕ). padTo m []) (sym same-found)) (w .3)) in
         subst (λ (m : ℕ). CheckSource s (length toks) (length tree) (length x) m q a b e f) same-held
         (subst (λ (m : ℕ). CheckSource s (length toks) (length tree) m (length v) q a b e f) same-found (h s (w .0) (w .1) p quiet (w .2) g))
 
-    -- 9
-    pub refused-name : {t : ℕ} {w : Verdict} {q : CheckAnswer} {a b e f : List ℕ} → r ≡ Full t
-        → ((z : List ℕ) → Lexed z (take (7 * count) toks) → w ≡ verdictAs (placed 9 (tokenPlace z t)))
+    -- a refusal by a statement
+    pub refused-stmt : {n t : ℕ} {w : Verdict} {q : CheckAnswer} {a b e f : List ℕ} → r ≡ Refused n t
+        → ((z : List ℕ) → TokenTable z (take (tokenWidth * count) toks) → w ≡ verdictAs (placed n (tokenPlace z t)))
         → GivesUp w (length toks) (length tree) (length y) (length v) q a b e f → CheckSource s (length toks) (length tree) (length x) (length u) q a b e f
-    refused-name {t} {w} {q} {a} {b} {e} {f} i l g =
-        gave-up s (length toks) (length tree) (length x) (length u) (placed 9 (tokenPlace s t)) (judged-as p (length u / 7) quiet ∙ rw (full-at i came)) refl (l s (lexed-part p))
+    refused-stmt {n} {t} {w} {q} {a} {b} {e} {f} i l g =
+        gave-up s (length toks) (length tree) (length x) (length u) (placed n (tokenPlace s t)) (judged-as p (length u / 7) quiet ∙ rw (refused-at i came)) (number-nine s (refused-at i came))  (l s (lexed-part p))
         (subst (λ (m : ℕ). GivesUp w (length toks) (length tree) (length x) m q a b e f) same-held
         (subst (λ (m : ℕ). GivesUp w (length toks) (length tree) m (length v) q a b e f) same-found g))
 

@@ -8,11 +8,11 @@ use native.Mathlib.Omega.{arith}
 use native.Mathlib.Decide.{decLe}
 use borrow.Author.Tests.{eqb-true, lt-ltb, le-ltb}
 use lib.Dec.{eqb}
-use lib.ListN.{length, take}
+use lib.ListN.{length, take, length-map}
 use Rattle.table.specs.Table.{flat}
 use Rattle.table.proofs.Laws.{length-tabled, tabled-own, tabled-rows}
 use Rattle.language.specs.Tables.{tokenRow}
-use Rattle.language.specs.Tokens.{contents, tokens}
+use Rattle.language.specs.Tokens.{mostBytes, Token, contents, tokens}
 use Rattle.language.specs.Sentences as sentences
 use Rattle.language.specs.Sentences.{Stmt, programSize, Out, ok, program, nodes, nodeRow}
 use Rattle.language.specs.Numbers as numbers
@@ -24,9 +24,11 @@ use Rattle.language.proofs.Done.{LexesIn, lex-done, lex-done-only}
 use Rattle.language.proofs.SentenceRefusals.{refused-number}
 use Rattle.language.proofs.TokensAt.{row-width, some-token}
 use Rattle.language.proofs.NodeClaims.{all-long, row-long}
-use Rattle.judging.specs.Judging.{Lexed}
+use Rattle.rows.specs.Tokens.{TokenTable}
 use Rattle.statements.specs.Checking.{StmtsAt, RowFits, noCounts}
 use Rattle.checker.specs.Entry.{Parses}
+use Rattle.parse.proofs.Few.{nodes-few}
+use Rattle.parse.proofs.TokenRows.{few-tokens}
 use Rattle.checker.proofs.Trees.{all-stmts}
 
 -- ---- the answer
@@ -39,6 +41,9 @@ module _ (s : List ℕ) (m n : ℕ) (z : parseAnswer s m n .verdict .number ≡ 
 
   lexes-in : LexesIn s m
   lexes-in = lex-done-only s m (lexed-too (eqb (lexAnswer s m .verdict .number) 0) refl)
+
+  pub short : length s ≤ mostBytes
+  short = lexes-in .lexes .short
 
   pub tokens-in : length (tokens s) ≤ m
   tokens-in = lexes-in .fit
@@ -90,7 +95,7 @@ module _ {s toks tree : List ℕ} {count rows : ℕ} (p : Parses s toks tree cou
   pub node-words : 5 * rows ≤ length tree
   node-words = omega (arith, p .rowed, rows-in)
 
-  pub lexed-part : Lexed s (take (7 * count) toks)
+  pub lexed-part : TokenTable s (take (7 * count) toks)
   lexed-part =
       record {
         rows = rw (p .table, p .counted) (tabled-rows tokenRow 7 row-width (length toks) (tokens s) (tokens-in s (length toks / 7) (length tree / 5) done));
@@ -104,10 +109,12 @@ module _ {s toks tree : List ℕ} {count rows : ℕ} (p : Parses s toks tree cou
       let w = whole s (length toks / 7) (length tree / 5) done in
       rw node-part (rw (w .3) (all-stmts (w .0)))
 
-  pub rows-fit : length tree ≤ 18446744073709551615 → RowFits (take (5 * rows) tree) 0 noCounts
-  rows-fit h =
+  -- there are no more nodes than tokens, and no more tokens than bytes but one
+  pub rows-fit : RowFits (take (5 * rows) tree) 0 noCounts
+  rows-fit =
       let w = whole s (length toks / 7) (length tree / 5) done in
-      let l : programSize (w .0) ≤ length tree / 5 = omega (arith, all-long 0 (w .0), w .4) in
+      let few = nodes-few (contents (tokens s)) (w .0) (w .1) (w .2) (w .3) in
+      let l : programSize (w .0) ≤ 65537 = omega (arith, all-long 0 (w .0), few, length-map (tokens s) (λ (t : Token). t .content), few-tokens s, short s (length toks / 7) (length tree / 5) done) in
       record { list = w .0; stands = rw (w .3) at stmts-part; room = omega arith; held = omega arith }
 
 -- ---- what the entry `parse` promises

@@ -8,8 +8,8 @@ use Rattle.table.specs.Table.{padTo, tabled}
 use Rattle.language.specs.Tokens.{Token}
 use Rattle.language.specs.Judgements.{Diag, Held}
 use Rattle.language.specs.Findings.{diagRow, diagWidth, stmtRow, stmtWidth}
-use Rattle.judging.specs.Judging.{putRows}
-use Rattle.judging.proofs.Rows.{all-rows}
+use Rattle.findings.specs.Findings.{putRows}
+use Rattle.findings.proofs.Rows.{all-rows}
 
 module _ (tokenAt : ℕ → Token) where
   finding-long : (d : Diag) → length (diagRow tokenAt d) ≡ diagWidth

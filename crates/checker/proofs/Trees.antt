@@ -9,7 +9,8 @@ use Rattle.table.specs.Table.{flat}
 use Rattle.table.proofs.Laws.{length-flat, flat-word}
 use Rattle.language.specs.Sentences.{Expr, literal, sock4, local, path, member, call, slash′, Args, none-given, given, named, Stmt, import′, let′, expr′, firstOf, Node, node, nameNodes, exprSize, argsSize, firstRow, exprNodes, argNodes, nodesFrom, nodes, nodeRow}
 use Rattle.language.proofs.NodeClaims.{names-long, expr-long, args-long, some-node, row-long}
-use Rattle.judging.specs.Judging.{word, RepAt, is-literal, is-sock4, is-local, is-path, is-member, is-slash, is-call}
+use Rattle.rows.specs.Rows.{nodeWord}
+use Rattle.judging.specs.Judging.{RepAt, is-literal, is-sock4, is-local, is-path, is-member, is-slash, is-call}
 use Rattle.statements.specs.Checking.{StmtsAt, at-end, no-stmt, an-import, a-let, an-expr}
 
 -- past the end
@@ -53,16 +54,16 @@ module _ (ns : List Node) where
   row-in : (i : ℕ) → i < length ns → 5 * i + 5 ≤ length ws
   row-in i h = omega (arith, rows-long)
 
-  pub row-word : (i j : ℕ) → i < length ns → j < 5 → word ws i j ≡ getD (nodeRow (getD ns i nowhere)) j 0
+  pub row-word : (i j : ℕ) → i < length ns → j < 5 → nodeWord ws i j ≡ getD (nodeRow (getD ns i nowhere)) j 0
   row-word i j h l = flat-word nodeRow 5 row-long ns i j h l nowhere
 
   -- the words of a node
   pub record IsRow (i : ℕ) (n : Node) : Type 0 where
     pub inside : 5 * i + 5 ≤ length ws
-    pub kind : word ws i 0 ≡ n .kind
-    pub tok : word ws i 1 ≡ n .tok
-    pub first : word ws i 2 ≡ n .first
-    pub second : word ws i 3 ≡ n .second
+    pub kind : nodeWord ws i 0 ≡ n .kind
+    pub tok : nodeWord ws i 1 ≡ n .tok
+    pub first : nodeWord ws i 2 ≡ n .first
+    pub second : nodeWord ws i 3 ≡ n .second
 
   -- the one node of a part
   row-of : (i k : ℕ) (n : Node) → i ≡ k → Part ns k (n ∷ []) → IsRow i n
@@ -92,7 +93,7 @@ module _ (ns : List Node) where
       subst (λ (m : ℕ). RepAt ws i (local m)) (r .tok) (is-local (r .inside) (r .kind))
   rep (path t n) k i q p =
       let r = row-of i i (node 5 t n 0 0) refl (part-right (nameNodes t n) (node 5 t n 0 0 ∷ []) (omega (arith, q, names-long t n)) p) in
-      subst (λ (m : ℕ). RepAt ws i (path t m)) (r .first) (subst (λ (m : ℕ). RepAt ws i (path m (word ws i 2))) (r .tok) (is-path (r .inside) (r .kind)))
+      subst (λ (m : ℕ). RepAt ws i (path t m)) (r .first) (subst (λ (m : ℕ). RepAt ws i (path m (nodeWord ws i 2))) (r .tok) (is-path (r .inside) (r .kind)))
   rep (member e t) k i q p =
       let n = node 6 (firstOf e) (k + exprSize e - 1) t 0 in
       let r = row-of i i n refl (part-right (exprNodes k e) (n ∷ []) (omega (arith, q, expr-long k e)) p) in
@@ -177,15 +178,15 @@ length-all : (k : ℕ) (xs ys : List Node) → k + length (xs ++ ys) ≡ k + len
 length-all k xs ys = rw length-append (omega arith)
 
 module _ (ns : List Node) where
-  skip : (m k : ℕ) {ss : List Stmt} → ((j : ℕ) → j < m → (5 * (k + j) + 5 ≤ length (ws ns)) × (word (ws ns) (k + j) 0 < 11)) → StmtsAt (ws ns) (k + m) ss
+  skip : (m k : ℕ) {ss : List Stmt} → ((j : ℕ) → j < m → (5 * (k + j) + 5 ≤ length (ws ns)) × (nodeWord (ws ns) (k + j) 0 < 11)) → StmtsAt (ws ns) (k + m) ss
       → StmtsAt (ws ns) k ss
   skip zero k {ss} h r = let z : k + 0 ≡ k = omega arith in subst (λ (n : ℕ). StmtsAt (ws ns) n ss) z r
   skip (suc m) k {ss} h r =
       let z : k + 0 ≡ k = omega arith in
       let y : k + suc m ≡ k + 1 + m = omega arith in
-      let a : (5 * k + 5 ≤ length (ws ns)) × (word (ws ns) k 0 < 11) = subst (λ (n : ℕ). (5 * n + 5 ≤ length (ws ns)) × (word (ws ns) n 0 < 11)) z (h 0 (omega arith)) in
+      let a : (5 * k + 5 ≤ length (ws ns)) × (nodeWord (ws ns) k 0 < 11) = subst (λ (n : ℕ). (5 * n + 5 ≤ length (ws ns)) × (nodeWord (ws ns) n 0 < 11)) z (h 0 (omega arith)) in
       no-stmt (a .0) (a .1) (skip m (k + 1)
-      (λ j l. let x : k + suc j ≡ k + 1 + j = omega arith in subst (λ (n : ℕ). (5 * n + 5 ≤ length (ws ns)) × (word (ws ns) n 0 < 11)) x (h (suc j) (omega arith)))
+      (λ j l. let x : k + suc j ≡ k + 1 + j = omega arith in subst (λ (n : ℕ). (5 * n + 5 ≤ length (ws ns)) × (nodeWord (ws ns) n 0 < 11)) x (h (suc j) (omega arith)))
       (subst (λ (n : ℕ). StmtsAt (ws ns) n ss) y r))
 
   -- the rows of a part whose nodes are no statements
@@ -194,7 +195,7 @@ module _ (ns : List Node) where
   skip-part xs k {n} {ss} p a e r =
       skip (length xs) k (λ j l.
       let q = p .holds j l in
-      let w : word (ws ns) (k + j) 0 ≡ getD ns (k + j) nowhere .kind = row-word ns (k + j) 0 (q .0) (omega arith) in
+      let w : nodeWord (ws ns) (k + j) 0 ≡ getD ns (k + j) nowhere .kind = row-word ns (k + j) 0 (q .0) (omega arith) in
       (row-in ns (k + j) (q .0), omega (arith, w, ap (λ (m : Node). m .kind) (q .1), a .each j l)))
       (subst (λ (m : ℕ). StmtsAt (ws ns) (k + m) ss) e r)
 

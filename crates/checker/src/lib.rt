@@ -10,18 +10,19 @@ ghost use Rattle.language.specs.Tokens.{tokens, contents};
 ghost use Rattle.language.specs.Numbers.{verdict, placed, tokenPlace, sooner, firstCall, parsedNodes, checked};
 ghost use Rattle.language.specs.Sentences.{Node, nodeRow, program};
 ghost use Rattle.language.specs.Judgements.{Diag, Held, judged};
-ghost use Rattle.judging.specs.Judging.{Lexed};
-ghost use Rattle.statements.specs.Checking.{noCounts, Grows};
+ghost use Rattle.language.specs.Tables.{tokenWidth};
+ghost use Rattle.rows.specs.Tokens.{TokenTable};
+ghost use Rattle.findings.specs.Findings.{Adds};
+ghost use Rattle.statements.specs.Checking.{noCounts, unnamed};
 ghost use Rattle.rows.specs.Rows.{verdictAs};
 ghost use Rattle.checker.specs.Entry.{refusal, callAs, GivesUp, Parses, CheckSource};
-use judging::Counts;
+use findings::Counts;
 use rows::NodeKind;
 use rows::NodeRow;
 use rows::StatementRow;
 use rows::TokenRow;
 use rows::Verdict;
-use statements::Checker;
-use statements::Turn;
+use statements::Outcome;
 
 pub struct CheckAnswer {
     pub verdict: Verdict,
@@ -115,8 +116,8 @@ fn give_up(
 
 // A refusal at the token with an index, of `count`.
 fn at_token(toks: &[u64], count: usize, number: u64, t: u64) -> Verdict
-    requires { ⌜ (1 ≤ count) × (7 * count ≤ length (now toks)) ⌝ }
-    ensures { λ r. ⌜ ((s : List ℕ) → Lexed s (take (7 * count) (now (toks .entry))) → r ≡ verdictAs (placed number (tokenPlace s t))) ⌝ }
+    requires { ⌜ (1 ≤ count) × (tokenWidth * count ≤ length (now toks)) ⌝ }
+    ensures { λ r. ⌜ ((s : List ℕ) → TokenTable s (take (tokenWidth * count) (now (toks .entry))) → r ≡ verdictAs (placed number (tokenPlace s t))) ⌝ }
 {
     let rows = TokenRow::WORDS * count;
     let tok = rows::token_at(&toks[..rows], t);
@@ -135,7 +136,7 @@ fn conclude(
 ) -> CheckAnswer
     ensures { λ r. ⌜ ((s : List ℕ) (ds : List Diag) (hs : List Held) → Parses s (now (toks .entry)) (now (nodes .entry)) count rows
         → firstCall (parsedNodes (program (contents (tokens s)))) ≡ none → checked s ≡ judged ds hs
-        → Grows s noCounts (padTo (length (now (diags .entry))) []) (padTo (length (now (stmts .entry))) []) counts (now (diags .entry)) (now (stmts .entry)) ds hs
+        → Adds s noCounts (padTo (length (now (diags .entry))) []) (padTo (length (now (stmts .entry))) []) (unnamed counts) (now (diags .entry)) (now (stmts .entry)) ds hs
         → CheckSource s (length (now (toks .entry))) (length (now (nodes .entry))) (length (now (diags .entry))) (length (now (stmts .entry)))
         r (now (toks .exit)) (now (nodes .exit)) (now (diags .exit)) (now (stmts .exit))) ⌝ }
 {
@@ -180,9 +181,9 @@ fn check_statements(
         diags,
         stmts,
     ) {
-        Turn::Went(counts) => conclude(counts, count, rows, toks, nodes, diags, stmts),
-        Turn::Full(t) => {
-            let found = at_token(toks, count, Verdict::NAMES, t);
+        Outcome::Judged(counts) => conclude(counts, count, rows, toks, nodes, diags, stmts),
+        Outcome::Refused(number, t) => {
+            let found = at_token(toks, count, number, t);
             give_up(found, toks, nodes, diags, stmts)
         }
     }

@@ -1,8 +1,9 @@
 -- The rows of the table are the entries: one test over the whole table.
 use Prim.Native.Nat.{ℕ, zero, suc, _+_, _-_, _*_, _≤_, _<_}
 use native.Mathlib.Omega.{arith}
+use native.Mathlib.Decide.{decLt}
 use mathlib.Core.Path.{_≡_, refl, _∙_, sym, subst, ap}
-use mathlib.Core.Bool.{Bool, true, false, _&&_}
+use mathlib.Core.Bool.{Bool, true, false, not, _&&_, _||_, false≢true}
 use mathlib.Core.List.{List}
 use mathlib.Core.Option.{Option, none, some}
 use borrow.Author.Tests.{eqb-true, ltb-true, ltb-false, lt-ltb, le-ltb}
@@ -12,8 +13,8 @@ use lib.Seq.{drop-cons}
 use Rattle.language.specs.Choice.{if′}
 use Rattle.language.specs.Lexemes.{same}
 use Rattle.language.specs.Values.{Entry, entry, entries, entryAt, entryName, tableText, lookupFrom}
-use Rattle.language.proofs.SpellingRuns.{upTo, up-to}
-use Rattle.constants.specs.Constants.{tableRows, kindOf, lowOf, highOf, orZero, entryWord, isHit}
+use Rattle.language.proofs.SpellingRuns.{upTo, up-to, implied}
+use Rattle.constants.specs.Constants.{tableRows, kindOf, lowOf, highOf, orZero, entryWord, isHit, isModule, isFunctionEntry, hasSpan, functionFrom, functionNamed}
 
 abbrev nameless : Entry
 nameless = entry 0 0 0 none
@@ -126,3 +127,70 @@ word-at rows (suc k) j n h =
     let l : k < 9 = omega (arith, h) in
     let e : (suc k - 1) * 6 + j ≡ 6 * k + j = omega arith in
     rw (lt-ltb k 9 l, e)
+
+-- ---- what an entry is
+
+module _ {rows : List ℕ} (e : rows ≡ tableRows) (k : ℕ) where
+  word-is : (j n : ℕ) → entryWord tableRows k j ≡ n → {r : ℕ} → r ≡ entryWord rows k j → r ≡ n
+  word-is j n w p = p ∙ ap (λ (t : List ℕ). entryWord t k j) e ∙ w
+
+  pub module-is : {a b c : ℕ} → a ≡ entryWord rows k 1 → b ≡ entryWord rows k 2 → c ≡ entryWord rows k 3 → ltb a b && eqb c 0 ≡ isModule k
+  unfolding isModule
+  module-is p q r = rw (word-is 1 _ (words k .start) p, word-is 2 _ (words k .end) q, word-is 3 _ (words k .kind) r)
+
+  pub function-is : {a b : ℕ} → a ≡ entryWord rows k 3 → b ≡ entryWord rows k 4 → eqb a 14 && eqb b k ≡ isFunctionEntry k
+  unfolding isFunctionEntry
+  function-is p q = rw (word-is 3 _ (words k .kind) p, word-is 4 _ (words k .low) q)
+
+  pub span-is : (start end : ℕ) {a b : ℕ} → a ≡ entryWord rows k 1 → b ≡ entryWord rows k 2 → eqb a start && eqb b end ≡ hasSpan k start end
+  unfolding hasSpan
+  span-is start end p q = rw (word-is 1 _ (words k .start) p, word-is 2 _ (words k .end) q)
+
+-- ---- the search of a function: from the entry numbered k on
+
+module _ (start end : ℕ) where
+  function-step : (k : ℕ) → k ≤ 9
+      → functionFrom (10 - k) k start end ≡ if′ (isFunctionEntry k && hasSpan k start end) k (functionFrom (10 - (k + 1)) (k + 1) start end)
+  unfolding functionFrom
+  function-step k h =
+      let a : 10 - k ≡ suc (9 - k) = omega arith in
+      let b : 9 - k ≡ 10 - (k + 1) = omega arith in
+      let c : suc k ≡ k + 1 = omega arith in
+      rw (a, b, c)
+
+  module _ {a b : Bool} (k : ℕ) (h : k ≤ 9) (p : a ≡ isFunctionEntry k) (q : b ≡ hasSpan k start end) where
+    pub function-found : a && b ≡ true → k ≡ functionFrom (10 - k) k start end
+    function-found e = rw (function-step k h, sym p, sym q, e)
+
+    pub function-missed : a && b ≡ false → functionFrom (10 - (k + 1)) (k + 1) start end ≡ functionFrom (10 - k) k start end
+    function-missed e = rw (function-step k h, sym p, sym q, e)
+
+  pub function-ended : (k : ℕ) → 9 < k → 0 ≡ functionFrom (10 - k) k start end
+  unfolding functionFrom
+  function-ended k h = let a : 10 - k ≡ 0 = omega arith in rw a
+
+  pub function-start : functionFrom (10 - 1) 1 start end ≡ functionNamed start end
+  unfolding functionNamed
+  function-start = refl
+
+-- ---- no two functions have one name
+
+ownName : ℕ → Bool
+ownName k = not (isFunctionEntry k) || eqb (functionNamed (entryAt k .start) (entryAt k .end)) k
+
+past-table : (k : ℕ) → 9 < k → isFunctionEntry k ≡ false
+unfolding isFunctionEntry
+past-table zero h = absurd (omega arith)
+past-table (suc k) h = rw (past-entry k (omega arith))
+
+own-names : upTo ownName 10 ≡ true
+unfolding ownName isFunctionEntry functionNamed functionFrom hasSpan entries
+own-names = refl
+
+pub function-own : (k : ℕ) → isFunctionEntry k ≡ true → functionNamed (entryAt k .start) (entryAt k .end) ≡ k
+unfolding ownName
+function-own k e =
+    elim (decLt k 10) [
+      | yes lt ↦ eqb-true _ k (implied (isFunctionEntry k) _ e (up-to ownName 10 own-names k lt))
+      | no ge ↦ absurd (false≢true (sym (past-table k (omega arith)) ∙ e))
+    ]

@@ -10,7 +10,7 @@ use Rattle.table.specs.Table.{flat}
 use Rattle.language.specs.Choice.{if′}
 use Rattle.language.specs.Lexemes.{same}
 use Rattle.language.specs.Tokens.{between}
-use Rattle.language.specs.Values.{Value, Entry, entries}
+use Rattle.language.specs.Values.{Value, Entry, entries, entryAt}
 use Rattle.language.specs.Findings.{valueKind, valueLow, valueHigh}
 
 -- a module's words are 0
@@ -62,3 +62,25 @@ textOf false source text a e = between source a e
 -- of `name_text`: the part r of the table's text or of the source
 abbrev pub NameText : Bool → List ℕ → List ℕ → ℕ → ℕ → List ℕ → Type 0
 NameText fromTable source text a e r = r ≡ textOf fromTable source text a e
+
+-- ---- what an entry is
+
+-- a module has a name and no value
+unfoldable pub isModule : ℕ → Bool
+isModule k = ltb (entryAt k .start) (entryAt k .end) && eqb (kindOf (entryAt k .value)) 0
+
+-- a function is its own value
+unfoldable pub isFunctionEntry : ℕ → Bool
+isFunctionEntry k = eqb (kindOf (entryAt k .value)) 14 && eqb (lowOf (entryAt k .value)) k
+
+-- whether the entry's name is this part of the table's text
+unfoldable pub hasSpan : ℕ → ℕ → ℕ → Bool
+hasSpan k start end = eqb (entryAt k .start) start && eqb (entryAt k .end) end
+
+-- the first function of n entries from the one numbered k on whose name is this part, or 0
+unfoldable pub functionFrom : ℕ → ℕ → ℕ → ℕ → ℕ
+functionFrom zero k start end = 0
+functionFrom (suc n) k start end = if′ (isFunctionEntry k && hasSpan k start end) k (functionFrom n (suc k) start end)
+
+unfoldable pub functionNamed : ℕ → ℕ → ℕ
+functionNamed start end = functionFrom 9 1 start end

@@ -6,7 +6,7 @@
 ghost use mathlib.Core.Path.{_≡_};
 ghost use Prim.Native.Nat.{_+_, _*_, _<_, _≤_};
 ghost use Rattle.language.specs.Values.{tableText, lookup};
-ghost use Rattle.constants.specs.Constants.{entryWidth, entryCount, tableRows, orZero, isHit, entryWord, NameText};
+ghost use Rattle.constants.specs.Constants.{entryWidth, entryCount, tableRows, orZero, isHit, entryWord, NameText, isModule, isFunctionEntry, hasSpan, functionNamed};
 use rows::Ty;
 
 pub struct Constants {
@@ -111,6 +111,52 @@ pub fn lookup(
             return i as u64 + 1;
         }
         i += 1;
+    }
+    0
+}
+
+// Whether an entry is a module: it has a name and no value.
+pub fn is_module(rows: &[u64; Constants::WORDS], k: u64) -> bool
+    requires { ⌜ now rows ≡ tableRows ⌝ }
+    ensures { λ r. ⌜ r ≡ isModule k ⌝ }
+{
+    let start = entry_word(rows, k, Constants::NAME_START);
+    let end = entry_word(rows, k, Constants::NAME_END);
+    let kind = entry_word(rows, k, Constants::KIND);
+    (start < end) & (kind == Ty::NONE)
+}
+
+// Whether an entry is a function, which is its own value.
+pub fn is_function(rows: &[u64; Constants::WORDS], k: u64) -> bool
+    requires { ⌜ now rows ≡ tableRows ⌝ }
+    ensures { λ r. ⌜ r ≡ isFunctionEntry k ⌝ }
+{
+    let kind = entry_word(rows, k, Constants::KIND);
+    let own = entry_word(rows, k, Constants::LOW);
+    (kind == Ty::FUNCTION) & (own == k)
+}
+
+// Whether an entry's name has this span in the table's text.
+fn has_span(rows: &[u64; Constants::WORDS], k: u64, start: u64, end: u64) -> bool
+    requires { ⌜ now rows ≡ tableRows ⌝ }
+    ensures { λ r. ⌜ r ≡ hasSpan k start end ⌝ }
+{
+    let a = entry_word(rows, k, Constants::NAME_START);
+    let e = entry_word(rows, k, Constants::NAME_END);
+    (a == start) & (e == end)
+}
+
+// The number of the function whose name has this span, or 0.
+pub fn function_named(rows: &[u64; Constants::WORDS], start: u64, end: u64) -> u64
+    requires { ⌜ now rows ≡ tableRows ⌝ }
+    ensures { λ r. ⌜ r ≡ functionNamed start end ⌝ }
+{
+    let mut k: u64 = 1;
+    while k <= Constants::LAST {
+        if is_function(rows, k) & has_span(rows, k, start, end) {
+            return k;
+        }
+        k += 1;
     }
     0
 }

@@ -20,7 +20,7 @@ use Rattle.language.proofs.JudgementClaims.{all-counted, errors-append}
 use Rattle.findings.specs.declared.What.{What}
 use Rattle.findings.specs.declared.Diagnostic.{Diagnostic}
 use Rattle.findings.specs.declared.Counts.{Counts}
-use Rattle.findings.specs.Findings.{kindNumber, severityNumber, showsName, whatAs, atToken, diagnosticAs, diagnosticRow, putRows, plusFinding, added, Reports, Adds}
+use Rattle.findings.specs.Findings.{kindNumber, severityNumber, showsName, whatAs, placed, atToken, diagnosticAs, diagnosticRow, plusFinding, added, Reports, Adds}
 use Rattle.findings.proofs.Rows.{no-rows, one-row, more-rows}
 use Rattle.findings.proofs.Texts.{diagnostic-row}
 
@@ -89,7 +89,7 @@ plus-is s c n at w = plus-by c (whatAs (tokenOf s) w) (isError w) (severity-is (
 -- ---- what is added
 
 what-at : (tok : Token) (w : What) → atToken tok w .what ≡ w
-unfolding atToken
+unfolding placed
 what-at tok w = each-side (λ (d : Diagnostic). d .what ≡ w) (showsName (kindNumber w)) refl refl
 
 module _ (c : Counts) (ds : List Diag) (hs : List Held) where

@@ -14,7 +14,6 @@ use Rattle.language.specs.Findings.{tyText, tyEntry, diagRow}
 use Rattle.language.specs.Numbers.{tokenOf}
 use Rattle.rows.specs.declared.layout.DiagnosticRow.{DiagnosticRow}
 use Rattle.rows.specs.declared.token.Token.{Token}
-use Rattle.rows.specs.declared.types.Text.{Text}
 use Rattle.rows.specs.declared.types.Type.{«Type»}
 use Rattle.rows.specs.Tokens.{tokenAs}
 use Rattle.rows.proofs.Plain.{strange}
@@ -23,7 +22,7 @@ use Rattle.constants.proofs.Entries.{words}
 use Rattle.findings.specs.declared.What.{What}
 use Rattle.findings.specs.declared.What.the-variants as what-is
 use Rattle.findings.specs.declared.Diagnostic.{Diagnostic}
-use Rattle.findings.specs.Findings.{kindNumber, severityNumber, showsName, typeAs, whatAs, atToken, diagnosticAs, typeText, namedRow, rowBy, rowOf, diagnosticRow}
+use Rattle.findings.specs.Findings.{kindNumber, severityNumber, showsName, typeAs, whatAs, placed, atToken, diagnosticAs, typeText, namedRow, rowBy, rowOf, diagnosticRow}
 use Rattle.findings.proofs.What as what
 
 -- ---- a type's text
@@ -84,13 +83,13 @@ type-shown tyBytes = refl
 type-shown (tyFunction k) = refl
 type-shown tyInteger = refl
 
-module _ (tok : Token) (w : What) {k : ℕ} {b : Bool} (p : k ≡ kindNumber w) (q : b ≡ showsName k) where
-  pub named-at : b ≡ true → record { line = tok .line; column = tok .column; start = tok .start; end = tok .end; what = w } ≡ atToken tok w
-  unfolding atToken
+module _ (line column start end : ℕ) (w : What) {k : ℕ} {b : Bool} (p : k ≡ kindNumber w) (q : b ≡ showsName k) where
+  pub named-at : b ≡ true → record { line = line; column = column; start = start; end = end; what = w } ≡ placed line column start end w
+  unfolding placed
   named-at h = let e : showsName (kindNumber w) ≡ true = sym (q ∙ ap showsName p) ∙ h in rw e
 
-  pub bare-at : b ≡ false → record { line = tok .line; column = tok .column; start = 0; end = 0; what = w } ≡ atToken tok w
-  unfolding atToken
+  pub bare-at : b ≡ false → record { line = line; column = column; start = 0; end = 0; what = w } ≡ placed line column start end w
+  unfolding placed
   bare-at h = let e : showsName (kindNumber w) ≡ false = sym (q ∙ ap showsName p) ∙ h in rw e
 
 pub at-token : (s : List ℕ) (at : ℕ) (w : judgements.What) {tok : Token} {what : What} → tok ≡ tokenAs (tokenOf s at) → what ≡ whatAs (tokenOf s) w
@@ -98,7 +97,7 @@ pub at-token : (s : List ℕ) (at : ℕ) (w : judgements.What) {tok : Token} {wh
 at-token s at w p q = rw (p, q)
 
 pub diagnostic-row : (s : List ℕ) (n at : ℕ) (w : judgements.What) → diagnosticRow (diagnosticAs s at w) ≡ diagRow (tokenOf s) (diag n at w)
-unfolding rowOf atToken showsName severityNumber diagRow
+unfolding rowOf placed showsName severityNumber diagRow
 diagnostic-row s n at unknownName = refl
 diagnostic-row s n at (unknownItem m) = refl
 diagnostic-row s n at unknownModule = refl

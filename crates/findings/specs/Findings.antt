@@ -2,7 +2,7 @@
 -- table.
 use Prim.Native.Nat.{ℕ, _+_}
 use mathlib.Core.Path.{_≡_}
-use mathlib.Core.Bool.{Bool, true, false, not, _||_}
+use mathlib.Core.Bool.{Bool, not, _||_}
 use mathlib.Core.List.{List, [], _∷_}
 use lib.Dec.{eqb}
 use lib.ListN.{length}
@@ -81,11 +81,14 @@ whatAs tokenAt judgements.multipleImports = what-is.MultipleImports
 whatAs tokenAt (judgements.discardedValue ty) = what-is.DiscardedValue (typeAs ty)
 whatAs tokenAt (judgements.truncated n ty) = what-is.Truncated (wideOf n) (typeAs ty)
 
--- what was found at a token, with the token's span where the kind shows its name
-unfoldable pub atToken : Token → What → Diagnostic
-atToken tok w =
-    if′ (showsName (kindNumber w)) (record { line = tok .line; column = tok .column; start = tok .start; end = tok .end; what = w })
-    (record { line = tok .line; column = tok .column; start = 0; end = 0; what = w })
+-- what was found at a place, with the span of the name where the kind shows one
+unfoldable pub placed : ℕ → ℕ → ℕ → ℕ → What → Diagnostic
+placed line column start end w =
+    if′ (showsName (kindNumber w)) (record { line = line; column = column; start = start; end = end; what = w })
+    (record { line = line; column = column; start = 0; end = 0; what = w })
+
+abbrev pub atToken : Token → What → Diagnostic
+atToken tok w = placed (tok .line) (tok .column) (tok .start) (tok .end) w
 
 -- of a source, at the token with that index
 abbrev pub diagnosticAs : List ℕ → ℕ → judgements.What → Diagnostic

@@ -2,7 +2,10 @@
 // place that counts a finding and stores its row.
 ghost use mathlib.Core.Path.{_≡_};
 ghost use Prim.Native.Nat.{_+_, _<_};
-ghost use Rattle.findings.specs.Findings.{sideNumber, kindNumber, severityNumber, showsName, atToken, typeText, namedRow, typedRow, bareRow, rowOf, shownRow, plusFinding, Reports};
+ghost use Rattle.findings.specs.Findings.{sideNumber, kindNumber, severityNumber, showsName, placed, atToken, typeText, namedRow, typedRow, bareRow, rowOf, shownRow, plusFinding, Reports};
+
+pub mod reading;
+
 use constants::Constants;
 use rows::DiagnosticRow;
 use rows::Text;
@@ -18,12 +21,16 @@ pub enum Side {
 }
 
 impl Side {
+    pub const LEFT: u64 = 1;
+
+    pub const RIGHT: u64 = 2;
+
     pub fn number(self) -> u64
         ensures { λ r. ⌜ r ≡ sideNumber self ⌝ }
     {
         match self {
-            Side::Left => 1,
-            Side::Right => 2,
+            Side::Left => Side::LEFT,
+            Side::Right => Side::RIGHT,
         }
     }
 }
@@ -121,23 +128,14 @@ impl Diagnostic {
     pub fn at(tok: Token, what: What) -> Diagnostic
         ensures { λ r. ⌜ r ≡ atToken tok what ⌝ }
     {
-        if shows_name(what.kind()) {
-            return Diagnostic {
-                line: tok.line,
-                column: tok.column,
-                start: tok.start,
-                end: tok.end,
-                what,
-            };
-        }
-        Diagnostic {
-            line: tok.line,
-            column: tok.column,
-            start: 0,
-            end: 0,
-            what,
-        }
+        placed(tok.line, tok.column, tok.start, tok.end, what)
     }
+}
+
+// What a row was, or that no finding has such a row.
+pub enum Read {
+    Is(Diagnostic),
+    Nothing,
 }
 
 // How many names are bound and imported, how many errors and warnings there are, and how many statements are held.
@@ -170,6 +168,28 @@ fn shows_name(kind: u64) -> bool
         | (kind == What::OPERAND_TYPE)
         | (kind == What::DISCARDED_VALUE);
     !(typed | (kind == What::TRUNCATED) | (kind == What::INTEGRAL_TOO_LARGE))
+}
+
+// A finding at a place, with the span of its name where its kind shows one.
+fn placed(line: u64, column: u64, start: u64, end: u64, what: What) -> Diagnostic
+    ensures { λ r. ⌜ r ≡ placed line column start end what ⌝ }
+{
+    if shows_name(what.kind()) {
+        return Diagnostic {
+            line,
+            column,
+            start,
+            end,
+            what,
+        };
+    }
+    Diagnostic {
+        line,
+        column,
+        start: 0,
+        end: 0,
+        what,
+    }
 }
 
 // ---- rows

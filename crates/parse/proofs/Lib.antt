@@ -1,5 +1,6 @@
 -- The laws that the proofs of the functions cite.
 pub mod Nodes
+pub mod Few
 pub mod Answers
 pub mod Looks
 pub mod Steps

@@ -2,6 +2,5 @@
 pub mod Entry
 pub mod Bodies
 pub mod Spans
-pub mod Few
 pub mod Found
 pub mod Rooms

@@ -25,7 +25,7 @@ use Rattle.language.proofs.LexemeSpans.{spans-join}
 use Rattle.language.proofs.Done.{lex-done, lex-done-only}
 use Rattle.parse.proofs.TokenRows.{few-tokens}
 use Rattle.terkinoha.specs.Rooms.{ScanRoom, LexRoom, ParseRoom, CanonRoom, CheckRoom, ScanEnough, LexEnough, ParseEnough, CanonEnough, CheckEnough}
-use Rattle.terkinoha.proofs.Few.{nodes-few}
+use Rattle.parse.proofs.Few.{nodes-few}
 use Rattle.language.proofs.SentenceRefusals.{refused-number}
 use Rattle.terkinoha.proofs.Found.{found-few}
 

@@ -2,7 +2,7 @@ use mathlib.Core.Path.{sym}
 use native.Mathlib.Omega.{arith}
 use lib.Seq.{length-take-le}
 use Rattle.checker.proofs.Parsed.{token-words, node-words, lexed-part, rows-fit}
-use Rattle.checker.proofs.Entry.{concluded, refused-name}
+use Rattle.checker.proofs.Entry.{concluded, refused-stmt}
 use borrow.Author.Needs.{needs}
 use Rattle.checker.proofs.check_statements.Statement.{statement}
 use Rattle.checker.proofs.check_statements.Tie as tie
@@ -28,7 +28,7 @@ slice-aggregate-run-2 c = sym (length-take-le _ _ (node-words (c .before .before
 run-requires : tie.Need-run-requires
 run-requires c κs =
     let start = c .before .before .before .before .before .before .before .before .before in
-    (lexed-part (start .pre .0), rows-fit (start .pre .0) (omega arith))
+    (lexed-part (start .pre .0), rows-fit (start .pre .0))
 
 at-token-requires : tie.Need-at-token-requires
 at-token-requires c κs = token-words (c .before .before .before .before .before .before .before .before .before .before .before .before .before .before .before .before .before .before .pre .0)
@@ -52,7 +52,7 @@ returns-2 c quiet =
     let found = held .before .before in
     let ran = found .before in
     let start = ran .before .before .before .before .before .before .before .before .before .before in
-    refused-name (start .pre .0) quiet (found .diags .given) (held .stmts .given) (ran .run .ensures) (arm .t .given .1) (placed .at-token .ensures) (end .give-up .ensures)
+    refused-stmt (start .pre .0) quiet (found .diags .given) (held .stmts .given) (ran .run .ensures) (arm .number .given .1) (placed .at-token .ensures) (end .give-up .ensures)
 
 pub check-statements-spec : {M : Type 1} → statement M
 check-statements-spec =
