@@ -70,3 +70,4 @@ pub mod JudgementClaims
 pub mod FindingTokens
 pub mod CheckClaims
 pub mod ShownNames
+pub mod Left

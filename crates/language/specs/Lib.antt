@@ -23,4 +23,5 @@ pub mod Names
 pub mod Checks
 pub mod Determined
 pub mod Exactly
+pub mod Left
 pub mod Samples
