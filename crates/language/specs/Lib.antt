@@ -24,4 +24,6 @@ pub mod Checks
 pub mod Determined
 pub mod Exactly
 pub mod Left
+pub mod Told
 pub mod Samples
+pub mod Worked
