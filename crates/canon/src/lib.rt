@@ -20,6 +20,7 @@ use scan::Step;
 use scan::Verdict;
 use wide::Wide;
 
+#[repr(C)]
 pub struct Canonised {
     pub verdict: Verdict,
     pub tokens: u64,
@@ -285,7 +286,7 @@ pub fn canonicalise(source: &[u8], toks: &mut [u64], text: &mut [u8]) -> Canonis
     if 0 < verdict.number {
         return refused(verdict);
     }
-    let size = all_text(source, toks, lexed.count as usize, text);
+    let size = all_text(source, toks, lexed.tokens as usize, text);
     if room < size {
         return too_long(toks, text);
     }
@@ -294,7 +295,7 @@ pub fn canonicalise(source: &[u8], toks: &mut [u64], text: &mut [u8]) -> Canonis
     }
     Canonised {
         verdict: verdict,
-        tokens: lexed.count,
+        tokens: lexed.tokens,
         bytes: size as u64,
     }
 }

@@ -22,6 +22,7 @@ use scan::Verdict;
 use statements::Checker;
 use statements::Turn;
 
+#[repr(C)]
 pub struct CheckAnswer {
     pub verdict: Verdict,
     pub tokens: u64,

@@ -17,9 +17,9 @@ use Rattle.checker.specs.Entry.{CheckSource}
 -- of the five calls
 pub record CallsLeave : Type 0 where
   pub scan : (line : List ℕ) (n : ℕ) (r : Scanned) (left : List ℕ) → ScanLine line n r left
-      → ScanLeaves line n (r .verdict .number) (r .count) left
+      → ScanLeaves line n (r .verdict .number) (r .lexemes) left
   pub lex : (source : List ℕ) (n : ℕ) (r : Lexed) (left : List ℕ) → LexSource source n r left
-      → LexLeaves source n (r .verdict .number) (r .count) left
+      → LexLeaves source n (r .verdict .number) (r .tokens) left
   pub parse : (source : List ℕ) (t n : ℕ) (r : ParseAnswer) (toks left : List ℕ) → ParseSource source t n r toks left
       → ParseLeaves source t n (r .verdict .number) (r .tokens) (r .nodes) toks left
   pub canon : (source : List ℕ) (t n : ℕ) (r : Canonised) (toks left : List ℕ) → CanonSource source t n r toks left

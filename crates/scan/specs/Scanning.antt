@@ -55,4 +55,4 @@ abbrev pub verdictAs : numbers.Verdict → Verdict
 verdictAs v = record { number = v .number; kind = v .kind; line = v .line; column = v .column; character = v .character }
 
 abbrev pub scannedAs : numbers.Scanned → Scanned
-scannedAs a = record { verdict = verdictAs (a .verdict); count = a .count }
+scannedAs a = record { verdict = verdictAs (a .verdict); lexemes = a .count }
