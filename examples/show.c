@@ -5,7 +5,7 @@
  * check: what is wrong with the script, and how many errors and warnings that are. tokens: a token to a line, with its
  * place. tree: a statement to a line, operator first. text: the canonical text.
  * A finding or a refusal is printed as FILE:LINE:COLUMN: error: TEXT, with the script's line and a caret below it.
- * Exit status: 0 shown, with no errors; 1 refused, or errors found; 2 no script to read.
+ * Exit status: 0 shown, with no errors; 1 refused, or errors found; 2 not read, or not all of it written.
  */
 #define _POSIX_C_SOURCE 200112L /* fileno, isatty */
 #include "terkinoha.h"
@@ -38,6 +38,19 @@ static void *lend(size_t rows, size_t row_size)
     return area;
 }
 
+/* Reads until the room is full or the file ends, and again where a signal interrupts it. Where reading fails otherwise, the
+ * file's error is set: a part of a script is not to be taken for the whole.
+ */
+static size_t read_all(FILE *file, unsigned char *bytes, size_t room)
+{
+    size_t size = fread(bytes, 1, room, file);
+    while (ferror(file) && errno == EINTR) {
+        clearerr(file);
+        size += fread(bytes + size, 1, room - size, file);
+    }
+    return size;
+}
+
 /* Reads a script, or as much of it as shows that it is too long: the library then says so. */
 static struct script read_script(const char *name)
 {
@@ -46,9 +59,9 @@ static struct script read_script(const char *name)
     FILE *file = strcmp(name, "-") == 0 ? stdin : fopen(name, "rb");
     if (file == NULL)
         fail(name, strerror(errno));
-    script.size = fread(script.bytes, 1, most, file);
+    script.size = read_all(file, script.bytes, most);
     if (ferror(file))
-        fail(name, "cannot be read");
+        fail(name, strerror(errno));
     if (file != stdin)
         fclose(file);
     return script;
@@ -360,24 +373,7 @@ struct tree {
     const struct script *script;
     const terkinoha_token *tokens;
     const terkinoha_node *nodes;
-    uint64_t *after; /* for an argument: the row of the one after it plus 1, or 0 */
 };
-
-static int is_argument(const terkinoha_node *node)
-{
-    return node->kind == TERKINOHA_NODE_ARGUMENT || node->kind == TERKINOHA_NODE_NAMED_ARGUMENT;
-}
-
-/* An argument's row names the one before it. Printing wants the one after it. */
-static uint64_t *turn_round(const terkinoha_node *nodes, uint64_t count)
-{
-    uint64_t *after = (uint64_t *)lend(count, sizeof *after);
-    memset(after, 0, count * sizeof *after);
-    for (uint64_t row = 0; row < count; row++)
-        if (is_argument(&nodes[row]) && nodes[row].second != 0)
-            after[nodes[row].second - 1] = row + 1;
-    return after;
-}
 
 static void put_named(const struct tree *tree, uint64_t token)
 {
@@ -400,11 +396,8 @@ static void put_call(const struct tree *tree, const terkinoha_node *call)
 {
     printf("(call ");
     put_node(tree, call->first);
-    uint64_t argument = call->second; /* the last one; walk back to the first */
-    while (argument != 0 && tree->nodes[argument - 1].second != 0)
-        argument = tree->nodes[argument - 1].second;
-    for (; argument != 0; argument = tree->after[argument - 1])
-        put_argument(tree, &tree->nodes[argument - 1]);
+    for (uint64_t next = call->second; next != 0; next = tree->nodes[next - 1].second)
+        put_argument(tree, &tree->nodes[next - 1]);
     putchar(')');
 }
 
@@ -486,11 +479,10 @@ static int show_tree(const struct script *script, size_t room)
     int status = 0;
     if (parsed.verdict.number != TERKINOHA_DONE) {
         status = report(script, parsed.verdict);
-    } else if (parsed.nodes != 0) {
-        struct tree tree = {script, tokens, nodes, turn_round(nodes, parsed.nodes)};
+    } else {
+        struct tree tree = {script, tokens, nodes};
         for (uint64_t row = 0; row < parsed.nodes; row++)
             put_statement(&tree, &nodes[row]);
-        free(tree.after);
     }
     free(nodes);
     free(tokens);
@@ -541,6 +533,15 @@ static int show(const char *mode, const struct script *script)
     return status;
 }
 
+/* Everything that was put to a stream is written, or the program ends here: what is missing is not to be taken for nothing. */
+static void finish(FILE *out, const char *name)
+{
+    if (fflush(out) != 0)
+        fail(name, strerror(errno));
+    if (ferror(out))
+        fail(name, "not all of it was written");
+}
+
 int main(int argc, char **argv)
 {
     static const char *const modes[] = {"check", "tokens", "tree", "text"};
@@ -556,7 +557,9 @@ int main(int argc, char **argv)
     struct script script = read_script(argv[2]);
     int status = show(mode, &script);
     free(script.bytes);
-    if (fflush(stdout) != 0)
+    finish(stderr, "standard error");
+    finish(stdout, "standard output");
+    if (fclose(stdout) != 0)
         fail("standard output", strerror(errno));
     return status;
 }

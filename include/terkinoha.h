@@ -245,11 +245,11 @@ enum terkinoha_node_kind {
     TERKINOHA_NODE_MEMBER = 6,
     /* `/`. token: its first. first: the left operand's row. second: the right operand's row */
     TERKINOHA_NODE_SLASH = 7,
-    /* a call. token: its first. first: the callee's row. second: the last argument's row plus 1,
+    /* a call. token: its first. first: the callee's row. second: the first argument's row plus 1,
      * or 0 for none. third: the token of `(` */
     TERKINOHA_NODE_CALL = 8,
-    /* an argument. token: its value's first. first: its value's row. second: the row of the
-     * argument before it plus 1, or 0 for none */
+    /* an argument. token: its value's first. first: its value's row. second: the next argument's
+     * row plus 1, or 0 for none; it stands after this one and before the call */
     TERKINOHA_NODE_ARGUMENT = 9,
     /* `name: value`. token: the name. first, second: as for 9 */
     TERKINOHA_NODE_NAMED_ARGUMENT = 10,

@@ -337,7 +337,9 @@ fn script(words: &[String]) -> Option<()> {
     };
     let kind = KINDS.iter().find(|k| k.name == kind)?;
     let bytes = kind.script(size.parse::<usize>().ok()? * 1024);
-    std::io::stdout().write_all(&bytes).ok()
+    let mut output = std::io::stdout();
+    output.write_all(&bytes).and_then(|()| output.flush()).expect("standard output takes the script");
+    Some(())
 }
 
 fn main() {

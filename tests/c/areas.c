@@ -79,5 +79,5 @@ int main(void)
     for (size_t i = 0; i < sizeof sizes / sizeof *sizes; i++)
         try_size(bytes, sizes[i]);
     printf("areas: a touch outside what is lent stops a test, or is seen\n");
-    return 0;
+    return lent_done();
 }

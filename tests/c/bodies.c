@@ -95,5 +95,5 @@ int main(void)
     memset(many, '"', sizeof many);
     with_source(many, sizeof many, try_many);
     printf("bodies: found, and not found where there are none\n");
-    return 0;
+    return lent_done();
 }

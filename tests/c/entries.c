@@ -166,15 +166,31 @@ static void check_tokens(struct lent lent, uint64_t count)
     CHECK(count >= 1 && rows[count - 1].start == lent.source.size && rows[count - 1].column == 1);
 }
 
-/* How many children a node takes, of those that stand before it. */
-static uint64_t children(const terkinoha_node *node)
+/* How many arguments the call in a row has. They are chained in source order, each before the next and all before the call. */
+static uint64_t arguments(const terkinoha_node *rows, uint64_t call)
 {
+    uint64_t count = 0, last = 0;
+    for (uint64_t next = rows[call].second; next != 0; next = rows[next - 1].second) {
+        CHECK(last < next && next <= call);
+        const terkinoha_node *row = &rows[next - 1];
+        CHECK(row->kind == TERKINOHA_NODE_ARGUMENT || row->kind == TERKINOHA_NODE_NAMED_ARGUMENT);
+        CHECK(last == 0 || rows[last - 1].token < row->token);
+        last = next;
+        count++;
+    }
+    return count;
+}
+
+/* How many children a node takes, of those that stand before it. */
+static uint64_t children(const terkinoha_node *rows, uint64_t at)
+{
+    const terkinoha_node *node = &rows[at];
     switch (node->kind) {
     case TERKINOHA_NODE_PATH: return node->first;
     case TERKINOHA_NODE_SLASH: return 2;
-    case TERKINOHA_NODE_CALL:
+    case TERKINOHA_NODE_CALL: return 1 + arguments(rows, at);
     case TERKINOHA_NODE_ARGUMENT:
-    case TERKINOHA_NODE_NAMED_ARGUMENT: return node->second == 0 ? 1 : 2;
+    case TERKINOHA_NODE_NAMED_ARGUMENT:
     case TERKINOHA_NODE_MEMBER:
     case TERKINOHA_NODE_LET:
     case TERKINOHA_NODE_EXPRESSION: return 1;
@@ -182,13 +198,12 @@ static uint64_t children(const terkinoha_node *node)
     }
 }
 
-/* The rows that a node names are smaller than its own. */
+/* The rows of the children that a node names are smaller than its own. */
 static int names_smaller(const terkinoha_node *node, uint64_t row)
 {
     int by_first = node->kind >= TERKINOHA_NODE_MEMBER && node->kind != TERKINOHA_NODE_IMPORT;
-    int by_second = node->kind == TERKINOHA_NODE_SLASH; /* the row itself; others have it plus 1, or 0 */
-    int plus_1 = node->kind >= TERKINOHA_NODE_CALL && node->kind <= TERKINOHA_NODE_NAMED_ARGUMENT;
-    return (!by_first || node->first < row) && (!by_second || node->second < row) && (!plus_1 || node->second <= row);
+    int by_second = node->kind == TERKINOHA_NODE_SLASH;
+    return (!by_first || node->first < row) && (!by_second || node->second < row);
 }
 
 /* Children stand before their parents, and every node but a statement has one parent. */
@@ -200,8 +215,9 @@ static void check_nodes(struct lent lent, uint64_t tokens, uint64_t count)
         int statement = rows[i].kind >= TERKINOHA_NODE_IMPORT;
         CHECK(rows[i].kind >= TERKINOHA_NODE_NAME && rows[i].kind <= TERKINOHA_NODE_EXPRESSION);
         CHECK(rows[i].token < tokens && names_smaller(&rows[i], i));
-        CHECK(children(&rows[i]) <= waiting);
-        waiting -= children(&rows[i]);
+        uint64_t taken = children(rows, i);
+        CHECK(taken <= waiting);
+        waiting -= taken;
         waiting += !statement;
         CHECK(!statement || waiting == 0);
     }
@@ -686,5 +702,5 @@ int main(int argc, char **argv)
         try_source(bytes, ascii_noise(random_below(120)));
     }
     printf("entries: %d sources of each kind, in all rooms and on both sides\n", count);
-    return 0;
+    return lent_done();
 }

@@ -19,6 +19,8 @@ void lent_start(void);
 /* What is being tried, for the line that a failed check prints. */
 void lent_trying(const char *what, const void *source, size_t size);
 void lent_failed(const char *file, int line, const char *fact);
+/* To be called last: a test's status, which is 2 where what it printed could not be written. */
+int lent_done(void);
 
 /* ---- areas ---- */
 

@@ -160,10 +160,10 @@ static void try_node_rows(void)
     static const uint64_t rows[][TERKINOHA_NODE_WORDS] = {
         {TERKINOHA_NODE_LOCAL, 0, 0, 0, 0},
         {TERKINOHA_NODE_LOCAL, 2, 0, 0, 0},
-        {TERKINOHA_NODE_ARGUMENT, 2, 1, 0, 0},
+        {TERKINOHA_NODE_ARGUMENT, 2, 1, 5, 0},
         {TERKINOHA_NODE_LITERAL, 6, 0, 0, 0},
-        {TERKINOHA_NODE_NAMED_ARGUMENT, 4, 3, 3, 0},
-        {TERKINOHA_NODE_CALL, 0, 0, 5, 1},
+        {TERKINOHA_NODE_NAMED_ARGUMENT, 4, 3, 0, 0},
+        {TERKINOHA_NODE_CALL, 0, 0, 3, 1},
         {TERKINOHA_NODE_MEMBER, 0, 5, 9, 0},
         {TERKINOHA_NODE_NAME, 13, 0, 0, 0},
         {TERKINOHA_NODE_PATH, 11, 1, 0, 0},
@@ -540,5 +540,5 @@ int main(void)
     try_all_names();
     try_texts();
     printf("samples: as written down\n");
-    return 0;
+    return lent_done();
 }

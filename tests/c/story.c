@@ -343,5 +343,5 @@ int main(int argc, char **argv)
     try_stack_of_lists();
     try_stack_of_steps();
     printf("story: each answer is that of a first call, alone and beside another thread\n");
-    return 0;
+    return lent_done();
 }

@@ -23,7 +23,7 @@ use Rattle.lex.specs.declared.Lexed.{Lexed}
 use Rattle.lex.specs.Entry.{LexSource, Lexes}
 use Rattle.lex.proofs.Left.{verdict-is, not-done, no-tokens, lexes-in, answered, counted, rows, table-size, lexes}
 use Rattle.canon.specs.declared.Canonised.{Canonised}
-use Rattle.canon.specs.Writing.{WritesText}
+use Rattle.canon.specs.Spelling.{WritesText}
 use Rattle.canon.specs.Entry.{CanonSource}
 
 -- ---- the result, and both tables

@@ -12,7 +12,7 @@ use Rattle.language.specs.Tables.{wordLimit, tokKind, tokLow, tokHigh, contentK
 use Rattle.language.specs.Canonical.{spellTok, spell, after}
 use Rattle.language.proofs.Tests.{never}
 use Rattle.language.proofs.Forms.{no-string, no-end, tok-form}
-use Rattle.canon.specs.Writing.{markOf, fixedText, kindText, gapText}
+use Rattle.canon.specs.Spelling.{markOf, fixedText, kindText, gapText}
 
 -- ---- what follows a token
 

@@ -1,7 +1,5 @@
 -- The laws that the proofs of the functions cite.
-pub mod Writing
 pub mod Spelling
-pub mod Digits
 pub mod Strings
 pub mod Contents
 pub mod Rows

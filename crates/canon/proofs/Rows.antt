@@ -13,7 +13,7 @@ use Rattle.language.specs.Numbers.{tokenOf}
 use Rattle.language.proofs.TokenClaims.{places-right, not-end, name-kind, names-held, bodies-held}
 use Rattle.language.proofs.TokensAt.{mem-at, row-width, long-tokens, before-last}
 use Rattle.lex.specs.Entry.{Lexes}
-use Rattle.canon.specs.Writing.{rowText, RowFits}
+use Rattle.canon.specs.Spelling.{rowText, RowFits}
 use Rattle.canon.proofs.Contents.{content-text}
 
 -- the tokens before the end

@@ -3,7 +3,7 @@ use Prim.Native.Nat.{ℕ}
 use mathlib.Core.Path.{_≡_}
 use mathlib.Core.List.{List, [], _∷_}
 use borrow.Author.Tests.{ne-eqb}
-use Rattle.canon.specs.Writing.{markOf, fixedText, kindText, gapText}
+use Rattle.canon.specs.Spelling.{markOf, fixedText, kindText, gapText}
 
 -- none of some keys
 abbrev pub NoneOf : List ℕ → ℕ → Type 0

@@ -20,8 +20,9 @@ use Rattle.scan.specs.Scanning.{stepAt}
 use Rattle.lexemes.proofs.LexemeKind as kind
 use Rattle.scan.proofs.Turns.{turn, at-end}
 use Rattle.lex.proofs.Bodies.{unquoted-is, none-here, one-here}
-use Rattle.canon.specs.Writing.{Writes, literalsText, literalText}
-use Rattle.canon.proofs.Writing.{none, _then_, bytes-are}
+use Rattle.writer.specs.Writing.{Writes}
+use Rattle.canon.specs.Spelling.{literalsText, literalText}
+use Rattle.writer.proofs.Laws.{none, _then_, bytes-are}
 
 -- ---- one literal more
 
@@ -100,7 +101,7 @@ module _ (part t : List ℕ) (at : ℕ) where
             record {
               done = k .done ++ r ∷ [];
               whole = append-assoc (k .done) (r ∷ []) _ ∙ rw (one-here part pos l next e h d) at (k .whole);
-              writes = bytes-are _ (literal-more (k .done) r at end (k .writes .moved)) (k .writes then w .0);
+              writes = bytes-are _ (literal-more (k .done) r at end (k .writes .answer)) (k .writes then w .0);
               few = omega (arith, k .few, w .1, short, p .forth);
               within = p .within;
             }

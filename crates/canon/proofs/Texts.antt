@@ -10,9 +10,10 @@ use Rattle.language.specs.Tokens.{Token, eofToken, tokens, contents}
 use Rattle.language.specs.Canonical.{spell, canonical, text}
 use Rattle.language.specs.Numbers.{tokenOf}
 use Rattle.lex.specs.Entry.{Lexes}
-use Rattle.canon.specs.Writing.{Writes, rowText, gapText, RowFits, WritesText}
-use Rattle.canon.proofs.Writing as laws
-use Rattle.canon.proofs.Writing.{_then_, bytes-are}
+use Rattle.writer.specs.Writing.{Writes}
+use Rattle.canon.specs.Spelling.{rowText, gapText, RowFits, WritesText}
+use Rattle.writer.proofs.Laws as laws
+use Rattle.writer.proofs.Laws.{_then_, bytes-are}
 use Rattle.canon.proofs.Contents.{gap-is}
 use Rattle.canon.proofs.Rows.{before, counted, row-is, fits, row-text}
 
@@ -54,7 +55,7 @@ module _ (s toks : List ℕ) (count : ℕ) (h : Lexes s toks count) where
     pub stopped : 65536 < at → WritesText s t at u
     stopped m =
         let w = f .writes in
-        record { size = w .size; most = omega (arith, w .moved, part-of); whole = λ k. absurd (omega arith) }
+        record { size = laws.size w; most = omega (arith, w .answer, part-of); whole = λ k. absurd (omega arith) }
 
     -- all of it is written
     pub finished : i ≡ count → WritesText s t at u
@@ -64,8 +65,8 @@ module _ (s toks : List ℕ) (count : ℕ) (h : Lexes s toks count) where
         let last : drop (i - 1) (before s ++ eofToken s ∷ []) ≡ eofToken s ∷ [] =
         drop-at (before s) (eofToken s ∷ []) (i - 1) (omega (arith, counted s toks count h)) in
         let all : f .done ≡ text s = sym (append-nil (f .done)) ∙ rw (last, end-text s) at (f .whole) in
-        let n : at ≡ length (text s) = omega (arith, w .moved, ap length all) in
-        record { size = w .size; most = omega arith; whole = λ k. (n, λ z. w .text [] refl z ∙ rw all) }
+        let n : at ≡ length (text s) = omega (arith, w .answer, ap length all) in
+        record { size = laws.size w; most = omega arith; whole = λ k. (n, λ z. laws.after w [] refl z ∙ rw all) }
 
     module _ (m : i < count) {row next : ℕ} (r : row ≡ i * 7 - 7) (q : next ≡ i * 7) where
       abbrev x : Token

@@ -1,2 +1,2 @@
-pub mod Writing
+pub mod Spelling
 pub mod Entry

@@ -1,15 +1,16 @@
-// Canonical text: the tokens of a source, spelt in one way. The definition is `Canonical` of the crate `language`. Bytes
-// past the end of the lent text are counted and not kept, and the count is judged at the end.
+// Canonical text: the tokens of a source, spelt in one way. The definition is `Canonical` of the crate `language`. The crate
+// `writer` counts bytes past the end of the lent text and does not keep them, and the count is judged at the end.
 ghost use mathlib.Core.Path.{_≡_};
 ghost use mathlib.Core.List.{[], _∷_};
-ghost use Prim.Native.Nat.{_+_, _-_, _≤_};
+ghost use Prim.Native.Nat.{_+_, _≤_};
 ghost use lib.ListN.{length};
 ghost use Rattle.table.specs.Table.{padTo};
-ghost use Rattle.language.specs.Integers.{decimal, hexadecimal};
-ghost use Rattle.language.specs.Tokens.{between, bodiesIn, mostBytes};
+ghost use Rattle.language.specs.Integers.{hexadecimal};
+ghost use Rattle.language.specs.Tokens.{bodiesIn, mostBytes};
 ghost use Rattle.language.specs.Canonical.{spellDigits, spellQuad, quoted};
 ghost use Rattle.wide.specs.Wide.{valueOf};
-ghost use Rattle.canon.specs.Writing.{Writes, literalsText, literalText, markOf, boolText, fixedText, rowText, gapText, RowFits, WritesText};
+ghost use Rattle.writer.specs.Writing.{Writes};
+ghost use Rattle.canon.specs.Spelling.{literalsText, literalText, markOf, boolText, fixedText, rowText, gapText, RowFits, WritesText};
 ghost use Rattle.lex.specs.Entry.{Lexes};
 ghost use Rattle.canon.specs.Entry.{CanonSource};
 use lexemes::LexemeKind;
@@ -27,53 +28,7 @@ pub struct Canonised {
     pub bytes: u64,
 }
 
-// ---- bytes
-
-// The bytes of `s` from `from` up to `to`.
-fn copy(s: &[u8], from: usize, to: usize, text: &mut [u8], at: usize) -> usize
-    requires { ⌜ (from ≤ to) × (to ≤ length (now s)) × (to ≤ mostBytes) × (at ≤ 1048576) ⌝ }
-    ensures { λ r. ⌜ Writes (now (text .entry)) at (between (now (s .entry)) from to) r (now (text .exit)) ⌝ }
-    ensures { λ r. ⌜ r ≤ at + (to - from) ⌝ }
-{
-    let mut i = from;
-    let mut end = at;
-    while i < to {
-        table::put_byte(text, end, s[i]);
-        i += 1;
-        end += 1;
-    }
-    end
-}
-
-fn put(b: u8, text: &mut [u8], at: usize) -> usize
-    requires { ⌜ at ≤ 1048576 ⌝ }
-    ensures { λ r. ⌜ Writes (now (text .entry)) at (b ∷ []) r (now (text .exit)) ⌝ }
-    ensures { λ r. ⌜ r ≤ at + 1 ⌝ }
-{
-    table::put_byte(text, at, b);
-    at + 1
-}
-
 // ---- numbers
-
-fn decimal_text(v: Wide, text: &mut [u8], at: usize) -> usize
-    requires { ⌜ at ≤ 1048576 ⌝ }
-    ensures { λ r. ⌜ Writes (now (text .entry)) at (spellDigits (decimal (valueOf v))) r (now (text .exit)) ⌝ }
-    ensures { λ r. ⌜ r ≤ at + 39 ⌝ }
-{
-    let mut digits = [0u8; Wide::MOST_DIGITS];
-    let start = v.decimal(&mut digits);
-    copy(&digits, start, Wide::MOST_DIGITS, text, at)
-}
-
-fn octet_text(n: u64, text: &mut [u8], at: usize) -> usize
-    requires { ⌜ at ≤ 1048576 ⌝ }
-    ensures { λ r. ⌜ Writes (now (text .entry)) at (spellDigits (decimal n)) r (now (text .exit)) ⌝ }
-    ensures { λ r. ⌜ r ≤ at + 39 ⌝ }
-{
-    let v = Wide { hi: 0, lo: n };
-    decimal_text(v, text, at)
-}
 
 // `0x` with lower case and no leading zeros.
 fn hex_text(v: Wide, text: &mut [u8], at: usize) -> usize
@@ -81,11 +36,8 @@ fn hex_text(v: Wide, text: &mut [u8], at: usize) -> usize
     ensures { λ r. ⌜ Writes (now (text .entry)) at (48 ∷ 120 ∷ spellDigits (hexadecimal (valueOf v))) r (now (text .exit)) ⌝ }
     ensures { λ r. ⌜ r ≤ at + 34 ⌝ }
 {
-    let mut digits = [0u8; Wide::MOST_HEX_DIGITS];
-    let start = v.hexadecimal(&mut digits);
-    let a = put(b'0', text, at);
-    let b = put(b'x', text, a);
-    copy(&digits, start, Wide::MOST_HEX_DIGITS, text, b)
+    let a = writer::copy(b"0x", text, at);
+    writer::hexadecimal(v, text, a)
 }
 
 // Four numbers with dots between.
@@ -94,13 +46,13 @@ fn quad_text(address: u64, text: &mut [u8], at: usize) -> usize
     ensures { λ r. ⌜ Writes (now (text .entry)) at (spellQuad address) r (now (text .exit)) ⌝ }
     ensures { λ r. ⌜ r ≤ at + 159 ⌝ }
 {
-    let a = octet_text(address / 16777216 % 256, text, at);
-    let b = put(b'.', text, a);
-    let c = octet_text(address / 65536 % 256, text, b);
-    let d = put(b'.', text, c);
-    let e = octet_text(address / 256 % 256, text, d);
-    let f = put(b'.', text, e);
-    octet_text(address % 256, text, f)
+    let a = writer::decimal_word(address / 16777216 % 256, text, at);
+    let b = writer::put(b'.', text, a);
+    let c = writer::decimal_word(address / 65536 % 256, text, b);
+    let d = writer::put(b'.', text, c);
+    let e = writer::decimal_word(address / 256 % 256, text, d);
+    let f = writer::put(b'.', text, e);
+    writer::decimal_word(address % 256, text, f)
 }
 
 // ---- strings
@@ -111,9 +63,9 @@ fn quoted_text(body: &[u8], text: &mut [u8], at: usize) -> usize
     ensures { λ r. ⌜ Writes (now (text .entry)) at (quoted (now (body .entry))) r (now (text .exit)) ⌝ }
     ensures { λ r. ⌜ r ≤ at + length (now (body .entry)) + 2 ⌝ }
 {
-    let a = put(b'"', text, at);
-    let b = copy(body, 0, body.len(), text, a);
-    put(b'"', text, b)
+    let a = writer::put(b'"', text, at);
+    let b = writer::copy(body, text, a);
+    writer::put(b'"', text, b)
 }
 
 // A literal of a string whose text starts at `from`: with a space before it, unless it is the first.
@@ -125,7 +77,7 @@ fn literal_text(body: &[u8], from: usize, text: &mut [u8], at: usize) -> usize
     if at == from {
         return quoted_text(body, text, at);
     }
-    let a = put(b' ', text, at);
+    let a = writer::put(b' ', text, at);
     quoted_text(body, text, a)
 }
 
@@ -175,9 +127,9 @@ fn bool_text(low: u64, text: &mut [u8], at: usize) -> usize
     ensures { λ r. ⌜ r ≤ at + 6 ⌝ }
 {
     if low == 0 {
-        return copy(b"false", 0, 5, text, at);
+        return writer::copy(b"false", text, at);
     }
-    copy(b"true", 0, 4, text, at)
+    writer::copy(b"true", text, at)
 }
 
 // Punctuation, keywords and booleans.
@@ -187,11 +139,11 @@ fn fixed_text(kind: u64, low: u64, text: &mut [u8], at: usize) -> usize
     ensures { λ r. ⌜ r ≤ at + 6 ⌝ }
 {
     match kind {
-        TokKind::DOUBLE_COLON => copy(b"::", 0, 2, text, at),
-        TokKind::IMPORT_KEYWORD => copy(b"import", 0, 6, text, at),
-        TokKind::LET_KEYWORD => copy(b"let", 0, 3, text, at),
+        TokKind::DOUBLE_COLON => writer::copy(b"::", text, at),
+        TokKind::IMPORT_KEYWORD => writer::copy(b"import", text, at),
+        TokKind::LET_KEYWORD => writer::copy(b"let", text, at),
         TokKind::BOOLEAN_LITERAL => bool_text(low, text, at),
-        _ => put(mark(kind), text, at),
+        _ => writer::put(mark(kind), text, at),
     }
 }
 
@@ -207,11 +159,11 @@ fn token_text(source: &[u8], toks: &[u64], row: usize, text: &mut [u8], at: usiz
     let low = toks[row + TokenRow::LOW];
     let high = toks[row + TokenRow::HIGH];
     match kind {
-        TokKind::IDENTIFIER => copy(source, start, end, text, at),
+        TokKind::IDENTIFIER => writer::copy(&source[start..end], text, at),
         TokKind::IPV4_LITERAL => quad_text(low, text, at),
         TokKind::STRING_LITERAL => literals(&source[start..end], text, at),
         TokKind::HEX_LITERAL => hex_text(Wide { hi: high, lo: low }, text, at),
-        TokKind::DEC_LITERAL => decimal_text(Wide { hi: high, lo: low }, text, at),
+        TokKind::DEC_LITERAL => writer::decimal(Wide { hi: high, lo: low }, text, at),
         _ => fixed_text(kind, low, text, at),
     }
 }
@@ -223,13 +175,13 @@ fn separator(kind: u64, next: u64, text: &mut [u8], at: usize) -> usize
     ensures { λ r. ⌜ r ≤ at + 1 ⌝ }
 {
     if kind == TokKind::SEMI_COLON {
-        return put(b'\n', text, at);
+        return writer::put(b'\n', text, at);
     }
     // nothing before `Eof`
     if next == TokKind::EOF {
         return at;
     }
-    put(b' ', text, at)
+    writer::put(b' ', text, at)
 }
 
 // The text of `count` tokens, of which the last is `Eof`. It stops early where the text is too long already.

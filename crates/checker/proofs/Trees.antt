@@ -7,7 +7,7 @@ use lib.ListN.{length, getD, length-append, List·getD-append}
 use lib.Seq.{getD-append-add}
 use Rattle.table.specs.Table.{flat}
 use Rattle.table.proofs.Laws.{length-flat, flat-word}
-use Rattle.language.specs.Sentences.{Expr, literal, sock4, local, path, member, call, slash′, Args, none-given, given, named, Stmt, import′, let′, expr′, firstOf, Node, node, nameNodes, exprSize, argsSize, lastOf, exprNodes, argNodes, nodesFrom, nodes, nodeRow}
+use Rattle.language.specs.Sentences.{Expr, literal, sock4, local, path, member, call, slash′, Args, none-given, given, named, Stmt, import′, let′, expr′, firstOf, Node, node, nameNodes, exprSize, argsSize, firstRow, exprNodes, argNodes, nodesFrom, nodes, nodeRow}
 use Rattle.language.proofs.NodeClaims.{names-long, expr-long, args-long, some-node, row-long}
 use Rattle.judging.specs.Judging.{word, RepAt, is-literal, is-sock4, is-local, is-path, is-member, is-slash, is-call}
 use Rattle.statements.specs.Checking.{StmtsAt, at-end, no-stmt, an-import, a-let, an-expr}
@@ -111,10 +111,10 @@ module _ (ns : List Node) where
       is-slash (r .inside) (r .kind) (r .tok) (omega (arith, q, r .first, some-node a, some-node b)) (omega (arith, q, r .second, some-node b))
       (subst (λ (z : ℕ). RepAt ws z a) (sym (r .first)) l) (subst (λ (z : ℕ). RepAt ws z b) (sym (r .second)) m)
   rep (call e t g) k i q p =
-      let n = node 8 (firstOf e) (k + exprSize e - 1) (lastOf (k + exprSize e) g) t in
-      let front = exprNodes k e ++ argNodes (k + exprSize e) g in
+      let n = node 8 (firstOf e) (k + exprSize e - 1) (firstRow (k + exprSize e) g 0) t in
+      let front = exprNodes k e ++ argNodes (k + exprSize e) g 0 in
       let long : length front ≡ exprSize e + argsSize g =
-      length-append (exprNodes k e) (argNodes (k + exprSize e) g) ∙ omega (arith, expr-long k e, args-long (k + exprSize e) g) in
+      length-append (exprNodes k e) (argNodes (k + exprSize e) g 0) ∙ omega (arith, expr-long k e, args-long (k + exprSize e) g 0) in
       let r = row-of i i n refl (part-right front (n ∷ []) (omega (arith, q, long)) p) in
       is-call (r .inside) (r .kind) (r .tok)
 
@@ -157,17 +157,19 @@ mutual
       small-both (exprNodes k a ++ exprNodes (k + exprSize a) b) _ (small-both (exprNodes k a) _ (small-expr k a) (small-expr (k + exprSize a) b))
       (small-one (node 7 (firstOf a) (k + exprSize a - 1) (k + exprSize a + exprSize b - 1) 0) (omega arith))
   small-expr k (call e t g) =
-      small-both (exprNodes k e ++ argNodes (k + exprSize e) g) _ (small-both (exprNodes k e) _ (small-expr k e) (small-args (k + exprSize e) g))
-      (small-one (node 8 (firstOf e) (k + exprSize e - 1) (lastOf (k + exprSize e) g) t) (omega arith))
+      small-both (exprNodes k e ++ argNodes (k + exprSize e) g 0) _ (small-both (exprNodes k e) _ (small-expr k e) (small-args (k + exprSize e) g 0))
+      (small-one (node 8 (firstOf e) (k + exprSize e - 1) (firstRow (k + exprSize e) g 0) t) (omega arith))
 
-  small-args : (k : ℕ) (g : Args) → Small (argNodes k g)
-  small-args k none-given = record { each = λ j l. absurd (omega arith) }
-  small-args k (given g e) =
-      small-both (argNodes k g ++ exprNodes (k + argsSize g) e) _ (small-both (argNodes k g) _ (small-args k g) (small-expr (k + argsSize g) e))
-      (small-one (node 9 (firstOf e) (k + argsSize g + exprSize e - 1) (lastOf k g) 0) (omega arith))
-  small-args k (named g t e) =
-      small-both (argNodes k g ++ exprNodes (k + argsSize g) e) _ (small-both (argNodes k g) _ (small-args k g) (small-expr (k + argsSize g) e))
-      (small-one (node 10 t (k + argsSize g + exprSize e - 1) (lastOf k g) 0) (omega arith))
+  small-args : (k : ℕ) (g : Args) (next : ℕ) → Small (argNodes k g next)
+  small-args k none-given next = record { each = λ j l. absurd (omega arith) }
+  small-args k (given g e) next =
+      small-both (argNodes k g (k + argsSize (given g e)) ++ exprNodes (k + argsSize g) e) _
+      (small-both (argNodes k g (k + argsSize (given g e))) _ (small-args k g (k + argsSize (given g e))) (small-expr (k + argsSize g) e))
+      (small-one (node 9 (firstOf e) (k + argsSize g + exprSize e - 1) next 0) (omega arith))
+  small-args k (named g t e) next =
+      small-both (argNodes k g (k + argsSize (named g t e)) ++ exprNodes (k + argsSize g) e) _
+      (small-both (argNodes k g (k + argsSize (named g t e))) _ (small-args k g (k + argsSize (named g t e))) (small-expr (k + argsSize g) e))
+      (small-one (node 10 t (k + argsSize g + exprSize e - 1) next 0) (omega arith))
 
 -- ---- statements
 

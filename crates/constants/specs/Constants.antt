@@ -29,6 +29,13 @@ highOf (some v) = valueHigh v
 abbrev pub entryRow : Entry → List ℕ
 entryRow e = e .inside ∷ e .start ∷ e .end ∷ kindOf (e .value) ∷ lowOf (e .value) ∷ highOf (e .value) ∷ []
 
+-- the words of a row, and how many entries there are
+abbrev pub entryWidth : ℕ
+entryWidth = 6
+
+abbrev pub entryCount : ℕ
+entryCount = 9
+
 unfoldable pub tableRows : List ℕ
 tableRows = flat entryRow entries
 
@@ -40,10 +47,12 @@ orZero (some k) = k
 -- word j of the entry numbered k, 0 where there is none
 abbrev pub entryWord : List ℕ → ℕ → ℕ → ℕ
 entryWord rows zero j = 0
-entryWord rows (suc k) j = if′ (ltb k 9) (getD rows (6 * k + j) 0) 0
+entryWord rows (suc k) j = if′ (ltb k entryCount) (getD rows (entryWidth * k + j) 0) 0
 
 abbrev pub isHit : List ℕ → List ℕ → ℕ → ℕ → List ℕ → Bool
-isHit rows text i m bs = eqb (getD rows (6 * i) 0) m && same (between text (getD rows (6 * i + 1) 0) (getD rows (6 * i + 2) 0)) bs
+isHit rows text i m bs =
+    eqb (getD rows (entryWidth * i) 0) m
+    && same (between text (getD rows (entryWidth * i + 1) 0) (getD rows (entryWidth * i + 2) 0)) bs
 
 -- a part of one of two texts
 abbrev pub textOf : Bool → List ℕ → List ℕ → ℕ → ℕ → List ℕ

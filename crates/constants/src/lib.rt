@@ -8,7 +8,7 @@ ghost use Prim.Native.Nat.{_+_, _*_, _<_, _≤_};
 ghost use Rattle.language.specs.Lexemes.{same};
 ghost use Rattle.language.specs.Tokens.{between};
 ghost use Rattle.language.specs.Values.{tableText, lookup};
-ghost use Rattle.constants.specs.Constants.{tableRows, orZero, isHit, entryWord, NameText};
+ghost use Rattle.constants.specs.Constants.{entryWidth, entryCount, tableRows, orZero, isHit, entryWord, NameText};
 
 // The types of values, by their numbers: in the order of check.rs `Ty`, where those between are types that no value has yet.
 pub struct Ty {}
@@ -39,7 +39,7 @@ pub struct Constants {
 impl Constants {
     pub const ENTRIES: usize = 9;
     pub const ROW_WORDS: usize = 6;
-    pub const WORDS: usize = 54;
+    pub const WORDS: usize = Constants::ENTRIES * Constants::ROW_WORDS;
     pub const BYTES: usize = 38;
 
     // The number of the last entry.
@@ -118,7 +118,7 @@ pub fn same(x: &[u8], y: &[u8]) -> bool
 
 // Word j of the entry numbered k, 0 where there is no such entry.
 pub fn entry_word(rows: &[u64; Constants::WORDS], k: u64, j: usize) -> u64
-    requires { ⌜ j < 6 ⌝ }
+    requires { ⌜ j < entryWidth ⌝ }
     ensures { λ r. ⌜ r ≡ entryWord (now (rows .entry)) k j ⌝ }
 {
     if k == 0 {
@@ -138,7 +138,7 @@ fn is_hit(
     inside: u64,
     name: &[u8],
 ) -> bool
-    requires { ⌜ i < 9 ⌝ }
+    requires { ⌜ i < entryCount ⌝ }
     ensures { λ r. ⌜ r ≡ isHit (now (rows .entry)) (now (text .entry)) i inside (now (name .entry)) ⌝ }
 {
     let at = i * Constants::ROW_WORDS;
@@ -158,7 +158,7 @@ pub fn lookup(
     name: &[u8],
 ) -> u64
     requires { ⌜ (now rows ≡ tableRows) × (now text ≡ tableText) ⌝ }
-    ensures { λ r. ⌜ (r ≡ orZero (lookup inside (now (name .entry)))) × (r ≤ 9) ⌝ }
+    ensures { λ r. ⌜ (r ≡ orZero (lookup inside (now (name .entry)))) × (r ≤ entryCount) ⌝ }
 {
     let mut i: usize = 0;
     while i < Constants::ENTRIES {

@@ -21,7 +21,7 @@ use Rattle.language.proofs.TokensAt.{content-of, long-tokens, last-token}
 use Rattle.lex.specs.Lexing.{nth, bodyAt}
 use Rattle.lex.proofs.Bodies.{some-part}
 use Rattle.lex.specs.Entry.{Lexes}
-use Rattle.canon.specs.Writing.{kindText, rowText}
+use Rattle.canon.specs.Spelling.{kindText, rowText}
 use Rattle.joined.specs.Canonical.{SameRow, SameRows}
 use Rattle.canon.proofs.Contents.{gap-is, string-kind}
 use Rattle.canon.proofs.Rows.{before, counted, RowIs, row-past, row-is, row-text}

@@ -31,7 +31,7 @@ module _ (ts : List Content) where
     chain-right (is-path {at = at} a p m b) k = of-both (names-right at (a .after) p) (of-one (a .passes))
     chain-right (is-member c a b) k = of-both (chain-right c k) (of-one (b .passes))
     chain-right (is-call {e = e} c l) k =
-        of-both (of-both (chain-right c k) (list-right l (k + exprSize e))) (of-one (opens ts l))
+        of-both (of-both (chain-right c k) (list-right l (k + exprSize e) 0)) (of-one (opens ts l))
 
     slashed-right : {d at next : ℕ} {e : Expr} → Slashed ts d at e next → (k : ℕ) → All (exprNodes k e)
     slashed-right (is-chain c) k = chain-right c k
@@ -41,18 +41,19 @@ module _ (ts : List Content) where
     expr-right : {d at next : ℕ} {e : Expr} → Expression ts d at e next → (k : ℕ) → All (exprNodes k e)
     expr-right (is-expression c l) k = slashed-right c k
 
-    arg-right : {d at next : ℕ} {g h : Args} → Argument ts d at g h next → (k : ℕ) → All (argNodes k g) → All (argNodes k h)
-    arg-right (is-given {g = g} f c) k l = of-both (of-both l (expr-right c (k + argsSize g))) (of-one refl)
-    arg-right (is-named {g = g} a b c) k l =
-        of-both (of-both l (expr-right c (k + argsSize g))) (of-one (a .passes))
+    arg-right : {d at next : ℕ} {g h : Args} → Argument ts d at g h next → (k : ℕ) → ((x : ℕ) → All (argNodes k g x)) → (x : ℕ)
+        → All (argNodes k h x)
+    arg-right (is-given {g = g} f c) k l x = of-both (of-both (l _) (expr-right c (k + argsSize g))) (of-one refl)
+    arg-right (is-named {g = g} a b c) k l x =
+        of-both (of-both (l _) (expr-right c (k + argsSize g))) (of-one (a .passes))
 
-    args-right : {d at next : ℕ} {g : Args} → Arguments ts d at g next → (k : ℕ) → All (argNodes k g)
-    args-right is-none k = of-none
-    args-right (is-more g a b) k = arg-right a k (args-right g k)
+    args-right : {d at next : ℕ} {g : Args} → Arguments ts d at g next → (k x : ℕ) → All (argNodes k g x)
+    args-right is-none k x = of-none
+    args-right (is-more g a b) k x = arg-right a k (λ y. args-right g k y) x
 
-    list-right : {d at next : ℕ} {g : Args} → Bracketed ts d at g next → (k : ℕ) → All (argNodes k g)
-    list-right (is-closed a g b) k = args-right g k
-    list-right (is-last a g c b) k = arg-right c k (args-right g k)
+    list-right : {d at next : ℕ} {g : Args} → Bracketed ts d at g next → (k x : ℕ) → All (argNodes k g x)
+    list-right (is-closed a g b) k x = args-right g k x
+    list-right (is-last a g c b) k x = arg-right c k (λ y. args-right g k y) x
 
   stmt-right : {at next : ℕ} {s : Stmt} → Statement ts at s next → (k : ℕ) → All (stmtNodes k s)
   stmt-right (is-import a b c) k = of-one (b .passes)

@@ -10,7 +10,7 @@ use borrow.Author.Tests.{lt-ltb, le-ltb, leb-true}
 use lib.Dec.{ltb}
 use lib.ListN.{length, getD, length-append, List·getD-append}
 use Rattle.language.specs.Choice.{if′}
-use Rattle.language.specs.Integers.{limit, valueFrom, valueOf, digitsIn, mostDigits, decimal, hexadecimal, IntType, u8, u16, u32, u64, bits, smallest, DigitsRight, DecimalIsRight, HexadecimalIsRight, DecimalUnfolds, HexadecimalUnfolds, SmallestHolds}
+use Rattle.language.specs.Integers.{limit, valueFrom, valueOf, digitsIn, mostDigits, mostHexDigits, decimal, hexadecimal, IntType, u8, u16, u32, u64, bits, smallest, DigitsRight, DecimalIsRight, HexadecimalIsRight, DecimalUnfolds, HexadecimalUnfolds, SmallestHolds}
 
 -- ---- digits in a base, one step
 
@@ -107,8 +107,8 @@ module _ (base : ℕ) (two : 1 < base) where
 pub has-room : (n : ℕ) → n < limit → n < 10 ^ mostDigits
 has-room n h = lt-of-lt-of-le h (leb-true limit (10 ^ mostDigits) refl)
 
-pub hex-room : (n : ℕ) → n < limit → n < 16 ^ 32
-hex-room n h = lt-of-lt-of-le h (leb-true limit (16 ^ 32) refl)
+pub hex-room : (n : ℕ) → n < limit → n < 16 ^ mostHexDigits
+hex-room n h = lt-of-lt-of-le h (leb-true limit (16 ^ mostHexDigits) refl)
 
 pub decimal-is-right : DecimalIsRight
 unfolding decimal

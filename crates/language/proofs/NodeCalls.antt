@@ -35,12 +35,12 @@ mutual
   of-expr k (path t n) = of-both (nameNodes t n) _ ∙ rw (names-none t n)
   of-expr k (member e t) = of-both (exprNodes k e) _ ∙ rw (of-expr k e) (append-nil (callsOf e))
   of-expr k (slash′ a b) = simp (of-both, of-expr k a, of-expr (k + exprSize a) b, append-nil)
-  of-expr k (call e t g) = simp (of-both, of-expr k e, of-args (k + exprSize e) g, append-assoc)
+  of-expr k (call e t g) = simp (of-both, of-expr k e, of-args (k + exprSize e) g 0, append-assoc)
 
-  of-args : (k : ℕ) (g : Args) → callTokens (argNodes k g) ≡ argCalls g
-  of-args k none-given = refl
-  of-args k (given g e) = simp (of-both, of-args k g, of-expr (k + argsSize g) e, append-nil)
-  of-args k (named g t e) = simp (of-both, of-args k g, of-expr (k + argsSize g) e, append-nil)
+  of-args : (k : ℕ) (g : Args) (next : ℕ) → callTokens (argNodes k g next) ≡ argCalls g
+  of-args k none-given next = refl
+  of-args k (given g e) next = simp (of-both, of-args k g (k + argsSize (given g e)), of-expr (k + argsSize g) e, append-nil)
+  of-args k (named g t e) next = simp (of-both, of-args k g (k + argsSize (named g t e)), of-expr (k + argsSize g) e, append-nil)
 
 of-stmt : (k : ℕ) (s : Stmt) → callTokens (stmtNodes k s) ≡ stmtCalls s
 unfolding callTokens

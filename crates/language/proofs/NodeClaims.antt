@@ -3,13 +3,12 @@ use Prim.Native.Nat.{ℕ, zero, suc, _+_, _-_, _*_, _/_, _≤_, _<_}
 use mathlib.Core.Path.{_≡_, refl, sym, ap, _∙_}
 use mathlib.Core.List.{List, [], _∷_, _++_, append-assoc, append-nil}
 use native.Mathlib.Omega.{arith}
-use borrow.Author.Tests.{ne-eqb}
 use lib.Dec.{eqb}
 use lib.ListN.{length, length-append, replicate}
 use Rattle.table.specs.Table.{padTo, flat, tabled}
 use Rattle.table.proofs.Laws.{tabled-all, length-flat, pad-split}
 use Rattle.language.specs.Choice.{if′}
-use Rattle.language.specs.Sentences.{Expr, literal, sock4, local, path, member, call, slash′, Args, none-given, given, named, Stmt, import′, let′, expr′, Node, node, nameNodes, exprSize, argsSize, lastOf, exprNodes, argNodes, stmtNodes, nodesFrom, nodes, nodeRow, nodeWidth, stmtSize, programSize, NodesCounted, NodesDetermine, TablesDetermine}
+use Rattle.language.specs.Sentences.{Expr, literal, sock4, local, path, member, call, slash′, Args, none-given, given, named, Stmt, import′, let′, expr′, Node, node, nameNodes, exprSize, argsSize, exprNodes, argNodes, stmtNodes, nodesFrom, nodes, nodeRow, nodeWidth, stmtSize, programSize, NodesCounted, NodesDetermine, TablesDetermine}
 
 -- ---- how many
 
@@ -25,12 +24,14 @@ mutual
   expr-long k (path t n) = simp length-append (omega (arith, names-long t n))
   expr-long k (member e t) = simp length-append (omega (arith, expr-long k e))
   expr-long k (slash′ a b) = simp length-append (omega (arith, expr-long k a, expr-long (k + exprSize a) b))
-  expr-long k (call e t g) = simp length-append (omega (arith, expr-long k e, args-long (k + exprSize e) g))
+  expr-long k (call e t g) = simp length-append (omega (arith, expr-long k e, args-long (k + exprSize e) g 0))
 
-  pub args-long : (k : ℕ) (g : Args) → length (argNodes k g) ≡ argsSize g
-  args-long k none-given = refl
-  args-long k (given g e) = simp length-append (omega (arith, args-long k g, expr-long (k + argsSize g) e))
-  args-long k (named g t e) = simp length-append (omega (arith, args-long k g, expr-long (k + argsSize g) e))
+  pub args-long : (k : ℕ) (g : Args) (next : ℕ) → length (argNodes k g next) ≡ argsSize g
+  args-long k none-given next = refl
+  args-long k (given g e) next =
+      simp length-append (omega (arith, args-long k g (k + argsSize (given g e)), expr-long (k + argsSize g) e))
+  args-long k (named g t e) next =
+      simp length-append (omega (arith, args-long k g (k + argsSize (named g t e)), expr-long (k + argsSize g) e))
 
 pub stmt-long : (k : ℕ) (s : Stmt) → length (stmtNodes k s) ≡ stmtSize s
 stmt-long k (import′ t) = refl
@@ -72,14 +73,11 @@ withExpr [] f = []
 withExpr (an-expr e ∷ ps) f = f e ps
 withExpr (some-args g ∷ ps) f = []
 
+-- go on with the arguments that were read last: none where an expression waits last, the callee
 withArgs : List Part → (Args → List Part → List Part) → List Part
 withArgs [] f = []
-withArgs (an-expr e ∷ ps) f = []
+withArgs (an-expr e ∷ ps) f = f none-given (an-expr e ∷ ps)
 withArgs (some-args g ∷ ps) f = f g ps
-
--- the arguments before a row are none where its word is 0
-before : ℕ → List Part → (Args → List Part → List Part) → List Part
-before last ps f = if′ (eqb last 0) (f none-given ps) (withArgs ps f)
 
 -- the parts that wait after a node; kind 1, and a row of zeros, leave them
 taken : Node → List Part → List Part
@@ -90,9 +88,9 @@ taken n ps =
     (if′ (eqb (n .kind) 5) (an-expr (path (n .tok) (n .first)) ∷ ps)
     (if′ (eqb (n .kind) 6) (withExpr ps (λ e qs. an-expr (member e (n .second)) ∷ qs))
     (if′ (eqb (n .kind) 7) (withExpr ps (λ b qs. withExpr qs (λ a rs. an-expr (slash′ a b) ∷ rs)))
-    (if′ (eqb (n .kind) 8) (before (n .second) ps (λ g qs. withExpr qs (λ e rs. an-expr (call e (n .third) g) ∷ rs)))
-    (if′ (eqb (n .kind) 9) (withExpr ps (λ e qs. before (n .second) qs (λ g rs. some-args (given g e) ∷ rs)))
-    (if′ (eqb (n .kind) 10) (withExpr ps (λ e qs. before (n .second) qs (λ g rs. some-args (named g (n .tok) e) ∷ rs))) ps))))))))
+    (if′ (eqb (n .kind) 8) (withArgs ps (λ g qs. withExpr qs (λ e rs. an-expr (call e (n .third) g) ∷ rs)))
+    (if′ (eqb (n .kind) 9) (withExpr ps (λ e qs. withArgs qs (λ g rs. some-args (given g e) ∷ rs)))
+    (if′ (eqb (n .kind) 10) (withExpr ps (λ e qs. withArgs qs (λ g rs. some-args (named g (n .tok) e) ∷ rs))) ps))))))))
 
 -- the expression that waits
 waiting : List Part → Expr
@@ -113,12 +111,12 @@ argsOn none-given ps = ps
 argsOn (given g e) ps = some-args (given g e) ∷ ps
 argsOn (named g t e) ps = some-args (named g t e) ∷ ps
 
-before-args : (k : ℕ) (g : Args) (ps : List Part) (f : Args → List Part → List Part)
-    → before (lastOf k g) (argsOn g ps) f ≡ f g ps
-unfolding before argsOn withArgs
-before-args k none-given ps f = refl
-before-args k (given g e) ps f = rw (ne-eqb (k + (argsSize g + exprSize e + 1)) 0 (λ q. omega arith))
-before-args k (named g t e) ps f = rw (ne-eqb (k + (argsSize g + exprSize e + 1)) 0 (λ q. omega arith))
+args-waiting : (g : Args) (e : Expr) (ps : List Part) (f : Args → List Part → List Part)
+    → withArgs (argsOn g (an-expr e ∷ ps)) f ≡ f g (an-expr e ∷ ps)
+unfolding argsOn withArgs
+args-waiting none-given e ps f = refl
+args-waiting (given g x) e ps f = refl
+args-waiting (named g t x) e ps f = refl
 
 unread-names : (t n : ℕ) (ns : List Node) (ps : List Part) → unread (nameNodes t n ++ ns) ps ≡ unread ns ps
 unfolding unread taken
@@ -138,17 +136,18 @@ mutual
   unread-expr k (slash′ a b) ns ps =
       simp append-assoc (unread-expr k a _ ps ∙ unread-expr (k + exprSize a) b _ (an-expr a ∷ ps))
   unread-expr k (call e t g) ns ps =
-      simp append-assoc (unread-expr k e _ ps ∙ unread-args (k + exprSize e) g _ (an-expr e ∷ ps)
-      ∙ ap (unread ns) (before-args (k + exprSize e) g (an-expr e ∷ ps) _))
+      simp append-assoc (unread-expr k e _ ps ∙ unread-args (k + exprSize e) g 0 _ e ps ∙ ap (unread ns) (args-waiting g e ps _))
 
-  unread-args : (k : ℕ) (g : Args) (ns : List Node) (ps : List Part) → unread (argNodes k g ++ ns) ps ≡ unread ns (argsOn g ps)
-  unread-args k none-given ns ps = refl
-  unread-args k (given g e) ns ps =
-      simp append-assoc (unread-args k g _ ps ∙ unread-expr (k + argsSize g) e _ (argsOn g ps)
-      ∙ ap (unread ns) (before-args k g ps _))
-  unread-args k (named g t e) ns ps =
-      simp append-assoc (unread-args k g _ ps ∙ unread-expr (k + argsSize g) e _ (argsOn g ps)
-      ∙ ap (unread ns) (before-args k g ps _))
+  -- the callee waits before its arguments
+  unread-args : (k : ℕ) (g : Args) (next : ℕ) (ns : List Node) (c : Expr) (ps : List Part)
+      → unread (argNodes k g next ++ ns) (an-expr c ∷ ps) ≡ unread ns (argsOn g (an-expr c ∷ ps))
+  unread-args k none-given next ns c ps = refl
+  unread-args k (given g e) next ns c ps =
+      simp append-assoc (unread-args k g _ _ c ps ∙ unread-expr (k + argsSize g) e _ (argsOn g (an-expr c ∷ ps))
+      ∙ ap (unread ns) (args-waiting g c ps _))
+  unread-args k (named g t e) next ns c ps =
+      simp append-assoc (unread-args k g _ _ c ps ∙ unread-expr (k + argsSize g) e _ (argsOn g (an-expr c ∷ ps))
+      ∙ ap (unread ns) (args-waiting g c ps _))
 
 unread-stmt : (k : ℕ) (s : Stmt) (ns : List Node) → unread (stmtNodes k s ++ ns) [] ≡ s ∷ unread ns []
 unfolding unread waiting

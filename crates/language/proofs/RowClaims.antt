@@ -1,13 +1,14 @@
 -- The rows of a program hold its trees.
 use Prim.Native.Nat.{ℕ, zero, suc, _+_, _-_, _*_, _≤_, _<_}
 use mathlib.Core.Path.{_≡_, refl, sym, _∙_}
+use mathlib.Core.Logic.{inl, inr}
 use mathlib.Core.List.{List, [], _∷_, _++_, append-assoc, append-nil}
 use native.Mathlib.Omega.{arith}
 use native.Mathlib.Decide.{decLt}
 use lib.ListN.{length, length-append}
 use lib.Seq.{getD-at}
-use Rattle.language.specs.Sentences.{Expr, literal, sock4, local, path, member, call, slash′, Args, none-given, given, named, Stmt, import′, let′, expr′, Node, node, nameNodes, exprSize, argsSize, lastOf, exprNodes, argNodes, stmtNodes, nodesFrom, nodes, stmtSize, programSize}
-use Rattle.language.specs.Rows.{rowAt, Holds, holds-literal, holds-sock4, holds-local, holds-path, holds-member, holds-slash, holds-call, HoldsArgs, holds-none, holds-given, holds-named, HoldsStmt, holds-import, holds-let, holds-expr, RowsHold}
+use Rattle.language.specs.Sentences.{Expr, literal, sock4, local, path, member, call, slash′, Args, none-given, given, named, Stmt, import′, let′, expr′, Node, node, nameNodes, exprSize, argsSize, firstRow, exprNodes, argNodes, stmtNodes, nodesFrom, nodes, stmtSize, programSize}
+use Rattle.language.specs.Rows.{rowAt, Onward, Holds, holds-literal, holds-sock4, holds-local, holds-path, holds-member, holds-slash, holds-call, HoldsArgs, holds-none, holds-given, holds-named, HoldsStmt, holds-import, holds-let, holds-expr, RowsHold}
 use Rattle.language.proofs.NodeClaims.{names-long, expr-long, args-long, stmt-long, some-node, some-stmt-node}
 
 module _ (ns : List Node) where
@@ -57,10 +58,11 @@ module _ (ns : List Node) where
   abbrev Last : ℕ → ℕ → ℕ → Type 0
   Last i k n = i + 1 ≡ k + n
 
-  last-below : (k : ℕ) (g : Args) → lastOf k g ≤ k + argsSize g
-  last-below k none-given = omega arith
-  last-below k (given g e) = omega arith
-  last-below k (named g t e) = omega arith
+  -- the first of some arguments stands before row c where the last does
+  first-below : (c k : ℕ) (g : Args) (next : ℕ) → k + argsSize g ≤ c → next ≤ c → firstRow k g next ≤ c
+  first-below c k none-given next l h = h
+  first-below c k (given g e) next l h = first-below c k g (k + argsSize (given g e)) (omega arith) l
+  first-below c k (named g t e) next l h = first-below c k g (k + argsSize (named g t e)) (omega arith) l
 
   -- two parts and a node over them
   record Over (k n : ℕ) (i : ℕ) (xs ys : List Node) (z : Node) : Type 0 where
@@ -79,18 +81,21 @@ module _ (ns : List Node) where
       }
 
   -- an argument in row i after those before it, from how these and its value are held
-  argument : (k : ℕ) (g : Args) (e : Expr) {i : ℕ} {z : Node} {x : Args} → k + argsSize g + exprSize e ≡ i
-      → Have k (argNodes k g ++ exprNodes (k + argsSize g) e ++ z ∷ []) → (Have k (argNodes k g) → HoldsArgs ns (lastOf k g) g)
+  argument : (c k : ℕ) (g : Args) (e : Expr) (next : ℕ) {i : ℕ} {z : Node} {x : Args} → k + argsSize g + exprSize e ≡ i
+      → k + (argsSize g + exprSize e + 1) ≤ c → Onward c (k + (argsSize g + exprSize e + 1)) next
+      → Have k (argNodes k g (k + (argsSize g + exprSize e + 1)) ++ exprNodes (k + argsSize g) e ++ z ∷ [])
+      → ((n : ℕ) → k + argsSize g ≤ c → Onward c (k + argsSize g) n → Have k (argNodes k g n) → HoldsArgs ns c (firstRow k g n) g n)
       → ((a j : ℕ) → Last a j (exprSize e) → Have j (exprNodes j e) → Holds ns a e)
-      → (HoldsArgs ns (lastOf k g) g → Holds ns (i - 1) e → lastOf k g ≤ i → i - 1 < i → rowAt ns i ≡ z → HoldsArgs ns (suc i) x)
-      → HoldsArgs ns (k + (argsSize g + exprSize e + 1)) x
-  argument k g e {i} {z} at h before value all =
+      → (HoldsArgs ns c (firstRow k g (suc i)) g (suc i) → Holds ns (i - 1) e → i - 1 < i → Onward c (suc i) next → rowAt ns i ≡ z
+      → HoldsArgs ns c (firstRow k g (suc i)) x next)
+      → HoldsArgs ns c (firstRow k g (k + (argsSize g + exprSize e + 1))) x next
+  argument c k g e next {i} {z} at l past h before value all =
       let some = some-node e in
-      let below = last-below k g in
       let j = k + argsSize g in
       let last : k + (argsSize g + exprSize e + 1) ≡ suc i = omega arith in
-      let o = over (argsSize g) (exprSize e) i (argNodes k g) (exprNodes j e) z (args-long k g) (expr-long j e) at h in
-      rw last (all (before (o .left)) (value (i - 1) j (omega arith) (o .right)) (omega arith) (omega arith) (o .top))
+      let o = over (argsSize g) (exprSize e) i (argNodes k g (suc i)) (exprNodes j e) z (args-long k g (suc i)) (expr-long j e) at (rw last at h) in
+      let on : Onward c (suc i) next = rw last at past in
+      rw last (all (before (suc i) (omega arith) (inr (omega arith, omega arith)) (o .left)) (value (i - 1) j (omega arith) (o .right)) (omega arith) on (o .top))
 
   mutual
     expr-held : (i k : ℕ) (e : Expr) → Last i k (exprSize e) → Have k (exprNodes k e) → Holds ns i e
@@ -116,14 +121,17 @@ module _ (ns : List Node) where
     expr-held i k (call e t g) l h =
         let some = some-node e in
         let j = k + exprSize e in
-        let below = last-below j g in
-        let o = over (exprSize e) (argsSize g) i (exprNodes k e) (argNodes j g) _ (expr-long k e) (args-long j g) (omega arith) h in
-        holds-call {i = i} (expr-held (j - 1) k e (omega arith) (o .left)) (args-held j g (o .right)) (omega arith) (omega arith) (o .top)
+        let below = first-below i j g 0 (omega arith) (omega arith) in
+        let o = over (exprSize e) (argsSize g) i (exprNodes k e) (argNodes j g 0) _ (expr-long k e) (args-long j g 0) (omega arith) h in
+        holds-call {i = i} (expr-held (j - 1) k e (omega arith) (o .left)) (args-held i j g 0 (omega arith) (inl refl) (o .right)) (omega arith) below (o .top)
 
-    args-held : (k : ℕ) (g : Args) → Have k (argNodes k g) → HoldsArgs ns (lastOf k g) g
-    args-held k none-given h = holds-none
-    args-held k (given g e) h = argument k g e refl h (λ p. args-held k g p) (λ i j l p. expr-held i j e l p) holds-given
-    args-held k (named g t e) h = argument k g e refl h (λ p. args-held k g p) (λ i j l p. expr-held i j e l p) holds-named
+    args-held : (c k : ℕ) (g : Args) (next : ℕ) → k + argsSize g ≤ c → Onward c (k + argsSize g) next → Have k (argNodes k g next)
+        → HoldsArgs ns c (firstRow k g next) g next
+    args-held c k none-given next l o h = holds-none
+    args-held c k (given g e) next l o h =
+        argument c k g e next refl l o h (λ n q r p. args-held c k g n q r p) (λ i j q p. expr-held i j e q p) holds-given
+    args-held c k (named g t e) next l o h =
+        argument c k g e next refl l o h (λ n q r p. args-held c k g n q r p) (λ i j q p. expr-held i j e q p) holds-named
 
   stmt-held : (i k : ℕ) (s : Stmt) → Last i k (stmtSize s) → Have k (stmtNodes k s) → HoldsStmt ns i s
   stmt-held i k (import′ t) l h = holds-import (row i (omega arith) h)

@@ -40,7 +40,7 @@ hex = refl
 
 -- the nodes of the call above: a name, the path, an argument with its value, another, the call, the statement
 call-nodes : nodes (expr′ (call (path 0 1) 3 (named (given none-given (local 4)) 6 (literal 8))) ∷ [])
-    ≡ node 1 2 0 0 0 ∷ node 5 0 1 0 0 ∷ node 4 4 0 0 0 ∷ node 9 4 2 0 0 ∷ node 2 8 0 0 0 ∷ node 10 6 4 4 0 ∷ node 8 0 1 6 3 ∷ node 13 0 6 0 0 ∷ []
+    ≡ node 1 2 0 0 0 ∷ node 5 0 1 0 0 ∷ node 4 4 0 0 0 ∷ node 9 4 2 6 0 ∷ node 2 8 0 0 0 ∷ node 10 6 4 0 0 ∷ node 8 0 1 4 3 ∷ node 13 0 6 0 0 ∷ []
 unfolding nodesFrom
 call-nodes = refl
 

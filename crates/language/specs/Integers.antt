@@ -38,8 +38,11 @@ unfoldable pub decimal : ℕ → List ℕ
 decimal n = digits mostDigits n
 
 -- the hexadecimal digits; 2^127 has 32
+abbrev pub mostHexDigits : ℕ
+mostHexDigits = 32
+
 unfoldable pub hexadecimal : ℕ → List ℕ
-hexadecimal n = digitsIn 16 32 n
+hexadecimal n = digitsIn 16 mostHexDigits n
 
 -- digits as ASCII
 abbrev pub ascii : List ℕ → List ℕ
@@ -96,7 +99,7 @@ DecimalIsRight = (n : ℕ) → n < limit → DigitsRight 10 mostDigits n (decima
 
 -- "no leading zeros (zero is `0x0`)"
 abbrev pub HexadecimalIsRight : Type 0
-HexadecimalIsRight = (n : ℕ) → n < limit → DigitsRight 16 32 n (hexadecimal n)
+HexadecimalIsRight = (n : ℕ) → n < limit → DigitsRight 16 mostHexDigits n (hexadecimal n)
 
 -- the equations without a bound that a reader expects of digits
 abbrev pub DecimalUnfolds : Type 0

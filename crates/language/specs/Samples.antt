@@ -60,12 +60,25 @@ knownAfter ts (s ∷ ss) n k = elim (stmt ts n k s) [ goes k′ ds hs ↦ knownA
 abbrev pub there : {A : Type 0} → List ℕ → ℕ → A → At A
 there s t x = at (tokenPlace s t .line) (tokenPlace s t .column) x
 
--- with the rooms of 01's check program
+-- the rooms of 01's check program: "2,048 tokens, 2,048 nodes, 128 diagnostics and 512 statements"
+abbrev pub programTokens : ℕ
+programTokens = 2048
+
+abbrev pub programNodes : ℕ
+programNodes = 2048
+
+abbrev pub programDiags : ℕ
+programDiags = 128
+
+abbrev pub programStmts : ℕ
+programStmts = 512
+
+-- with those rooms
 abbrev pub checking : List ℕ → Seen
 checking s =
     let ts = contents (tokens s) in
     let k = knownAfter ts (statementsOf (program ts)) 1 (known [] []) in
-    seen (checkAnswer s 2048 2048 512 .verdict)
+    seen (checkAnswer s programTokens programNodes programStmts .verdict)
     (map (λ d. there s (d .at) (d .what)) (foundBy (checked s)))
     (map (λ h. there s (h .at) (h .value)) (heldBy (checked s)))
     (k .bindings)

@@ -277,16 +277,16 @@ abbrev mutual
   argsSize (given g e) = argsSize g + exprSize e + 1
   argsSize (named g t e) = argsSize g + exprSize e + 1
 
--- the row of the last of some arguments, the first of whose nodes is numbered k, plus 1; 0 where there is none
-abbrev pub lastOf : ℕ → Args → ℕ
-lastOf k none-given = 0
-lastOf k (given g e) = k + argsSize (given g e)
-lastOf k (named g t e) = k + argsSize (named g t e)
+-- the row of the first of some arguments, the first of whose nodes is numbered k, plus 1; `next` where there is none
+abbrev pub firstRow : ℕ → Args → ℕ → ℕ
+firstRow k none-given next = next
+firstRow k (given g e) next = firstRow k g (k + argsSize (given g e))
+firstRow k (named g t e) next = firstRow k g (k + argsSize (named g t e))
 
 -- the nodes of a tree, a child before its parent, the first of them numbered k. A node has its kind, its token, and the
 -- rows of its children: of a member the object's row and the name's token, of `/` both operands' rows, of a call the
--- callee's row, the last argument's row plus 1 and the token of `(`, of an argument its value's row and the row of the
--- argument before it plus 1.
+-- callee's row, the first argument's row plus 1 and the token of `(`, of an argument its value's row and the next
+-- argument's row plus 1, 0 for none. The last of some arguments names `next`.
 abbrev mutual
   pub exprNodes : ℕ → Expr → List Node
   exprNodes k (literal t) = node 2 t 0 0 0 ∷ []
@@ -297,14 +297,14 @@ abbrev mutual
   exprNodes k (slash′ a b) =
       exprNodes k a ++ exprNodes (k + exprSize a) b ++ node 7 (firstOf a) (k + exprSize a - 1) (k + exprSize a + exprSize b - 1) 0 ∷ []
   exprNodes k (call e t g) =
-      exprNodes k e ++ argNodes (k + exprSize e) g ++ node callKind (firstOf e) (k + exprSize e - 1) (lastOf (k + exprSize e) g) t ∷ []
+      exprNodes k e ++ argNodes (k + exprSize e) g 0 ++ node callKind (firstOf e) (k + exprSize e - 1) (firstRow (k + exprSize e) g 0) t ∷ []
 
-  pub argNodes : ℕ → Args → List Node
-  argNodes k none-given = []
-  argNodes k (given g e) =
-      argNodes k g ++ exprNodes (k + argsSize g) e ++ node 9 (firstOf e) (k + argsSize g + exprSize e - 1) (lastOf k g) 0 ∷ []
-  argNodes k (named g t e) =
-      argNodes k g ++ exprNodes (k + argsSize g) e ++ node 10 t (k + argsSize g + exprSize e - 1) (lastOf k g) 0 ∷ []
+  pub argNodes : ℕ → Args → ℕ → List Node
+  argNodes k none-given next = []
+  argNodes k (given g e) next =
+      argNodes k g (k + argsSize (given g e)) ++ exprNodes (k + argsSize g) e ++ node 9 (firstOf e) (k + argsSize g + exprSize e - 1) next 0 ∷ []
+  argNodes k (named g t e) next =
+      argNodes k g (k + argsSize (named g t e)) ++ exprNodes (k + argsSize g) e ++ node 10 t (k + argsSize g + exprSize e - 1) next 0 ∷ []
 
 abbrev pub stmtNodes : ℕ → Stmt → List Node
 stmtNodes k (import′ t) = node 11 t 0 0 0 ∷ []
@@ -397,7 +397,7 @@ programSize (s ∷ ss) = stmtSize s + programSize ss
 
 abbrev pub NodesCounted : Type 0
 NodesCounted =
-    ((k : ℕ) (e : Expr) → length (exprNodes k e) ≡ exprSize e) × ((k : ℕ) (g : Args) → length (argNodes k g) ≡ argsSize g)
+    ((k : ℕ) (e : Expr) → length (exprNodes k e) ≡ exprSize e) × ((k : ℕ) (g : Args) (next : ℕ) → length (argNodes k g next) ≡ argsSize g)
     × ((k : ℕ) (s : Stmt) → length (stmtNodes k s) ≡ stmtSize s) × ((ss : List Stmt) → length (nodes ss) ≡ programSize ss)
 
 -- the rows determine the trees

@@ -7,10 +7,9 @@ use native.Mathlib.Omega.{arith}
 use lib.ListN.{length, take, drop}
 use Rattle.language.specs.Lexemes as language
 use Rattle.language.specs.Lexemes.{Kind, trivia, str, tok, error, placed, scanFrom, lexeme}
-use Rattle.language.specs.Tokens.{lineAt, Piece, wrong, Item, unquoted, pieceOf, itemOf, Wrong, orElse, firstWrong, between}
+use Rattle.language.specs.Tokens.{lineAt, Piece, wrong, Item, unquoted, pieceOf, itemOf, Wrong, orElse, firstWrong}
 use Rattle.language.specs.Numbers as numbers
 use Rattle.language.proofs.Tests.{never}
-use Rattle.language.proofs.Parts.{part-size}
 use Rattle.lexemes.specs.declared.LexErrorKind.{LexErrorKind}
 use Rattle.lexemes.specs.declared.LexemeKind.{LexemeKind}
 use Rattle.lexemes.specs.declared.LexemeKind.the-variants as kind-is
@@ -162,17 +161,10 @@ module _ (x : Lexer) (t : List ℕ) (start : ℕ) (line : List ℕ) where
           fed = λ s h. rw (← all) (f .right, f .holds s h);
         }
 
--- ---- a line of a source
+-- ---- a line
 
-module _ (source : List ℕ) (start end : ℕ) (h : start ≤ end) (k : end ≤ length source) where
-  part-ends : start + length (between source start end) ≡ end
-  part-ends = omega (arith, part-size source start end k, h)
-
-  pub part-fits : {n : ℕ} → end ≤ n → start + length (between source start end) ≤ n
-  part-fits m = rw part-ends m
-
-  -- the lexer that feeds it counts a line more, and holds the same
-  pub numbered : (x : Lexer) (t : List ℕ) (r : Fed) (u : List ℕ) (n : ℕ) (is : List Item)
-      → Feeds (record { lno = n; count = x .count; pending = x .pending }) t r u n (start + length (between source start end)) is → Feeds x t r u n end is
-  numbered x t r u n is f =
-      record { size = f .size; few = rw part-ends at (f .few); fed = λ s g. f .fed s (record { rows = g .rows; counted = g .counted; waits = g .waits }) }
+-- the lexer that feeds it counts a line more, and holds the same
+pub numbered : (x : Lexer) (t : List ℕ) (r : Fed) (u : List ℕ) (n at : ℕ) (is : List Item)
+    → Feeds (record { lno = n; count = x .count; pending = x .pending }) t r u n at is → Feeds x t r u n at is
+numbered x t r u n at is f =
+    record { size = f .size; few = f .few; fed = λ s g. f .fed s (record { rows = g .rows; counted = g .counted; waits = g .waits }) }

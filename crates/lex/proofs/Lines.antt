@@ -13,6 +13,7 @@ use Rattle.language.specs.Lexemes.{run, notNewline}
 use Rattle.language.specs.Tables.{tokenRow, tokenWidth}
 use Rattle.language.specs.Tokens.{Line, lineAt, onto, linesFrom, lines, Item, itemsFrom, items, firstWrong, between}
 use Rattle.language.proofs.Tests.{by-cases}
+use Rattle.language.proofs.Parts.{part-size}
 use Rattle.table.specs.Table.{padTo}
 use Rattle.table.proofs.Laws.{tabled-none}
 use Rattle.scan.specs.declared.Verdict.{Verdict}
@@ -77,10 +78,18 @@ few-lines at (b ∷ s) =
     go [] h = omega arith
     go (l ∷ ls) h = omega arith
 
+-- a line ends within the source
+pub end-within : (s : List ℕ) (at e : ℕ) → at ≤ length s → e ≡ lineEnd s at → (at ≤ e) × (e ≤ length s)
+end-within s at e l q = let h = run-fits notNewline (drop at s) in let k = length-drop at s in (omega arith, omega arith)
+
 -- the line that starts at `at` and ends at e
 module _ (s : List ℕ) (at : ℕ) (l : at < length s) (e : ℕ) (q : e ≡ lineEnd s at) where
-  pub end-within : (at ≤ e) × (e ≤ length s)
-  end-within = let h = run-fits notNewline (drop at s) in let k = length-drop at s in (omega arith, omega arith)
+  within-source : (at ≤ e) × (e ≤ length s)
+  within-source = end-within s at e (omega arith) q
+
+  -- it ends where its bytes do
+  line-size : at + length (between s at e) ≡ e
+  line-size = let h = within-source in omega (arith, part-size s at e (h .1))
 
   next-line : linesFrom at (drop at s) ≡ lineAt at (between s at e) ∷ linesFrom (e + 1) (drop (e + 1) s)
   next-line =
@@ -132,11 +141,14 @@ start s t x e =
     }
 
 module _ (s t u : List ℕ) (x : Lexer) (at : ℕ) (f : LinesFed s t u x at) where
-  pub few : length s ≤ 65536 → at < length s → Few x at
-  few h l = record { lines = omega (arith, f .few-lines); tokens = f .few-tokens; short = omega arith }
-
   -- a line more
   module _ (l : at < length s) (e : ℕ) (q : e ≡ lineEnd s at) where
+    -- what the call asks for
+    pub ready : length s ≤ 65536 → Few x at × (at + length (between s at e) ≤ 65536)
+    ready h =
+        let few : Few x at = record { lines = omega (arith, f .few-lines); tokens = f .few-tokens; short = omega arith } in
+        (few, omega (arith, line-size s at l e q, within-source s at l e q .1))
+
     abbrev line : List Item
     line = lineItems (x .lno + 1) at (between s at e)
 
@@ -162,7 +174,7 @@ module _ (s t u : List ℕ) (x : Lexer) (at : ℕ) (f : LinesFed s t u x at) whe
 
     goes : (y : Lexer) (w : List ℕ) → Feeds x u (Goes y) w (x .lno + 1) e line → LinesFed s t w y (e + 1)
     goes y w r =
-        let i = end-within s at l e q in
+        let i = within-source s at l e q in
         let n = r .few .0 in
         let m = r .few .1 in
         let o = f .few-lines in
@@ -183,11 +195,14 @@ module _ (s t u : List ℕ) (x : Lexer) (at : ℕ) (f : LinesFed s t u x at) whe
         }
 
     -- the same from what the call says of its result
-    pub stopped : {r : Fed} (v : Verdict) {w : List ℕ} → r ≡ Stops v → Feeds x u r w (x .lno + 1) e line → FeedsAll t r w s
-    stopped v {w} d g = rw d (stops v w (rw d at g))
+    abbrev Said : Fed → List ℕ → Type 0
+    Said r w = Feeds x u r w (x .lno + 1) (at + length (between s at e)) line
 
-    pub more : {r : Fed} (y : Lexer) {w : List ℕ} → r ≡ Goes y → Feeds x u r w (x .lno + 1) e line → LinesFed s t w y (e + 1)
-    more y {w} d g = goes y w (rw d at g)
+    pub stopped : {r : Fed} (v : Verdict) {w : List ℕ} → r ≡ Stops v → Said r w → FeedsAll t r w s
+    stopped v {w} d g = rw d (stops v w (rw (d, line-size s at l e q) at g))
+
+    pub more : {r : Fed} (y : Lexer) {w : List ℕ} → r ≡ Goes y → Said r w → LinesFed s t w y (e + 1)
+    more y {w} d g = goes y w (rw (d, line-size s at l e q) at g)
 
   pub finished : length s ≤ at → FeedsAll t (Goes x) u s
   finished h =

@@ -3,7 +3,7 @@
 ghost use mathlib.Core.Path.{_≡_};
 ghost use Prim.Native.Nat.{_+_, _≤_};
 ghost use lib.ListN.{length};
-ghost use Rattle.language.specs.Tokens.{placeOf, between, bodiesIn, mostBytes};
+ghost use Rattle.language.specs.Tokens.{placeOf, bodiesIn, mostBytes};
 ghost use Rattle.lex.specs.Entry.{LexSource, StringBody};
 ghost use Rattle.lexemes.specs.Kinds.{errorNumber, errorChar};
 ghost use Rattle.lex.specs.Lexing.{Strings, Flushes, Tokens, Few, lineItems, Feeds, Finishes, lineEnd, FeedsAll, locAs, nth};
@@ -195,10 +195,11 @@ impl Lexer {
         }
     }
 
-    // Lexes one line, which is lent as a part of the source: from `start` up to `end`.
-    pub fn line(self, source: &[u8], start: usize, end: usize, table: &mut [u64]) -> Fed
-        requires { ⌜ Few self start × (start ≤ end) × (end ≤ length (now source)) × (end ≤ mostBytes) ⌝ }
-        ensures { λ r. ⌜ Feeds self (now (table .entry)) r (now (table .exit)) (self .lno + 1) end (lineItems (self .lno + 1) start (between (now (source .entry)) start end)) ⌝ }
+    // Lexes one line, lent without its byte 10, of which the first byte stands at `start` of the source. The source is not asked for,
+    // so the line may stand anywhere.
+    pub fn line(self, line: &[u8], start: usize, table: &mut [u64]) -> Fed
+        requires { ⌜ Few self start × (start + length (now line) ≤ mostBytes) ⌝ }
+        ensures { λ r. ⌜ Feeds self (now (table .entry)) r (now (table .exit)) (self .lno + 1) (start + length (now (line .entry))) (lineItems (self .lno + 1) start (now (line .entry))) ⌝ }
     {
         let pending = self.pending;
         let lexer = Lexer {
@@ -206,7 +207,7 @@ impl Lexer {
             count: self.count,
             pending: pending,
         };
-        lexer.lexemes(&source[start..end], start, table)
+        lexer.lexemes(line, start, table)
     }
 
     // After the last line of a source of `size` bytes: the string that waits is written, and then `Eof`.
@@ -251,6 +252,7 @@ fn lexical(e: LexErrorKind, lno: u64, from: usize) -> Verdict
 fn line_end(source: &[u8], at: usize) -> usize
     requires { ⌜ at ≤ length (now source) ⌝ }
     ensures { λ r. ⌜ r ≡ lineEnd (now (source .entry)) at ⌝ }
+    ensures { λ r. ⌜ (at ≤ r) × (r ≤ length (now (source .entry))) ⌝ }
 {
     runs::eat_comment(source, at)
 }
@@ -287,7 +289,7 @@ fn feed_lines(source: &[u8], table: &mut [u64]) -> Fed
     let mut at = 0;
     while at < source.len() {
         let end = line_end(source, at);
-        let fed = lexer.line(source, at, end, table);
+        let fed = lexer.line(&source[at..end], at, table);
         let Fed::Goes(next) = fed else {
             return fed;
         };

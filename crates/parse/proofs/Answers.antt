@@ -1,12 +1,12 @@
 -- What the code's answers mean: from an answer that meets an outcome to the outcome, and back; and how far the code went.
 use mathlib.Core.Path.{_≡_, refl}
 use mathlib.Core.List.{List}
-use Prim.Native.Nat.{ℕ, _+_, _*_, _≤_}
+use Prim.Native.Nat.{ℕ, _+_, _*_, _≤_, _<_}
 use native.Mathlib.Omega.{arith}
 use lib.ListN.{length}
 use Rattle.language.specs.Sentences.{Expr, Args, Stmt, Out, ok, no, Node, nodesFrom}
 use Rattle.language.proofs.Tests.{never}
-use Rattle.parse.specs.Parsing.{Holds, withStmt, Stands, Lists, MetExpr, MetArg, MetArgs, MetStmt, MetAll, Ahead, AheadList}
+use Rattle.parse.specs.Parsing.{Holds, withStmt, Stands, Lists, MetExpr, MetArgs, MetStmt, MetAll, Ahead, AheadList}
 use Rattle.parse.specs.declared.Parsed.{Parsed}
 use Rattle.parse.specs.declared.Parsed.the-variants.{Done, Refused}
 use Rattle.parse.specs.declared.Listed.{Listed}
@@ -38,40 +38,25 @@ module _ {r : Parsed} {t : List ℕ} {ns : List Node} {first : ℕ} where
 
 -- ---- arguments
 
-listing : {t : List ℕ} {ns : List Node} {g : Args} {m n last end : ℕ} → m ≡ n → last ≡ end → Lists t ns g m last → Lists t ns g n end
+listing : {t : List ℕ} {ns : List Node} {g : Args} {m n first start : ℕ} → m ≡ n → first ≡ start → Lists t ns g m first → Lists t ns g n start
 listing p q h = rw (p, q) at h
 
-module _ {r : Parsed} {t : List ℕ} {ns : List Node} where
-  pub arg-done : {o : Out Args} {next n s : ℕ} → r ≡ Done next n s → MetArg r t ns o → (g : Args) × (o ≡ ok g next s) × Lists t ns g n n
-  arg-done {o = ok g at x} {n = n} q h = let d = h .met in let p : r ≡ Done at (d .0) x = d .1 in let same : d .0 ≡ n = cc in (g, (cc), listing same same (d .2))
-  arg-done {o = no m k a} q h = let p = h .met in never (cc)
-
-  pub arg-refused : {o : Out Args} {n k a : ℕ} → r ≡ Refused n k a → MetArg r t ns o → o ≡ no n k a
-  arg-refused {o = ok g at s} q h = let p = h .met .1 in never (cc)
-  arg-refused {o = no m j b} q h = let p = h .met in cc
-
-pub met-arg : {t : List ℕ} {ns : List Node} {o : Out Args} {g : Args} {at n s : ℕ} → o ≡ ok g at s → Lists t ns g n n → MetArg (Done at n s) t ns o
-met-arg {n = n} q h = record { met = rw q (n, refl, h) }
-
-pub met-arg-no : {t : List ℕ} {ns : List Node} {o : Out Args} {n k a : ℕ} → o ≡ no n k a → MetArg (Refused n k a) t ns o
-met-arg-no q = record { met = rw q refl }
-
 module _ {r : Listed} {t : List ℕ} {ns : List Node} where
-  pub list-done : {o : Out Args} {next n last : ℕ} → r ≡ listed.Done next n last → MetArgs r t ns o → (g : Args) × (s : ℕ) × (o ≡ ok g next s) × Lists t ns g n last
-  list-done {o = ok g at x} {n = n} {last} q h =
+  pub list-done : {o : Out Args} {next n first : ℕ} → r ≡ listed.Done next n first → MetArgs r t ns o → (g : Args) × (s : ℕ) × (o ≡ ok g next s) × Lists t ns g n first
+  list-done {o = ok g at x} {n = n} {first} q h =
       let d = h .met in
       let p : r ≡ listed.Done at (d .0) (d .1) = d .2 in
       let same : d .0 ≡ n = cc in
-      let end : d .1 ≡ last = cc in
-      (g, x, (cc), listing same end (d .3))
+      let start : d .1 ≡ first = cc in
+      (g, x, (cc), listing same start (d .3))
   list-done {o = no m k a} q h = let p = h .met in never (cc)
 
   pub list-refused : {o : Out Args} {n k a : ℕ} → r ≡ listed.Refused n k a → MetArgs r t ns o → o ≡ no n k a
   list-refused {o = ok e at s} q h = let p = h .met .2 in never (cc)
   list-refused {o = no m j b} q h = let p = h .met in cc
 
-pub list-ok : {t : List ℕ} {ns : List Node} {o : Out Args} {g : Args} {at n last s : ℕ} → o ≡ ok g at s → Lists t ns g n last → MetArgs (listed.Done at n last) t ns o
-list-ok {n = n} {last} q h = record { met = rw q (n, last, refl, h) }
+pub list-ok : {t : List ℕ} {ns : List Node} {o : Out Args} {g : Args} {at n first s : ℕ} → o ≡ ok g at s → Lists t ns g n first → MetArgs (listed.Done at n first) t ns o
+list-ok {n = n} {first} q h = record { met = rw q (n, first, refl, h) }
 
 pub list-no : {t : List ℕ} {ns : List Node} {o : Out Args} {n k a : ℕ} → o ≡ no n k a → MetArgs (listed.Refused n k a) t ns o
 list-no q = record { met = rw q refl }
@@ -119,9 +104,9 @@ pub ahead-more : {r : Parsed} {d x len at count steps next n s : ℕ} → at + d
 ahead-more {r = Done m k j} p q u v h = record { on = omega (arith, h .on) }
 ahead-more {r = Refused m k a} p q u v h = record { on = h .on }
 
-module _ {r : Listed} {len at count : ℕ} where
-  pub ahead-list : {next n last : ℕ} → r ≡ listed.Done next n last → AheadList len at count r → (at + 2 ≤ next) × (7 * next ≤ len) × (count ≤ n) × (n + 2 * at + 2 ≤ count + 2 * next) × (last ≤ n)
+module _ {r : Listed} {d len at count : ℕ} where
+  pub ahead-list : {next n first : ℕ} → r ≡ listed.Done next n first → AheadList d len at count r → (at + d < next) × (7 * next ≤ len) × (count ≤ n) × (n + 2 * at + d ≤ count + 2 * next) × (first ≤ n)
   ahead-list e h = rw e at (h .on)
 
-  pub ahead-list-place : {n k a : ℕ} → r ≡ listed.Refused n k a → AheadList len at count r → a ≤ len + 3
+  pub ahead-list-place : {n k a : ℕ} → r ≡ listed.Refused n k a → AheadList d len at count r → a ≤ len + 3
   ahead-list-place e h = rw e at (h .on)

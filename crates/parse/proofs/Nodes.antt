@@ -2,15 +2,15 @@
 use mathlib.Core.Path.{_≡_, refl, sym, ap, _∙_}
 use mathlib.Core.Bool.{Bool, true, false}
 use mathlib.Core.List.{List, [], _∷_, _++_, append-assoc, append-nil}
-use Prim.Native.Nat.{ℕ, suc, _+_, _-_, _*_}
+use Prim.Native.Nat.{ℕ, suc, _+_, _-_, _*_, _≤_, _<_}
 use native.Mathlib.Numerals.{add-one}
 use native.Mathlib.Omega.{arith}
-use lib.ListN.{length, length-append}
+use lib.ListN.{length, set, length-append}
 use Rattle.table.specs.Table.{tabled, putRow}
-use Rattle.table.proofs.Laws.{put-next, tabled-own}
-use Rattle.language.specs.Sentences.{Expr, path, member, call, slash′, Args, none-given, Stmt, let′, expr′, firstOf, Node, node, nameNodes, exprSize, argsSize, lastOf, exprNodes, stmtNodes, nodesFrom, nodeRow, nodeWidth}
+use Rattle.table.proofs.Laws.{put-next, put-in, put-lost, tabled-own}
+use Rattle.language.specs.Sentences.{Expr, path, member, call, slash′, Args, none-given, given, named, Stmt, let′, expr′, firstOf, Node, node, nameNodes, exprSize, argsSize, firstRow, exprNodes, argNodes, stmtNodes, nodesFrom, nodeRow, nodeWidth}
 use Rattle.language.proofs.NodeClaims.{row-long, expr-long, args-long}
-use Rattle.parse.specs.Parsing.{argKind, valueFrom, withArg, Holds, Pushes, withExpr, withArgs, withStmt, Stands, Lists}
+use Rattle.parse.specs.Parsing.{argKind, valueFrom, withArg, Holds, Pushes, naming, Links, withExpr, withArgs, withStmt, Stands, Lists}
 
 -- ---- one node more
 
@@ -30,25 +30,92 @@ pub grown : {t t′ : List ℕ} {ms ns : List Node} {count : ℕ} {n : Node} →
     → (length ns ≡ count + 1) × Holds t′ ns
 grown {ms = ms} p l h e = rw (← e) (simp length-append (omega arith), p .one ms l h)
 
+-- a word stored in a row that has room, and nothing in one that has none: its node has another second number
+module _ (t t′ : List ℕ) (row next : ℕ) where
+  pub linked : 5 * row + 5 ≤ length t → t′ ≡ set t (5 * row + 3) next → Links t t′ row next
+  unfolding nodeRow
+  linked room e = record {
+    one = λ xs ys n l h.
+        let place : 5 * row + 3 ≡ length xs * nodeWidth + 3 = omega arith in
+        let q : t′ ≡ tabled nodeRow nodeWidth (length t) (xs ++ naming n next ∷ ys) =
+        e ∙ ap (λ (x : List ℕ). set x (5 * row + 3) next) (h .rows)
+        ∙ rw place (put-in nodeRow nodeWidth row-long (omega arith) (length t) xs ys n (naming n next) (n .kind ∷ n .tok ∷ n .first ∷ []) (n .third ∷ []) (n .second) next refl refl (omega arith)) in
+        record { rows = tabled-own nodeRow nodeWidth (length t) (length t′) (xs ++ naming n next ∷ ys) q refl };
+  }
+
+  pub unlinked : length t < 5 * row + 5 → t′ ≡ t → Links t t′ row next
+  unlinked full e = record {
+    one = λ xs ys n l h.
+        let q : t′ ≡ tabled nodeRow nodeWidth (length t) (xs ++ naming n next ∷ ys) =
+        e ∙ h .rows ∙ put-lost nodeRow nodeWidth row-long (omega arith) (length t) xs ys n (naming n next) (omega arith) in
+        record { rows = tabled-own nodeRow nodeWidth (length t) (length t′) (xs ++ naming n next ∷ ys) q refl };
+  }
+
 -- ---- how many nodes there are
 
 with-expr : (ns : List Node) (e : Expr) → length (withExpr ns e) ≡ length ns + exprSize e
 with-expr ns e = simp length-append (omega (arith, expr-long (length ns) e))
 
 with-args : (ns : List Node) (g : Args) → length (withArgs ns g) ≡ length ns + argsSize g
-with-args ns g = simp length-append (omega (arith, args-long (length ns) g))
+with-args ns g = simp length-append (omega (arith, args-long (length ns) g 0))
 
 -- ---- trees that grow
 
--- the nodes of one argument more, and its row
+-- an argument and those before it
 arg-nodes : (ns : List Node) (g : Args) (e : Expr) (b : Bool) (at : ℕ) → firstOf e ≡ valueFrom b at
-    → withExpr (withArgs ns g) e ++ node (argKind b) at (length ns + argsSize g + exprSize e - 1) (lastOf (length ns) g) 0 ∷ [] ≡ withArgs ns (withArg b g at e)
-arg-nodes ns g e true at f = rw (with-args ns g) (simp append-assoc)
-arg-nodes ns g e false at f = rw (with-args ns g, f) (simp append-assoc)
+    → (ns ++ argNodes (length ns) g (length ns + (argsSize g + exprSize e + 1))) ++ exprNodes (length ns + argsSize g) e
+    ++ node (argKind b) at (length ns + argsSize g + exprSize e - 1) 0 0 ∷ [] ≡ withArgs ns (withArg b g at e)
+arg-nodes ns g e true at f = simp append-assoc
+arg-nodes ns g e false at f = rw f (simp append-assoc)
 
-arg-last : (k : ℕ) (g : Args) (e : Expr) (b : Bool) (at : ℕ) → lastOf k (withArg b g at e) ≡ k + (argsSize g + exprSize e + 1)
-arg-last k g e true at = refl
-arg-last k g e false at = refl
+arg-first : (k : ℕ) (g : Args) (e : Expr) (b : Bool) (at : ℕ) → firstRow k (withArg b g at e) 0 ≡ firstRow k g (k + (argsSize g + exprSize e + 1))
+arg-first k g e true at = refl
+arg-first k g e false at = refl
+
+arg-size : (g : Args) (e : Expr) (b : Bool) (at : ℕ) → argsSize (withArg b g at e) ≡ argsSize g + exprSize e + 1
+arg-size g e true at = refl
+arg-size g e false at = refl
+
+some-row : (k : ℕ) (g : Args) (next : ℕ) → 0 < next → 0 < firstRow k g next
+some-row k none-given next h = h
+some-row k (given g e) next h = some-row k g (k + argsSize (given g e)) (omega arith)
+some-row k (named g t e) next h = some-row k g (k + argsSize (named g t e)) (omega arith)
+
+-- where there is no first argument there is none
+no-first : (k : ℕ) (g : Args) → firstRow k g 0 ≡ 0 → g ≡ none-given
+no-first k none-given h = refl
+no-first k (given g e) h = absurd (omega (arith, h, some-row k g (k + argsSize (given g e)) (omega arith)))
+no-first k (named g t e) h = absurd (omega (arith, h, some-row k g (k + argsSize (named g t e)) (omega arith)))
+
+-- where there are arguments, it is the last node that names what comes next
+record Ends (k : ℕ) (g : Args) : Type 0 where
+  front : List Node
+  last : Node
+  nodes : (next : ℕ) → argNodes k g next ≡ front ++ naming last next ∷ []
+  long : length front + 1 ≡ argsSize g
+  same : (next : ℕ) → firstRow k g next ≡ firstRow k g 0
+
+ends : (k : ℕ) (g : Args) → (firstRow k g 0 ≡ 0 → ⊥) → Ends k g
+ends k none-given h = absurd (h refl)
+ends k (given g e) h =
+    record {
+      front = argNodes k g (k + argsSize (given g e)) ++ exprNodes (k + argsSize g) e;
+      last = node 9 (firstOf e) (k + argsSize g + exprSize e - 1) 0 0;
+      nodes = λ next. refl;
+      long = simp length-append (omega (arith, args-long k g (k + argsSize (given g e)), expr-long (k + argsSize g) e));
+      same = λ next. refl;
+    }
+ends k (named g t e) h =
+    record {
+      front = argNodes k g (k + argsSize (named g t e)) ++ exprNodes (k + argsSize g) e;
+      last = node 10 t (k + argsSize g + exprSize e - 1) 0 0;
+      nodes = λ next. refl;
+      long = simp length-append (omega (arith, args-long k g (k + argsSize (named g t e)), expr-long (k + argsSize g) e));
+      same = λ next. refl;
+    }
+
+regroup : (ws xs ys zs : List Node) (n : Node) → (ws ++ (xs ++ n ∷ [])) ++ ys ++ zs ≡ (ws ++ xs) ++ n ∷ (ys ++ zs)
+regroup ws xs ys zs n = simp append-assoc
 
 module _ {t t′ : List ℕ} where
   -- a tree of one node
@@ -77,29 +144,67 @@ module _ {t t′ : List ℕ} where
         record { long = g .0; held = g .1; starts = s .starts }
 
     -- the arguments came after the callee
-    pub call-pushed : {a : Args} {m last tok : ℕ} → Lists t (withExpr ns e) a m last → Pushes t t′ m (node 8 first (have - 1) last tok)
+    pub call-pushed : {a : Args} {m start tok : ℕ} → Lists t (withExpr ns e) a m start → Pushes t t′ m (node 8 first (have - 1) start tok)
         → Stands t′ ns (call e tok a) (m + 1) first
-    call-pushed {a} {m} {last} {tok} s′ p =
+    call-pushed {a} {m} {start} {tok} s′ p =
         let w = with-expr ns e in
         let row : have - 1 ≡ length ns + exprSize e - 1 = omega (arith, s .long) in
-        let end : last ≡ lastOf (length ns + exprSize e) a = sym (s′ .ends) ∙ ap (λ (k : ℕ). lastOf k a) w in
-        let same : withArgs (withExpr ns e) a ++ node 8 first (have - 1) last tok ∷ [] ≡ withExpr ns (call e tok a) = rw (row, end, w, s .starts) (simp append-assoc) in
+        let row′ : start ≡ firstRow (length ns + exprSize e) a 0 = sym (s′ .starts) ∙ ap (λ (k : ℕ). firstRow k a 0) w in
+        let same : withArgs (withExpr ns e) a ++ node 8 first (have - 1) start tok ∷ [] ≡ withExpr ns (call e tok a) = rw (row, row′, w, s .starts) (simp append-assoc) in
         let g = grown p (s′ .long) (s′ .held) same in
         record { long = g .0; held = g .1; starts = s .starts }
 
   -- the argument came after those before it
-  pub arg-pushed : {t₀ : List ℕ} {ns : List Node} {g : Args} {have last m v k : ℕ} {e : Expr} (b : Bool) (at : ℕ) → Lists t₀ ns g have last → Stands t (withArgs ns g) e m v
-      → v ≡ valueFrom b at → k ≡ argKind b → Pushes t t′ m (node k at (m - 1) last 0) → Lists t′ ns (withArg b g at e) (m + 1) (m + 1)
-  arg-pushed {ns = ns} {g} {have} {last} {m} {v} {k} {e} b at s s′ ev ek p =
-      let long : m ≡ length ns + argsSize g + exprSize e = sym (s′ .long) ∙ with-expr (withArgs ns g) e ∙ ap (λ (n : ℕ). n + exprSize e) (with-args ns g) in
-      let same : withExpr (withArgs ns g) e ++ node k at (m - 1) last 0 ∷ [] ≡ withArgs ns (withArg b g at e) = rw (long, ek, ← s .ends) (arg-nodes ns g e b at (s′ .starts ∙ ev)) in
-      let q = grown p (s′ .long) (s′ .held) same in
-      let end : length ns + (argsSize g + exprSize e + 1) ≡ m + 1 = omega arith in
-      record { long = q .0; held = q .1; ends = arg-last (length ns) g e b at ∙ end }
+  module _ {t₀ : List ℕ} {ns : List Node} {g : Args} {have first m v k : ℕ} {e : Expr} (b : Bool) (at : ℕ) (s : Lists t₀ ns g have first)
+      (s′ : Stands t (withArgs ns g) e m v) (ev : v ≡ valueFrom b at) (ek : k ≡ argKind b) (p : Pushes t t′ m (node k at (m - 1) 0 0)) where
+    long : m ≡ length ns + argsSize g + exprSize e
+    long = sym (s′ .long) ∙ with-expr (withArgs ns g) e ∙ ap (λ (n : ℕ). n + exprSize e) (with-args ns g)
+
+    next : m + 1 ≡ length ns + (argsSize g + exprSize e + 1)
+    next = omega (arith, long)
+
+    -- its value's node and its own
+    abbrev value : List Node
+    value = exprNodes (length ns + argsSize g) e
+
+    abbrev own : List Node
+    own = node k at (m - 1) 0 0 ∷ []
+
+    held : Holds t′ ((ns ++ argNodes (length ns) g 0) ++ value ++ own)
+    held = rw (with-args ns g) at (p .one (withExpr (withArgs ns g) e) (s′ .long) (s′ .held))
+
+    -- the nodes that are then there, where those of the arguments before name it
+    same : {xs : List Node} → xs ≡ argNodes (length ns) g (m + 1) → (ns ++ xs) ++ value ++ own ≡ withArgs ns (withArg b g at e)
+    same q = rw (q, next, long, ek) (arg-nodes ns g e b at (s′ .starts ∙ ev))
+
+    listed : {u : List ℕ} {start : ℕ} → Holds u (withArgs ns (withArg b g at e)) → firstRow (length ns) g (m + 1) ≡ start
+        → Lists u ns (withArg b g at e) (m + 1) start
+    listed h f =
+        record {
+          long = with-args ns (withArg b g at e) ∙ rw (arg-size g e b at) (sym next);
+          held = h;
+          starts = arg-first (length ns) g e b at ∙ (rw next at f);
+        }
+
+    -- as the first
+    pub first-pushed : first ≡ 0 → Lists t′ ns (withArg b g at e) (m + 1) (m + 1)
+    first-pushed z =
+        let none = no-first (length ns) g (s .starts ∙ z) in
+        let q : argNodes (length ns) g 0 ≡ argNodes (length ns) g (m + 1) = rw none in
+        listed (rw (same q) at held) (rw none)
+
+    -- and as a further one, of which the one before was told
+    pub arg-pushed : {u : List ℕ} → (first ≡ 0 → ⊥) → Links t′ u (have - 1) (m + 1) → Lists u ns (withArg b g at e) (m + 1) first
+    arg-pushed {u} some q =
+        let d = ends (length ns) g (λ z. some (sym (s .starts) ∙ z)) in
+        let place : length (ns ++ d .front) ≡ have - 1 = simp length-append (omega (arith, s .long, with-args ns g, d .long)) in
+        let told = q .one (ns ++ d .front) (value ++ own) (naming (d .last) 0) place (rw (d .nodes 0, regroup) at held) in
+        let all : Holds u (withArgs ns (withArg b g at e)) = rw (← regroup ns (d .front) value own (naming (d .last) (m + 1)), same (sym (d .nodes (m + 1)))) at told in
+        listed all (d .same (m + 1) ∙ s .starts)
 
 -- no argument yet
 pub none-listed : {t : List ℕ} {ns : List Node} {count : ℕ} → length ns ≡ count → Holds t ns → Lists t ns none-given count 0
-none-listed {ns = ns} l h = record { long = rw append-nil l; held = rw append-nil h; ends = refl }
+none-listed {ns = ns} l h = record { long = rw append-nil l; held = rw append-nil h; starts = refl }
 
 -- ---- the names of a path
 

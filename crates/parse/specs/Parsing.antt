@@ -1,5 +1,5 @@
 -- How the parser's tables and answers stand for contents and trees.
-use Prim.Native.Nat.{ℕ, _+_, _*_, _≤_, _-_}
+use Prim.Native.Nat.{ℕ, _+_, _*_, _≤_, _<_, _-_}
 use mathlib.Core.Path.{_≡_}
 use mathlib.Core.Bool.{Bool, _&&_, _||_}
 use mathlib.Core.List.{List, [], _∷_, _++_}
@@ -9,7 +9,7 @@ use Rattle.table.specs.Table.{tabled}
 use Rattle.language.specs.Choice.{if′}
 use Rattle.language.specs.Tables.{contentKind}
 use Rattle.language.specs.Tokens.{Content, eof, mostTokens}
-use Rattle.language.specs.Sentences.{Expr, Args, given, named, Stmt, expr′, firstOf, Port, port, tooLarge, notPort, portOf, Out, ok, no, andThen, mostLists, exprAt, ended, Node, exprNodes, argNodes, lastOf, stmtNodes, nodes, nodeRow, nodeWidth, largestPort}
+use Rattle.language.specs.Sentences.{Expr, Args, given, named, Stmt, expr′, firstOf, Port, port, tooLarge, notPort, portOf, Out, ok, no, andThen, mostLists, exprAt, ended, Node, node, exprNodes, argNodes, firstRow, stmtNodes, nodes, nodeRow, nodeWidth, largestPort}
 use Rattle.scan.specs.declared.Verdict.{Verdict}
 use Rattle.parse.specs.declared.Parsed.{Parsed}
 use Rattle.parse.specs.declared.Parsed.the-variants.{Done, Refused}
@@ -76,12 +76,20 @@ pub record Holds (t : List ℕ) (ns : List Node) : Type 0 where
 pub record Pushes (t t′ : List ℕ) (count : ℕ) (n : Node) : Type 0 where
   pub one : (ns : List Node) → length ns ≡ count → Holds t ns → Holds t′ (ns ++ n ∷ [])
 
+-- a node with another second number
+abbrev pub naming : Node → ℕ → Node
+naming n next = node (n .kind) (n .tok) (n .first) next (n .third)
+
+-- t′ holds the nodes of t, but that the one in a row has another second number
+pub record Links (t t′ : List ℕ) (row next : ℕ) : Type 0 where
+  pub one : (xs ys : List Node) (n : Node) → length xs ≡ row → Holds t (xs ++ n ∷ ys) → Holds t′ (xs ++ naming n next ∷ ys)
+
 -- the nodes of an expression after those that are there
 abbrev pub withExpr : List Node → Expr → List Node
 withExpr ns e = ns ++ exprNodes (length ns) e
 
 abbrev pub withArgs : List Node → Args → List Node
-withArgs ns g = ns ++ argNodes (length ns) g
+withArgs ns g = ns ++ argNodes (length ns) g 0
 
 abbrev pub withStmt : List Node → Stmt → List Node
 withStmt ns s = ns ++ stmtNodes (length ns) s
@@ -92,11 +100,11 @@ pub record Stands (t : List ℕ) (ns : List Node) (e : Expr) (count first : ℕ)
   pub held : Holds t (withExpr ns e)
   pub starts : firstOf e ≡ first
 
--- the same of arguments, with the row of the last one plus 1
-pub record Lists (t : List ℕ) (ns : List Node) (g : Args) (count last : ℕ) : Type 0 where
+-- the same of arguments, with the row of the first one plus 1
+pub record Lists (t : List ℕ) (ns : List Node) (g : Args) (count first : ℕ) : Type 0 where
   pub long : length (withArgs ns g) ≡ count
   pub held : Holds t (withArgs ns g)
-  pub ends : lastOf (length ns) g ≡ last
+  pub starts : firstRow (length ns) g 0 ≡ first
 
 -- ---- answers
 
@@ -108,9 +116,9 @@ After toks t count P = (ts : List Content) (ns : List Node) → Rep toks ts → 
 abbrev pub AfterExpr : List ℕ → List ℕ → ℕ → ℕ → (List Content → List Node → Expr → Type 0) → Type 0
 AfterExpr toks t count first P = (ts : List Content) (ns : List Node) (e : Expr) → Rep toks ts → Stands t ns e count first → P ts ns e
 
--- and for all arguments that were parsed before, with the row of the last one plus 1
+-- and for all arguments that were parsed before, with the row of the first one plus 1
 abbrev pub AfterArgs : List ℕ → List ℕ → ℕ → ℕ → (List Content → List Node → Args → Type 0) → Type 0
-AfterArgs toks t count last P = (ts : List Content) (ns : List Node) (g : Args) → Rep toks ts → Lists t ns g count last → P ts ns g
+AfterArgs toks t count first P = (ts : List Content) (ns : List Node) (g : Args) → Rep toks ts → Lists t ns g count first → P ts ns g
 
 -- r is the code's answer and t its table, where the definition gives an outcome, after the nodes ns
 abbrev pub ExprOf : Parsed → List ℕ → List Node → ℕ → Out Expr → Type 0
@@ -120,16 +128,8 @@ ExprOf r t ns first (no n k at) = r ≡ Refused n k at
 pub record MetExpr (r : Parsed) (t : List ℕ) (ns : List Node) (first : ℕ) (o : Out Expr) : Type 0 where
   pub met : ExprOf r t ns first o
 
--- an argument and those before it: its own node is the last, so its row plus 1 is how many nodes there are
-abbrev pub ArgOf : Parsed → List ℕ → List Node → Out Args → Type 0
-ArgOf r t ns (ok g at s) = (n : ℕ) × (r ≡ Done at n s) × Lists t ns g n n
-ArgOf r t ns (no n k at) = r ≡ Refused n k at
-
-pub record MetArg (r : Parsed) (t : List ℕ) (ns : List Node) (o : Out Args) : Type 0 where
-  pub met : ArgOf r t ns o
-
 abbrev pub ArgsOf : Listed → List ℕ → List Node → Out Args → Type 0
-ArgsOf r t ns (ok g at s) = (n : ℕ) × (last : ℕ) × (r ≡ listed.Done at n last) × Lists t ns g n last
+ArgsOf r t ns (ok g at s) = (n : ℕ) × (first : ℕ) × (r ≡ listed.Done at n first) × Lists t ns g n first
 ArgsOf r t ns (no n k at) = r ≡ listed.Refused n k at
 
 pub record MetArgs (r : Listed) (t : List ℕ) (ns : List Node) (o : Out Args) : Type 0 where
@@ -168,12 +168,13 @@ AheadOf d len at count steps (Refused n k a) = a ≤ len + 3
 pub record Ahead (d len at count steps : ℕ) (r : Parsed) : Type 0 where
   pub on : AheadOf d len at count steps r
 
-abbrev pub AheadArgs : ℕ → ℕ → ℕ → Listed → Type 0
-AheadArgs len at count (listed.Done next n last) = (at + 2 ≤ next) × (7 * next ≤ len) × (count ≤ n) × (n + 2 * at + 2 ≤ count + 2 * next) × (last ≤ n)
-AheadArgs len at count (listed.Refused n k a) = a ≤ len + 3
+-- the same of arguments: by d + 1 tokens at least, and by d nodes less than two for each token
+abbrev pub AheadArgs : ℕ → ℕ → ℕ → ℕ → Listed → Type 0
+AheadArgs d len at count (listed.Done next n first) = (at + d < next) × (7 * next ≤ len) × (count ≤ n) × (n + 2 * at + d ≤ count + 2 * next) × (first ≤ n)
+AheadArgs d len at count (listed.Refused n k a) = a ≤ len + 3
 
-pub record AheadList (len at count : ℕ) (r : Listed) : Type 0 where
-  pub on : AheadArgs len at count r
+pub record AheadList (d len at count : ℕ) (r : Listed) : Type 0 where
+  pub on : AheadArgs d len at count r
 
 -- ---- places
 

@@ -1,7 +1,8 @@
 // The parser: trees as flat nodes. Ports parse.rs and ast.rs; the definitions are `Sentences` of the crate `language`.
-// A node is stored after its children, so a child is named by its row, which is always a smaller number. A store past the
-// table's end is lost, and every node is counted. Expressions, lists of arguments and arguments call each other: each list
-// that is opened leaves one list less to open.
+// A node is stored after its children, so a child is named by its row, which is always a smaller number. An argument names the
+// next one by its row too: it is told that number once the next one is stored. A store past the table's end is lost, and every
+// node is counted. Expressions, lists of arguments and arguments call each other: each list that is opened leaves one list less to
+// open.
 ghost use mathlib.Core.Path.{_≡_};
 ghost use mathlib.Core.List.{List, [], _∷_, _++_};
 ghost use Prim.Native.Nat.{ℕ, _+_, _*_, _<_, _≤_};
@@ -9,7 +10,7 @@ ghost use lib.ListN.{length, getD};
 ghost use Rattle.language.specs.Tokens.{Content, mostBytes, mostTokens};
 ghost use Rattle.language.specs.Sentences.{Stmt, Node, node, mostSteps, primary, address, named′, links, chainAt, slashes, exprAt, argOf, listAt, ended, importAt, letAt, stmtAt, program};
 ghost use Rattle.parse.specs.Entry.{GivesUp, Lexes, ParseSource};
-ghost use Rattle.parse.specs.Parsing.{kindAt, literalKind, portAt, portAs, portTokOf, isNamed, argKind, valueFrom, Room, Rep, Holds, Pushes, withStmt, exprStmt, After, AfterExpr, AfterArgs, MetExpr, MetArg, MetArgs, MetStmt, MetAll, Ahead, AheadList, rowVerdict, verdictAt};
+ghost use Rattle.parse.specs.Parsing.{kindAt, literalKind, portAt, portAs, portTokOf, isNamed, argKind, valueFrom, Room, Rep, Holds, Pushes, Links, withStmt, exprStmt, After, AfterExpr, AfterArgs, MetExpr, MetArgs, MetStmt, MetAll, Ahead, AheadList, rowVerdict, verdictAt};
 use rows::NodeKind;
 use rows::NodeRow;
 use rows::TokKind;
@@ -25,9 +26,9 @@ pub enum Parsed {
     Refused(u64, u64, usize),
 }
 
-// The same of a list of arguments.
+// The same of arguments.
 pub enum Listed {
-    // the next token, how many nodes there are then, and the row of the last argument plus 1, 0 where there is none
+    // the next token, how many nodes there are then, and the row of the first argument plus 1, 0 where there is none
     Done(usize, usize, usize),
     Refused(u64, u64, usize),
 }
@@ -132,6 +133,17 @@ fn push(
 {
     let row: [u64; NodeRow::WORDS] = [kind, tok as u64, first as u64, second as u64, third as u64];
     table::put_row(nodes, count, &row);
+}
+
+// Tells the argument in a row which one comes next, by that one's row plus 1.
+fn link(nodes: &mut [u64], row: usize, next: usize)
+    requires { ⌜ row ≤ 4294967296 ⌝ }
+    ensures { λ _. ⌜ Links (now (nodes .entry)) (now (nodes .exit)) row next ⌝ }
+{
+    let i = NodeRow::WORDS * row;
+    if i + NodeRow::WORDS <= nodes.len() {
+        nodes[i + NodeRow::SECOND] = next as u64;
+    }
 }
 
 fn unexpected(at: usize) -> Parsed
@@ -317,8 +329,8 @@ fn links(toks: &[u64], nodes: &mut [u64], p: Parser, start: usize, count: usize)
                 return too_deep(at);
             }
             match list(toks, nodes, at, have, p.lists) {
-                Listed::Done(next, m, last) => {
-                    push(nodes, m, NodeKind::CALL, p.first, have - 1, last, at);
+                Listed::Done(next, m, first) => {
+                    push(nodes, m, NodeKind::CALL, p.first, have - 1, first, at);
                     at = next;
                     have = m + 1;
                     more -= 1;
@@ -364,27 +376,39 @@ fn arg_head(toks: &[u64], at: usize) -> ArgHead
     }
 }
 
-// One argument. Its node names the argument before it by `last`, that one's row plus 1, 0 where there is none. That node
-// comes on top of the value's, so the bound on nodes starts from one more; the `,` or `)` that follows makes up for it.
-fn arg(toks: &[u64], nodes: &mut [u64], at: usize, count: usize, left: usize, last: usize) -> Parsed
-    requires { ⌜ Room (length (now toks)) at count ⌝ }
-    ensures { λ r. ⌜ Ahead 1 (length (now (toks .entry))) at (count + 1) 0 r ⌝ }
-    ensures { λ r. ⌜ AfterArgs (now (toks .entry)) (now (nodes .entry)) count last (λ ts ns g. MetArg r (now (nodes .exit)) ns (argOf ts (exprAt ts left) g at)) ⌝ }
+// One argument, after others of which `first` is the first one's row plus 1, 0 where there is none. The one before it stands in
+// the last row so far. Its own node comes on top of the value's, so the bound on nodes starts from one more; the `,` or `)` that
+// follows makes up for it.
+fn arg(
+    toks: &[u64],
+    nodes: &mut [u64],
+    at: usize,
+    count: usize,
+    left: usize,
+    first: usize,
+) -> Listed
+    requires { ⌜ Room (length (now toks)) at count × (first ≤ count) ⌝ }
+    ensures { λ r. ⌜ AheadList 0 (length (now (toks .entry))) at (count + 1) r ⌝ }
+    ensures { λ r. ⌜ AfterArgs (now (toks .entry)) (now (nodes .entry)) count first (λ ts ns g. MetArgs r (now (nodes .exit)) ns (argOf ts (exprAt ts left) g at)) ⌝ }
 {
     let head = arg_head(toks, at);
     match expr(toks, nodes, head.value, count, left) {
         Parsed::Done(next, m, _) => {
-            push(nodes, m, head.kind, at, m - 1, last, 0);
-            Parsed::Done(next, m + 1, 0)
+            push(nodes, m, head.kind, at, m - 1, 0, 0);
+            if first == 0 {
+                return Listed::Done(next, m + 1, m + 1);
+            }
+            link(nodes, count - 1, m + 1);
+            Listed::Done(next, m + 1, first)
         }
-        Parsed::Refused(number, kind, a) => Parsed::Refused(number, kind, a),
+        Parsed::Refused(number, kind, a) => Listed::Refused(number, kind, a),
     }
 }
 
 // The arguments from the `(` at `start` to its `)`.
 fn list(toks: &[u64], nodes: &mut [u64], start: usize, count: usize, left: usize) -> Listed
     requires { ⌜ Room (length (now toks)) start count × (kindAt (now toks) start ≡ 2) ⌝ }
-    ensures { λ r. ⌜ AheadList (length (now (toks .entry))) start count r ⌝ }
+    ensures { λ r. ⌜ AheadList 1 (length (now (toks .entry))) start count r ⌝ }
     ensures { λ r. ⌜ After (now (toks .entry)) (now (nodes .entry)) count (λ ts ns. MetArgs r (now (nodes .exit)) ns (listAt ts left start)) ⌝ }
 {
     if left == 0 {
@@ -392,25 +416,25 @@ fn list(toks: &[u64], nodes: &mut [u64], start: usize, count: usize, left: usize
     }
     let mut at = start + 1;
     let mut have = count;
-    let mut last: usize = 0;
+    let mut first: usize = 0;
     while kind_at(toks, at) != TokKind::RPAREN {
-        match arg(toks, nodes, at, have, left - 1, last) {
-            Parsed::Done(next, m, _) => {
+        match arg(toks, nodes, at, have, left - 1, first) {
+            Listed::Done(next, m, f) => {
                 have = m;
-                last = m;
+                first = f;
                 let t = kind_at(toks, next);
                 if t == TokKind::COMMA {
                     at = next + 1;
                 } else if t == TokKind::RPAREN {
-                    return Listed::Done(next + 1, have, last);
+                    return Listed::Done(next + 1, have, first);
                 } else {
                     return Listed::Refused(Verdict::SYNTAX, Verdict::UNEXPECTED_TOKEN, next);
                 }
             }
-            Parsed::Refused(number, kind, a) => return Listed::Refused(number, kind, a),
+            Listed::Refused(number, kind, a) => return Listed::Refused(number, kind, a),
         }
     }
-    Listed::Done(at + 1, have, last)
+    Listed::Done(at + 1, have, first)
 }
 
 // ---- statements

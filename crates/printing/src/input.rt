@@ -2,6 +2,8 @@
 // longer than a chunk.
 ghost use Prim.Native.Nat.{_≤_};
 ghost use lib.ListN.{length};
+use crate::streams;
+use crate::streams::Read;
 
 // What is not yet read of a chunk.
 pub struct Unread {
@@ -18,6 +20,8 @@ pub enum Line {
     End,
     // not hex
     Bad,
+    // a read or a write failed, and this was said
+    Failed,
 }
 
 // Why decoding stopped.
@@ -116,12 +120,6 @@ pub fn first(text: &[u8], size: usize) -> &[u8] {
     text
 }
 
-// A new chunk, and how many bytes it has: none where the input ends.
-fn refill(chunk: &mut [u8]) -> usize {
-    let got = libc::read(libc::STDIN_FILENO, chunk);
-    io::count(got, chunk)
-}
-
 // Moves what is not yet read to the chunk's start, and answers how many bytes that is.
 fn moved(chunk: &mut [u8], unread: Unread) -> usize
     ensures { λ r. ⌜ r ≤ length (now (chunk .exit)) ⌝ }
@@ -139,11 +137,10 @@ fn moved(chunk: &mut [u8], unread: Unread) -> usize
     to
 }
 
-// Reads until the chunk is full or the input ends, what is not yet read being the first of it. Answers how many bytes it
-// has.
-pub fn fill(chunk: &mut [u8], unread: Unread) -> usize {
+// Reads until the chunk is full or the input ends, what is not yet read being the first of it.
+pub fn fill(chunk: &mut [u8], unread: Unread) -> Read {
     let kept = moved(chunk, unread);
-    kept + io::read_full(libc::STDIN_FILENO, &mut chunk[kept..])
+    streams::read_full(chunk, kept)
 }
 
 // What the end of the input comes to: a last line may lack its newline.
@@ -183,7 +180,11 @@ pub fn next(chunk: &mut [u8], unread: Unread, source: &mut [u8]) -> Line {
         size = d.size;
         upper = d.upper;
         at = 0;
-        end = refill(chunk);
+        let read = streams::read_full(chunk, 0);
+        let Read::Whole(n) = read else {
+            return Line::Failed;
+        };
+        end = n;
         if end == 0 {
             return last(size, upper);
         }

@@ -1,16 +1,25 @@
 // Text for standard output, gathered in a buffer. Each function takes the place in the buffer where text goes next, and
-// answers the place after it. A buffer that is full is written.
+// answers the place after it. A buffer that is full is written. Once a write has failed, the place is `FAILED`: nothing more is
+// gathered or written, so that it is said once.
+use crate::streams;
 use crate::words;
-use libc::STDOUT_FILENO;
 use wide::Wide;
 use wide::spell_digit;
+
+// No place in a buffer: a write has failed, and this was said.
+pub const FAILED: usize = 18446744073709551615;
 
 pub fn byte(out: &mut [u8], at: usize, b: u8) -> usize {
     if at < out.len() {
         out[at] = b;
         return at + 1;
     }
-    io::write_all(STDOUT_FILENO, out);
+    if at == FAILED {
+        return FAILED;
+    }
+    if !streams::write_all(out) {
+        return FAILED;
+    }
     if 0 < out.len() {
         out[0] = b;
     }
@@ -27,11 +36,12 @@ pub fn text(out: &mut [u8], at: usize, s: &[u8]) -> usize {
     p
 }
 
-// Writes what is left in the buffer.
-pub fn flush(out: &[u8], at: usize) {
+// Writes what is left in the buffer. Answers whether everything was written, also what was left before.
+pub fn flush(out: &[u8], at: usize) -> bool {
     if at <= out.len() {
-        io::write_all(STDOUT_FILENO, &out[0..at]);
+        return streams::write_all(&out[0..at]);
     }
+    false
 }
 
 // Says that the input is bad, and writes what is left.

@@ -1,6 +1,10 @@
 // The tables that are lent, all on the stack. The first line of a part says how much of each; a mode looks at none but its
 // own.
-ghost use Prim.Native.Nat.{_≤_};
+ghost use Prim.Native.Nat.{_+_, _*_, _≤_};
+ghost use Rattle.language.specs.Tokens.{mostBytes};
+ghost use Rattle.language.specs.Tables.{tokenWidth};
+ghost use Rattle.language.specs.Sentences.{nodeWidth};
+ghost use Rattle.language.specs.Findings.{diagWidth, stmtWidth};
 use crate::sources;
 use lexemes::Lexeme;
 use printing::header::Mode;
@@ -8,6 +12,7 @@ use printing::input::Line;
 use printing::input::Unread;
 use rows::NodeRow;
 use rows::TokenRow;
+use scan::Scanner;
 use showing_check::Diagnostic;
 use showing_check::Statement;
 
@@ -16,16 +21,16 @@ struct Lent {}
 
 impl Lent {
     // one for each byte of a source, and one for its end
-    const TOKENS: u64 = 65537;
+    const TOKENS: u64 = Scanner::MOST_BYTES as u64 + 1;
 
-    const NODES: u64 = 65536;
+    const NODES: u64 = Scanner::MOST_BYTES as u64;
 
     const DIAGNOSTICS: u64 = 4096;
 
     const STATEMENTS: u64 = 4096;
 
     // more than any source that is taken and any text that is given has, so that one which is too long is so here
-    const BYTES: u64 = 65600;
+    const BYTES: u64 = Scanner::MOST_BYTES as u64 + 64;
 }
 
 // A room, or the most that a table here has.
@@ -41,7 +46,7 @@ fn at_most(room: u64, most: u64) -> usize
 
 // The words of so many rows: of lexemes for the mode `scan`, else of tokens.
 fn token_words(mode: Mode, rows: u64) -> usize
-    ensures { λ r. ⌜ r ≤ 458759 ⌝ }
+    ensures { λ r. ⌜ r ≤ (mostBytes + 1) * tokenWidth ⌝ }
 {
     let n = at_most(rows, Lent::TOKENS);
     if let Mode::Scan = mode {
@@ -52,21 +57,21 @@ fn token_words(mode: Mode, rows: u64) -> usize
 
 // The words of so many rows of nodes.
 fn node_words(rows: u64) -> usize
-    ensures { λ r. ⌜ r ≤ 327680 ⌝ }
+    ensures { λ r. ⌜ r ≤ mostBytes * nodeWidth ⌝ }
 {
     at_most(rows, Lent::NODES) * NodeRow::WORDS
 }
 
 // The words of so many rows of diagnostics.
 fn diag_words(rows: u64) -> usize
-    ensures { λ r. ⌜ r ≤ 45056 ⌝ }
+    ensures { λ r. ⌜ r ≤ 4096 * diagWidth ⌝ }
 {
     at_most(rows, Lent::DIAGNOSTICS) * Diagnostic::ROW_WORDS
 }
 
 // The words of so many rows of statements.
 fn stmt_words(rows: u64) -> usize
-    ensures { λ r. ⌜ r ≤ 28672 ⌝ }
+    ensures { λ r. ⌜ r ≤ 4096 * stmtWidth ⌝ }
 {
     at_most(rows, Lent::STATEMENTS) * Statement::ROW_WORDS
 }

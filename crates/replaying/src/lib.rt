@@ -3,7 +3,8 @@
 // The input has parts. The first line of a part says what to run and the room of each lent table: `scan ROWS`, `lex ROWS`,
 // `canon TOKENS BYTES`, `parse TOKENS NODES` or `check TOKENS NODES DIAGNOSTICS STATEMENTS`. Each line after it is a source in
 // hex, up to one that starts with `+`: what stands after that is the first line of a further part. An answer ends with a line
-// `--`. Where the input is none of this, one line says `bad input` and nothing follows.
+// `--`. Where the input is none of this, one line says `bad input` and nothing follows. Where a read or a write fails, a line on
+// standard error says so and nothing follows: what was answered before are whole answers to sources that were read whole.
 mod lent;
 mod sources;
 
@@ -13,8 +14,16 @@ use printing::input;
 use printing::input::Line;
 use printing::input::Unread;
 use printing::output;
+use printing::streams;
+use printing::streams::Read;
 
 pub fn run() {
+    if streams::no_arguments() {
+        run_all();
+    }
+}
+
+fn run_all() {
     let mut chunk = [0u8; 262144];
     let mut out = [0u8; 65536];
     run_in(&mut chunk, &mut out);
@@ -23,7 +32,10 @@ pub fn run() {
 // Runs one part. Answers what ended it.
 fn part(chunk: &mut [u8], unread: Unread, out: &mut [u8]) -> Line {
     // the first line is looked for in one chunk, so that is read whole
-    let end = input::fill(chunk, unread);
+    let read = input::fill(chunk, unread);
+    let Read::Whole(end) = read else {
+        return Line::Failed;
+    };
     let head = header::read(input::first(chunk, end));
     let mode = head.mode;
     if let Mode::Unknown = mode {
@@ -38,7 +50,7 @@ fn part(chunk: &mut [u8], unread: Unread, out: &mut [u8]) -> Line {
     lent::run(mode, numbers, chunk, sources, out)
 }
 
-// What is written where no part follows: nothing, if that is the end of the input.
+// What is written where no part follows: nothing, if that is the end of the input, or if reading or writing failed.
 fn last(line: Line, out: &mut [u8]) {
     if let Line::Bad = line {
         output::bad_input(out, 0);

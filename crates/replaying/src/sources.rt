@@ -48,6 +48,14 @@ fn closed(
     output::close(out, p)
 }
 
+// What ended the sources, once their answers are written.
+fn ended(line: Line, out: &[u8], at: usize) -> Line {
+    if output::flush(out, at) {
+        return line;
+    }
+    Line::Failed
+}
+
 // The answers for the sources that are not yet read, one after the other. Answers what ended them.
 pub fn answers(
     mode: Mode,
@@ -68,8 +76,7 @@ pub fn answers(
     while 0 < sources {
         let line = input::next(chunk, unread, source);
         let Line::Source(size, rest) = line else {
-            output::flush(out, at);
-            return line;
+            return ended(line, out, at);
         };
         at = closed(
             mode,
@@ -83,6 +90,9 @@ pub fn answers(
             out,
             at,
         );
+        if at == output::FAILED {
+            return Line::Failed;
+        }
         unread = rest;
         sources -= 1;
     }

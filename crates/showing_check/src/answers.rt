@@ -1,8 +1,10 @@
 // Whole answers: what was found, what the check program prints, and what the mode `check` does.
 use crate::diagnostic;
+use crate::diagnostic::Diagnostic;
 use crate::statement;
 use checker::CheckAnswer;
 use constants::Constants;
+use libc::STDERR_FILENO;
 use printing::output;
 use printing::verdict;
 use scan::Verdict;
@@ -59,6 +61,30 @@ pub fn report(
         out,
         at,
     )
+}
+
+// How many findings were counted that the table has no row for.
+fn unshown(diags: &[u64], checked: CheckAnswer) -> u64 {
+    let found = sum(checked.errors, checked.warnings);
+    let rows = (diags.len() / Diagnostic::ROW_WORDS) as u64;
+    if rows < found {
+        return found - rows;
+    }
+    0
+}
+
+// Says on standard error how many findings `report` counts and does not show, if there are any.
+pub fn tell_unshown(diags: &[u64], checked: CheckAnswer) {
+    let verdict = checked.verdict;
+    if verdict.number != Verdict::DONE {
+        return;
+    }
+    let n = unshown(diags, checked);
+    if 0 < n {
+        io::write_all(STDERR_FILENO, b"findings that are counted and not shown: ");
+        io::print_decimal(STDERR_FILENO, n);
+        io::write_all(STDERR_FILENO, b"\n");
+    }
 }
 
 // The findings, and the statements after them.

@@ -8,5 +8,6 @@ mod types;
 
 pub use answers::answer;
 pub use answers::report;
+pub use answers::tell_unshown;
 pub use diagnostic::Diagnostic;
 pub use statement::Statement;

@@ -1,5 +1,5 @@
-// Trees from the table of nodes, where a child's row stands before its parent's. A row that does not is not shown, so the
-// walk ends on any table.
+// Trees from the table of nodes, where a child's row stands before its parent's, and an argument's before the next one's. A row
+// that does not is not shown, so the walk ends on any table.
 use crate::leaf;
 use crate::node;
 use crate::node::Node;
@@ -52,25 +52,26 @@ fn rest(
     }
 }
 
-// The arguments of the call in row `i`, where `last` is the row of the last one plus 1.
+// The arguments of the call in row `i`, from the first on: `start` is its row plus 1, and each has that of the next, 0 for none.
 fn arguments(
     source: &[u8],
     tokens: &[u64],
     nodes: &[u64],
     i: usize,
-    last: usize,
+    start: usize,
     out: &mut [u8],
     at: usize,
 ) -> usize {
-    let first = node::first_argument(nodes, last);
-    if first == 0 {
-        return at;
-    }
     let mut p = at;
-    let mut row = first - 1;
-    while row < i {
-        p = show(source, tokens, nodes, row, out, p);
-        row = node::argument_after(nodes, row, i);
+    let mut shown = 0;
+    let mut next = start;
+    while shown < next {
+        if i < next {
+            return p;
+        }
+        p = show(source, tokens, nodes, next - 1, out, p);
+        shown = next;
+        next = node::node_at(nodes, next - 1).second;
     }
     p
 }

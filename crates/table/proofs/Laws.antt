@@ -2,13 +2,13 @@
 -- and the words read back are those of the rows.
 use mathlib.Core.Path.{_≡_, refl, sym, ap, _∙_}
 use mathlib.Core.List.{List, [], _∷_, _++_, append-assoc, append-nil}
-use Prim.Native.Nat.{ℕ, zero, suc, _+_, _*_, _/_, _≤_, _<_}
+use Prim.Native.Nat.{ℕ, zero, suc, _+_, _-_, _*_, _/_, _≤_, _<_}
 use native.Mathlib.Nat.{le-trans, le-div-iff-mul-le, div-lt-iff-lt-mul, div-mul-le-self, mul-comm, mul-suc, mul-le-mul-right, suc-mul}
 use native.Mathlib.Omega.{arith}
 use native.Mathlib.Decide.{decLe}
 use borrow.Author.Tests.{le-leb, lt-leb}
 use lib.ListN.{length, getD, set, take, replicate, length-append, List·getD-append, List·getD-eq-default}
-use lib.Seq.{sets, take-all, take-append-le, take-nil, getD-append-add}
+use lib.Seq.{sets, take-all, take-append-le, take-append-add, take-nil, getD-append-add}
 use Rattle.table.specs.Table.{padTo, flat, tabled, putRow}
 
 -- ---- padding
@@ -58,7 +58,14 @@ put-end zero xs a = refl
 put-end (suc n) [] a = refl
 put-end (suc n) (x ∷ xs) a = ap (λ (l : List ℕ). x ∷ l) (put-end n xs a)
 
--- several such stores
+-- a store over what is there
+pub put-over : (n : ℕ) (xs ys : List ℕ) (a b : ℕ) → set (padTo n (xs ++ a ∷ ys)) (length xs) b ≡ padTo n (xs ++ b ∷ ys)
+unfolding padTo
+put-over zero xs ys a b = refl
+put-over (suc n) [] ys a b = refl
+put-over (suc n) (x ∷ xs) ys a b = ap (λ (l : List ℕ). x ∷ l) (put-over n xs ys a b)
+
+-- several stores after what is there
 pub puts-end : (n : ℕ) (xs ws : List ℕ) → sets (padTo n xs) (length xs) ws ≡ padTo n (xs ++ ws)
 puts-end n xs [] = rw append-nil
 puts-end n xs (a ∷ ws) =
@@ -128,6 +135,33 @@ module _ {A : Type 0} (row : A → List ℕ) where
               put-full (tabled row width n xs) (length xs) width (row x) (each x) (omega arith)
               ∙ rw (take-append-le (n / width) xs (x ∷ []) full)
         ]
+
+    -- the words of rows among which one has a word w
+    words-there : (xs ys : List A) (z : A) (us vs : List ℕ) (w m more : ℕ) → m ≡ length xs + suc more → row z ≡ us ++ w ∷ vs
+        → flat row (take m (xs ++ z ∷ ys)) ≡ (flat row xs ++ us) ++ w ∷ (vs ++ flat row (take more ys))
+    words-there xs ys z us vs w m more e q = rw (e, take-append-add, flat-append xs, q) (simp append-assoc)
+
+    -- a row and another in its place
+    module _ (pos : 0 < width) (n : ℕ) (xs ys : List A) (x y : A) where
+      -- which differ in one word: that word is stored, where the row has room
+      pub put-in : (us vs : List ℕ) (a b : ℕ) → row x ≡ us ++ a ∷ vs → row y ≡ us ++ b ∷ vs → length xs * width + width ≤ n
+          → set (tabled row width n (xs ++ x ∷ ys)) (length xs * width + length us) b ≡ tabled row width n (xs ++ y ∷ ys)
+      unfolding tabled
+      put-in us vs a b p q h =
+          let fits : suc (length xs) ≤ n / width = le-div-iff-mul-le pos .1 (omega (arith, suc-mul (length xs) width)) in
+          let more = n / width - suc (length xs) in
+          let room : n / width ≡ length xs + suc more = omega arith in
+          let long : length xs * width + length us ≡ length (flat row xs ++ us) = simp length-append (omega (arith, length-flat xs)) in
+          rw (words-there xs ys x us vs a (n / width) more room p, words-there xs ys y us vs b (n / width) more room q, long)
+          (put-over n (flat row xs ++ us) (vs ++ flat row (take more ys)) a b)
+
+      -- without room neither is there
+      pub put-lost : n < length xs * width + width → tabled row width n (xs ++ x ∷ ys) ≡ tabled row width n (xs ++ y ∷ ys)
+      unfolding tabled
+      put-lost h =
+          let under : n / width < suc (length xs) = div-lt-iff-lt-mul pos .1 (omega (arith, suc-mul (length xs) width)) in
+          let full : n / width ≤ length xs = omega arith in
+          rw (take-append-le (n / width) xs (x ∷ ys) full, take-append-le (n / width) xs (y ∷ ys) full)
 
     -- the words of the row numbered i, one after the other
     pub flat-word : (xs : List A) (i j : ℕ) → i < length xs → j < width → (d : A) → getD (flat row xs) (width * i + j) 0 ≡ getD (row (getD xs i d)) j 0

@@ -9,7 +9,10 @@
 // of each range, and one past them.
 //
 // `stdout` is what Rust's `std::str::from_utf8` says of the same input: oracle/utf8/main.rs made it.
-use libc::STDOUT_FILENO;
+use printing::input;
+use printing::output;
+use printing::streams;
+use printing::streams::Read;
 use utf8::Bad;
 use utf8::Decoded;
 ghost use Prim.Native.Nat.{_≤_, _<_};
@@ -54,67 +57,77 @@ fn unhex(line: &[u8], out: &mut [u8; 256]) -> usize
 }
 
 // A blank, unless the line has just begun.
-fn gap(at: usize) {
-    if 0 < at {
-        io::write_all(STDOUT_FILENO, b" ");
+fn gap(place: usize, out: &mut [u8], at: usize) -> usize {
+    if 0 < place {
+        return output::byte(out, at, b' ');
     }
+    at
+}
+
+fn show_character(n: u32, place: usize, out: &mut [u8], at: usize) -> usize {
+    let p = gap(place, out, at);
+    output::number(out, p, wide(n))
 }
 
 // The numbers of the characters, up to the first place where none starts.
-fn show_characters(s: &[u8]) {
-    let mut at = 0;
-    while at < s.len() {
-        let here = utf8::decode(s, at);
+fn show_characters(s: &[u8], out: &mut [u8], at: usize) -> usize {
+    let mut p = at;
+    let mut place = 0;
+    while place < s.len() {
+        let here = utf8::decode(s, place);
         match here {
             Decoded::Read(n, next) => {
-                gap(at);
-                io::print_decimal(STDOUT_FILENO, wide(n));
-                at = next;
+                p = show_character(n, place, out, p);
+                place = next;
             }
             Decoded::Nothing => {
-                return;
+                return p;
             }
         }
     }
+    p
 }
 
-fn show_bad(s: &[u8]) {
+fn show_bad(s: &[u8], out: &mut [u8], at: usize) -> usize {
     let bad = utf8::first_bad(s);
     match bad {
-        Bad::At(at) => {
-            gap(at);
-            io::write_all(STDOUT_FILENO, b"bad ");
-            io::print_decimal(STDOUT_FILENO, at as u64);
+        Bad::At(place) => {
+            let p = gap(place, out, at);
+            show_number(b"bad ", place as u64, out, p)
         }
-        Bad::Nowhere => {}
+        Bad::Nowhere => at,
     }
 }
 
-fn show_first(bytes: [u8; 256], n: usize)
+fn show_first(bytes: [u8; 256], n: usize, out: &mut [u8], at: usize) -> usize
     requires { ⌜ n ≤ 256 ⌝ }
 {
     let s = &bytes[..n];
-    show_characters(s);
-    show_bad(s);
+    let p = show_characters(s, out, at);
+    show_bad(s, out, p)
 }
 
-fn show_line(line: &[u8]) {
+fn show_line(line: &[u8], out: &mut [u8], at: usize) -> usize {
     let mut bytes = [0u8; 256];
     let n = unhex(line, &mut bytes);
-    show_first(bytes, n);
-    io::write_all(STDOUT_FILENO, b"\n");
+    let p = show_first(bytes, n, out, at);
+    output::byte(out, p, b'\n')
 }
 
-fn show_lines(text: &[u8]) {
+fn show_lines(text: &[u8], out: &mut [u8], at: usize) -> usize {
+    let mut p = at;
     let mut from = 0;
     let mut i = 0;
     while i < text.len() {
         if text[i] == b'\n' {
-            show_line(&text[from..i]);
+            p = show_line(&text[from..i], out, p);
             from = i + 1;
+            i += 1;
+        } else {
+            i += 1;
         }
-        i += 1;
     }
+    p
 }
 
 // 0 where the first `len` bytes are good throughout, else one more than the place of the first bad byte.
@@ -159,8 +172,16 @@ fn letter(alphabet: &[u8; 256], p: u8) -> u8 {
     alphabet[p as usize]
 }
 
+// How many sequences were tried and were good, and the digest of all verdicts.
+struct Digest {
+    len: usize,
+    count: u64,
+    good: u64,
+    digest: u64,
+}
+
 // Every sequence of `len` bytes of an alphabet whose last place is `last`: there are `count`.
-fn show_digest(alphabet: &[u8; 256], last: u8, len: usize, count: u64)
+fn digest_of(alphabet: &[u8; 256], last: u8, len: usize, count: u64) -> Digest
     requires { ⌜ len ≤ 5 ⌝ }
 {
     let mut places = [0u8; 5];
@@ -177,16 +198,25 @@ fn show_digest(alphabet: &[u8; 256], last: u8, len: usize, count: u64)
         advance(alphabet, last, len, &mut places, &mut bytes);
         k += 1;
     }
-    show_number(b"length ", len as u64);
-    show_number(b" count ", count);
-    show_number(b" good ", good);
-    show_number(b" digest ", digest);
-    io::write_all(STDOUT_FILENO, b"\n");
+    Digest {
+        len: len,
+        count: count,
+        good: good,
+        digest: digest,
+    }
 }
 
-fn show_number(name: &[u8], n: u64) {
-    io::write_all(STDOUT_FILENO, name);
-    io::print_decimal(STDOUT_FILENO, n);
+fn show_digest(d: Digest, out: &mut [u8], at: usize) -> usize {
+    let p = show_number(b"length ", d.len as u64, out, at);
+    let q = show_number(b" count ", d.count, out, p);
+    let r = show_number(b" good ", d.good, out, q);
+    let t = show_number(b" digest ", d.digest, out, r);
+    output::byte(out, t, b'\n')
+}
+
+fn show_number(name: &[u8], n: u64, out: &mut [u8], at: usize) -> usize {
+    let p = output::text(out, at, name);
+    output::number(out, p, n)
 }
 
 // Every byte.
@@ -235,19 +265,56 @@ fn boundary_bytes() -> [u8; 256] {
     a
 }
 
-fn main() {
-    let mut text = io::large_buffer();
-    let n = io::read_full(0, &mut text);
-    if n == 65536 {
-        io::write_all(STDOUT_FILENO, b"too long\n");
-        return;
-    }
-    show_lines(&text[..n]);
+// Makes a digest and shows it.
+fn show_tried(
+    alphabet: &[u8; 256],
+    last: u8,
+    len: usize,
+    count: u64,
+    out: &mut [u8],
+    at: usize,
+) -> usize
+    requires { ⌜ len ≤ 5 ⌝ }
+{
+    let d = digest_of(alphabet, last, len, count);
+    show_digest(d, out, at)
+}
+
+fn show_all(out: &mut [u8], at: usize) -> usize {
     let every = all_bytes();
-    show_digest(&every, 255, 1, 256);
-    show_digest(&every, 255, 2, 256 * 256);
-    show_digest(&every, 255, 3, 256 * 256 * 256);
+    let p = show_tried(&every, 255, 1, 256, out, at);
+    let q = show_tried(&every, 255, 2, 256 * 256, out, p);
+    show_tried(&every, 255, 3, 256 * 256 * 256, out, q)
+}
+
+fn show_bounds(out: &mut [u8], at: usize) -> usize {
     let bounds = boundary_bytes();
-    show_digest(&bounds, 23, 4, 24 * 24 * 24 * 24);
-    show_digest(&bounds, 23, 5, 24 * 24 * 24 * 24 * 24);
+    let p = show_tried(&bounds, 23, 4, 24 * 24 * 24 * 24, out, at);
+    show_tried(&bounds, 23, 5, 24 * 24 * 24 * 24 * 24, out, p)
+}
+
+// The answer to a text, which is one that fills the buffer where there may be more of it.
+fn answer(text: &[u8], size: usize, out: &mut [u8]) -> usize {
+    if size == text.len() {
+        return output::text(out, 0, b"too long\n");
+    }
+    let p = show_lines(input::first(text, size), out, 0);
+    let q = show_all(out, p);
+    show_bounds(out, q)
+}
+
+fn run(text: &mut [u8], out: &mut [u8]) {
+    let read = streams::read_full(text, 0);
+    if let Read::Whole(size) = read {
+        let at = answer(text, size, out);
+        output::flush(out, at);
+    }
+}
+
+fn main() {
+    if streams::no_arguments() {
+        let mut text = io::large_buffer();
+        let mut out = io::large_buffer();
+        run(&mut text, &mut out);
+    }
 }

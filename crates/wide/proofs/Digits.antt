@@ -8,7 +8,7 @@ use native.Mathlib.Omega.{arith}
 use borrow.Author.Tests.{leb-true, eqb-true, eqb-false, lt-ltb, le-ltb}
 use lib.Dec.{eqb}
 use lib.ListN.{length, set, replicate}
-use Rattle.language.specs.Integers.{AllDigits, digitsIn, decimal, hexadecimal, ascii}
+use Rattle.language.specs.Integers.{AllDigits, digitsIn, mostDigits, decimal, mostHexDigits, hexadecimal, ascii}
 use Rattle.language.specs.Canonical.{spellDigit, spellDigits}
 use Rattle.language.proofs.Integers.{few-in, many-in, fewer}
 use Rattle.language.specs.Tables.{wordLimit}
@@ -95,14 +95,14 @@ two-words hi lo room a b h =
     lt-of-lt-of-le {m = (hi + 1) * wordLimit} (omega arith) (le-trans m h)
 
 module _ (hi lo : ℕ) (a : hi < wordLimit) (b : lo < wordLimit) where
-  pub decimal-start : Written 10 39 ascii (decimal (hi * wordLimit + lo)) (replicate 39 0) (hi * wordLimit + lo) 39
+  pub decimal-start : Written 10 mostDigits ascii (decimal (hi * wordLimit + lo)) (replicate mostDigits 0) (hi * wordLimit + lo) mostDigits
   unfolding decimal
-  decimal-start = start 10 39 ascii (hi * wordLimit + lo) (two-words hi lo (10 ^ 39) a b (leb-true (wordLimit * wordLimit) (10 ^ 39) refl)) (omega arith) refl
+  decimal-start = start 10 mostDigits ascii (hi * wordLimit + lo) (two-words hi lo (10 ^ mostDigits) a b (leb-true (wordLimit * wordLimit) (10 ^ mostDigits) refl)) (omega arith) refl
 
-  pub hexadecimal-start : Written 16 32 spellDigits (hexadecimal (hi * wordLimit + lo)) (replicate 32 0) (hi * wordLimit + lo) 32
+  pub hexadecimal-start : Written 16 mostHexDigits spellDigits (hexadecimal (hi * wordLimit + lo)) (replicate mostHexDigits 0) (hi * wordLimit + lo) mostHexDigits
   unfolding hexadecimal
   hexadecimal-start =
-      start 16 32 spellDigits (hi * wordLimit + lo) (two-words hi lo (16 ^ 32) a b (leb-true (wordLimit * wordLimit) (16 ^ 32) refl)) (omega arith) refl
+      start 16 mostHexDigits spellDigits (hi * wordLimit + lo) (two-words hi lo (16 ^ mostHexDigits) a b (leb-true (wordLimit * wordLimit) (16 ^ mostHexDigits) refl)) (omega arith) refl
 
 -- ---- the byte of a digit
 

@@ -4,7 +4,7 @@ ghost use Prim.Native.Nat.{_-_, _/_, _%_, _<_};
 ghost use mathlib.Core.List.{_++_};
 ghost use lib.Dec.{eqb};
 ghost use lib.ListN.{length, replicate};
-ghost use Rattle.language.specs.Integers.{smallest, low16, isTruncated, decimal, hexadecimal, ascii};
+ghost use Rattle.language.specs.Integers.{smallest, low16, isTruncated, mostDigits, decimal, mostHexDigits, hexadecimal, ascii};
 ghost use Rattle.language.specs.Canonical.{spellDigit, spellDigits};
 ghost use Rattle.wide.specs.Wide.{valueOf, scaled, sizeOf};
 
@@ -42,10 +42,10 @@ struct Quotient {
 }
 
 impl Wide {
-    // How many decimal digits a number has at the most.
+    // How many decimal digits a number has at the most: `mostDigits`, or `decimal` would not be proved.
     pub const MOST_DIGITS: usize = 39;
 
-    // How many hexadecimal digits a number has at the most.
+    // How many hexadecimal digits: `mostHexDigits`.
     pub const MOST_HEX_DIGITS: usize = 32;
 
     pub fn zero() -> Wide
@@ -199,7 +199,7 @@ impl Wide {
 
     // The decimal digits, at the end of the lent buffer; answers where they start. What is before them is zero.
     pub fn decimal(self, text: &mut [u8; Wide::MOST_DIGITS]) -> usize
-        ensures { λ r. ⌜ r ≡ 39 - length (decimal (valueOf self)) ⌝ }
+        ensures { λ r. ⌜ r ≡ mostDigits - length (decimal (valueOf self)) ⌝ }
         ensures { λ r. ⌜ now (text .exit) ≡ replicate r 0 ++ ascii (decimal (valueOf self)) ⌝ }
     {
         *text = [0u8; Wide::MOST_DIGITS];
@@ -219,7 +219,7 @@ impl Wide {
 
     // The hexadecimal digits, in lower case, as `decimal` writes its digits.
     pub fn hexadecimal(self, text: &mut [u8; Wide::MOST_HEX_DIGITS]) -> usize
-        ensures { λ r. ⌜ r ≡ 32 - length (hexadecimal (valueOf self)) ⌝ }
+        ensures { λ r. ⌜ r ≡ mostHexDigits - length (hexadecimal (valueOf self)) ⌝ }
         ensures { λ r. ⌜ now (text .exit) ≡ replicate r 0 ++ spellDigits (hexadecimal (valueOf self)) ⌝ }
     {
         *text = [0u8; Wide::MOST_HEX_DIGITS];

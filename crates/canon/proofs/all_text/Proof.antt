@@ -1,3 +1,4 @@
+use Rattle.writer.proofs.Laws.{size}
 use Rattle.canon.proofs.Texts.{Texting, start, some-token, stopped, finished, row-fits, next-fits, more}
 use Prim.Native.Nat.{_-_, _≤_}
 use mathlib.Core.Path.{refl}
@@ -15,7 +16,7 @@ loop-holds : tie.Need-loop-holds Inv-loop μ-loop
 loop-holds c = (some-token _ _ _ (c .before .before .before .pre), start _ _)
 
 same-length : tie.Need-same-length Inv-loop μ-loop
-same-length c = c .before .before .loop .inv .1 .writes .size
+same-length c = size (c .before .before .loop .inv .1 .writes)
 
 returns : tie.Need-returns Inv-loop μ-loop
 returns c = stopped _ _ _ (c .before .before .before .before .before .before .pre) _ _ _ _ (c .before .before .loop .inv .1) (c .if1 .taken)
@@ -33,7 +34,7 @@ loop-again : tie.Need-loop-again Inv-loop μ-loop
 loop-again c = (search needs, more _ _ _ (c .before .before .before .before .before .before .before .before .before .before .before .before .before .before .before .before .pre) _ _ _ _ (c .before .before .before .before .before .before .before .before .before .before .before .before .loop .inv .1) (search needs) refl refl (c .before .before .before .before .before .before .before .before .token-text .ensures .0) (c .before .before .separator .ensures .0))
 
 same-length-2 : tie.Need-same-length-2 Inv-loop μ-loop
-same-length-2 c = c .before .loop .inv .1 .writes .size
+same-length-2 c = size (c .before .loop .inv .1 .writes)
 
 returns-2 : tie.Need-returns-2 Inv-loop μ-loop
 returns-2 c = finished _ _ _ (c .before .before .before .before .before .pre) _ _ _ _ (c .before .loop .inv .1) (search needs)

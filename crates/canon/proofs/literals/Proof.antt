@@ -1,3 +1,4 @@
+use Rattle.writer.proofs.Laws.{size}
 use Prim.Native.Nat.{_-_}
 use mathlib.Core.Path.{sym, _∙_}
 use lib.ListN.{length}
@@ -17,7 +18,7 @@ loop-holds : tie.Need-loop-holds Inv-loop μ-loop
 loop-holds c = start _ _ _ _ (c .new .ensures)
 
 same-length : tie.Need-same-length Inv-loop μ-loop
-same-length c = c .before .before .before .loop .inv .writes .size
+same-length c = size (c .before .before .before .loop .inv .writes)
 
 returns : tie.Need-returns Inv-loop μ-loop
 returns c = all-told _ _ _ _ _ _ (c .before .before .before .loop .inv) (sym (c .enum-told .given .1) ∙ c .before .before .next .ensures) (search needs)

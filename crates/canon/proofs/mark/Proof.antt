@@ -1,4 +1,4 @@
-use Rattle.canon.specs.Writing.{markOf}
+use Rattle.canon.specs.Spelling.{markOf}
 use Rattle.canon.proofs.Spelling.{last-mark}
 use Rattle.canon.proofs.mark.Statement.{statement}
 use Rattle.canon.proofs.mark.Tie as tie

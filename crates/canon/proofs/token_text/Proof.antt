@@ -1,5 +1,5 @@
-use Rattle.canon.specs.Writing.{kindText}
-use Rattle.canon.proofs.Writing.{bytes-are}
+use Rattle.canon.specs.Spelling.{kindText}
+use Rattle.writer.proofs.Laws.{bytes-are}
 use Rattle.canon.proofs.Spelling.{only-fixed}
 use borrow.Author.Needs.{needs}
 use Rattle.canon.proofs.token_text.Statement.{statement}
@@ -7,7 +7,7 @@ use Rattle.canon.proofs.token_text.Tie as tie
 
 returns : tie.Need-returns
 unfolding kindText
-returns c = (bytes-are _ (rw (c .before .before .before .before .match .keys1)) (c .before .before .copy .ensures .0), search needs)
+returns c = (bytes-are _ (rw (c .before .before .before .before .before .match .keys1)) (c .before .before .copy .ensures), search needs)
 
 returns-2 : tie.Need-returns-2
 unfolding kindText
@@ -23,7 +23,7 @@ returns-4 c = (bytes-are _ (rw (c .before .before .before .before .match .keys4)
 
 returns-5 : tie.Need-returns-5
 unfolding kindText
-returns-5 c = (bytes-are _ (rw (c .before .before .before .before .match .keys5)) (c .before .before .decimal-text .ensures .0), search needs)
+returns-5 c = (bytes-are _ (rw (c .before .before .before .before .match .keys5)) (c .before .before .decimal .ensures .0), search needs)
 
 returns-6 : tie.Need-returns-6
 unfolding kindText
@@ -32,7 +32,7 @@ returns-6 c = (bytes-are _ (only-fixed _ _ _ _ (c .before .before .before .befor
 pub token-text-spec : {M : Type 1} → statement M
 token-text-spec =
     tie.close
-    (tie.spec (λ c. search needs) (λ c. search needs) (λ c. search needs) (λ c. search needs) (λ c. search needs)
+    (tie.spec (λ c. search needs) (λ c. search needs) (λ c. search needs) (λ c. search needs) (λ c. search needs) (λ c. search needs) (λ c. search needs) (λ c. search needs)
     (λ c. search needs) (λ c. search needs) (λ c. search needs) (λ c. search needs) (λ c. search needs)
     (λ c. search needs) (λ c. search needs) (λ c. search needs) (λ c. search needs) (λ c. search needs)
     (λ c. search needs) (λ c. search needs) (λ c. search needs) (λ c. search needs) (λ c. search needs)

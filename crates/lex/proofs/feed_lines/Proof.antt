@@ -1,8 +1,7 @@
 use Prim.Native.Nat.{_-_, _+_}
 use lib.ListN.{length}
-use Rattle.lex.proofs.Lines.{LinesFed, start, few, stopped, more, finished, end-within}
+use Rattle.lex.proofs.Lines.{LinesFed, start, ready, stopped, more, finished}
 use borrow.Author.Needs.{needs}
-use native.Mathlib.Omega.{arith}
 use Rattle.lex.proofs.feed_lines.Statement.{statement}
 use Rattle.lex.proofs.feed_lines.Tie as tie
 
@@ -16,19 +15,13 @@ loop-holds : tie.Need-loop-holds Inv-loop μ-loop
 loop-holds c = start _ _ _ (c .new .ensures)
 
 line-requires : tie.Need-line-requires Inv-loop μ-loop
-line-requires c κs = let e = end-within _ _ (c .before .before .loop-test .taken) _ (c .before .line-end .ensures) in (few _ _ _ _ _ (c .before .before .before .loop .inv) (c .before .before .before .before .before .before .before .pre) (c .before .before .loop-test .taken), e .0, e .1, omega (arith, e .1, c .before .before .before .before .before .before .before .pre))
+line-requires c κs = ready _ _ _ _ _ (c .before .before .before .before .loop .inv) (c .before .before .before .loop-test .taken) _ (c .before .before .line-end .ensures .0) (c .before .before .before .before .before .before .before .before .pre)
 
 returns : tie.Need-returns Inv-loop μ-loop
-returns c = stopped _ _ _ _ _ (c .before .before .before .before .before .before .before .before .loop .inv) (c .before .before .before .before .before .before .before .loop-test .taken) _ (c .before .before .before .before .before .before .line-end .ensures) _ (c .enum-told .given .1) (c .before .before .before .before .line .ensures)
-
-add-at : tie.Need-add-at Inv-loop μ-loop
-add-at c = let e = end-within _ _ (c .before .before .before .before .before .before .before .before .loop-test .taken) _ (c .before .before .before .before .before .before .before .line-end .ensures) in omega (arith, e .1, c .before .before .before .before .before .before .before .before .before .before .before .before .before .pre)
-
-loop-less : tie.Need-loop-less Inv-loop μ-loop
-loop-less c = let e = end-within _ _ (c .before .before .before .before .before .before .before .before .loop-test .taken) _ (c .before .before .before .before .before .before .before .line-end .ensures) in omega (arith, e .0, e .1)
+returns c = stopped _ _ _ _ _ (c .before .before .before .before .before .before .before .before .before .loop .inv) (c .before .before .before .before .before .before .before .before .loop-test .taken) _ (c .before .before .before .before .before .before .before .line-end .ensures .0) _ (c .enum-told .given .1) (c .before .before .before .before .line .ensures)
 
 loop-again : tie.Need-loop-again Inv-loop μ-loop
-loop-again c = more _ _ _ _ _ (c .before .before .before .before .before .before .before .before .before .loop .inv) (c .before .before .before .before .before .before .before .before .loop-test .taken) _ (c .before .before .before .before .before .before .before .line-end .ensures) _ (c .before .fed .given .1) (c .before .before .before .before .before .line .ensures)
+loop-again c = more _ _ _ _ _ (c .before .before .before .before .before .before .before .before .before .before .loop .inv) (c .before .before .before .before .before .before .before .before .before .loop-test .taken) _ (c .before .before .before .before .before .before .before .before .line-end .ensures .0) _ (c .before .fed .given .1) (c .before .before .before .before .before .line .ensures)
 
 returns-2 : tie.Need-returns-2 Inv-loop μ-loop
 returns-2 c = finished _ _ _ _ _ (c .before .loop .inv) (c .loop-test .left)
@@ -36,5 +29,5 @@ returns-2 c = finished _ _ _ _ _ (c .before .loop .inv) (c .loop-test .left)
 pub feed-lines-spec : {M : Type 1} → statement M
 feed-lines-spec =
     tie.close
-    (tie.spec Inv-loop μ-loop (λ c. search needs) loop-holds (λ c. search needs) line-requires (λ c. search needs)
-    (λ c. search needs) (λ c. search needs) returns add-at loop-less loop-again (λ c. search needs) returns-2)
+    (tie.spec Inv-loop μ-loop (λ c. search needs) loop-holds (λ c. search needs) (λ c. search needs) (λ c. search needs) (λ c. search needs) line-requires (λ c. search needs)
+    (λ c. search needs) (λ c. search needs) returns (λ c. search needs) (λ c. search needs) loop-again (λ c. search needs) returns-2)

@@ -10,8 +10,8 @@ use Rattle.language.specs.Sentences as grammar
 use Rattle.language.specs.Sentences.{Expr, Args, exprAt, chainAt, listAt, argsOf}
 use Rattle.parse.specs.Parsing.{isNamed, withExpr, withArgs, Stands, Lists, After, AfterExpr}
 use Rattle.parse.proofs.Looks.{seen, unseen, inside}
-use Rattle.parse.proofs.Nodes.{member-pushed, slash-pushed, call-pushed, arg-pushed, none-listed}
-use Rattle.parse.proofs.Answers.{done, refused, met-ok, met-no, met-by, arg-done, arg-refused, met-arg, met-arg-no, list-done, list-refused, list-ok, list-no, ahead, ahead-place, ahead-no, ahead-more, ahead-list, ahead-list-place}
+use Rattle.parse.proofs.Nodes.{member-pushed, slash-pushed, call-pushed, first-pushed, arg-pushed, none-listed}
+use Rattle.parse.proofs.Answers.{done, refused, met-ok, met-no, met-by, list-done, list-refused, list-ok, list-no, ahead, ahead-place, ahead-no, ahead-more, ahead-list, ahead-list-place}
 use Rattle.parse.proofs.Steps.{chain-go, chain-no, expr-go, expr-no, links-stop, links-call-7, links-dot-7, links-dot-5, links-dot, links-call, links-no, slashes-stop, slashes-7, slashes-no, slashes-go, list-shut, list-open, arg-no, arg-go, args-end, args-no, args-last, args-bad, args-more}
 use borrow.Author.Needs.{needs}
 use native.Mathlib.Omega.{arith}
@@ -38,6 +38,7 @@ use Rattle.parse.proofs.slashes.Kinds as slashes-kinds
 use Rattle.parse.proofs.+arg+chain+expr+links+list+slashes.Lts-slashes as slashes-lts
 use Rattle.parse.proofs.arg_head.Reads as arg-head-reads
 use Rattle.parse.proofs.kind_at.Reads as kind-at-reads
+use Rattle.parse.proofs.link.Reads as link-reads
 use Rattle.parse.proofs.primary.Reads as primary-reads
 use Rattle.parse.proofs.push.Reads as push-reads
 use Rattle.parse.proofs.too_deep.Reads as too-deep-reads
@@ -100,7 +101,7 @@ abbrev slashes-below : ℕ → In 2 slashes-kinds.ps
 slashes-below t = and 2 slashes-kinds.ps (falls 2 slashes-kinds.ps _<_ μ-slashes t) slashes.Pre
 
 abbrev arg-cs : ℕ → arg-lts.Claims
-arg-cs t = (arg-head-reads.Asked, arg-head-reads.Learnt, expr-below t, expr.Post, push-reads.Asked, push-reads.Learnt)
+arg-cs t = (arg-head-reads.Asked, arg-head-reads.Learnt, expr-below t, expr.Post, push-reads.Asked, push-reads.Learnt, link-reads.Asked, link-reads.Learnt)
 
 abbrev chain-cs : ℕ → chain-lts.Claims
 chain-cs t = (primary-reads.Asked, primary-reads.Learnt, links-below t, links.Post)
@@ -129,29 +130,59 @@ arg-sub-push t c = omega (arith, ahead (c .before .before .next .given .1) (c .b
 arg-push-requires : (t : ℕ) → arg-lts.Need-push-requires (arg-cs t) (arg-at t) arg.Post
 arg-push-requires t c κs = omega (arith, ahead (c .before .before .next .given .1) (c .before .before .before .before .before .before .expr .ensures .0))
 
-arg-add-t20 : (t : ℕ) → arg-lts.Need-add-t20 (arg-cs t) (arg-at t) arg.Post
-arg-add-t20 t c = omega (arith, ahead (c .before .before .before .before .before .next .given .1) (c .before .before .before .before .before .before .before .before .before .expr .ensures .0))
+arg-add-t22 : (t : ℕ) → arg-lts.Need-add-t22 (arg-cs t) (arg-at t) arg.Post
+arg-add-t22 t c = omega (arith, ahead (c .before .before .before .before .before .before .next .given .1) (c .before .before .before .before .before .before .before .before .before .before .expr .ensures .0))
+
+arg-add-t23 : (t : ℕ) → arg-lts.Need-add-t23 (arg-cs t) (arg-at t) arg.Post
+arg-add-t23 t c = omega (arith, ahead (c .before .before .before .before .before .before .next .given .1) (c .before .before .before .before .before .before .before .before .before .before .expr .ensures .0))
 
 arg-same-length : (t : ℕ) → arg-lts.Need-same-length (arg-cs t) (arg-at t) arg.Post
-arg-same-length t c = omega (arith, c .before .before .push .kept .0, c .before .before .before .before .before .before .before .before .before .expr .kept .1 .0)
+arg-same-length t c = omega (arith, c .before .before .before .push .kept .0, c .before .before .before .before .before .before .before .before .before .before .expr .kept .1 .0)
 
 arg-returns : (t : ℕ) → arg-lts.Need-returns (arg-cs t) (arg-at t) arg.Post
 arg-returns t c =
-    let a = c .before .before .before .before .before .before .before .before .before .before .before .before .before .before .args in
-    let hd = c .before .before .before .before .before .before .before .before .before .before .before .arg-head .ensures in
-    let e = c .before .before .before .before .before .next .given .1 in
-    let o = c .before .before .before .before .before .before .before .before .before .expr .ensures in
+    let a = c .before .before .before .before .before .before .before .before .before .before .before .before .before .before .before .args in
+    let hd = c .before .before .before .before .before .before .before .before .before .before .before .before .arg-head .ensures in
+    let e = c .before .before .before .before .before .before .next .given .1 in
+    let o = c .before .before .before .before .before .before .before .before .before .before .expr .ensures in
     let f = ahead e (o .0) in (
       omega arith,
       λ ts ns g rep s. let d = done e (o .1 ts (withArgs ns g) rep (s .long) (s .held)) in
-          met-arg (arg-go rep _ g _ _ (hd .0 .1) (d .0) _ _ (d .1)) (arg-pushed (isNamed (a .toks .now) (a .at)) (a .at) s (d .2) (hd .0 .1) (hd .0 .0) (c .before .before .push .ensures)),
+          list-ok (arg-go rep _ g _ _ (hd .0 .1) (d .0) _ _ (d .1)) (first-pushed (isNamed (a .toks .now) (a .at)) (a .at) s (d .2) (hd .0 .1) (hd .0 .0) (c .before .before .before .push .ensures) (c .if1 .taken)),
     )
+
+arg-sub-link : (t : ℕ) → arg-lts.Need-sub-link (arg-cs t) (arg-at t) arg.Post
+arg-sub-link t c = omega arith
+
+arg-add-link : (t : ℕ) → arg-lts.Need-add-link (arg-cs t) (arg-at t) arg.Post
+arg-add-link t c = omega (arith, ahead (c .before .before .before .before .before .before .before .next .given .1) (c .before .before .before .before .before .before .before .before .before .before .before .expr .ensures .0))
+
+arg-link-requires : (t : ℕ) → arg-lts.Need-link-requires (arg-cs t) (arg-at t) arg.Post
+arg-link-requires t c κs = omega arith
+
+arg-add-t20 : (t : ℕ) → arg-lts.Need-add-t20 (arg-cs t) (arg-at t) arg.Post
+arg-add-t20 t c = omega (arith, ahead (c .before .before .before .before .before .before .before .before .before .before .next .given .1) (c .before .before .before .before .before .before .before .before .before .before .before .before .before .before .expr .ensures .0))
+
+arg-same-length-2 : (t : ℕ) → arg-lts.Need-same-length-2 (arg-cs t) (arg-at t) arg.Post
+arg-same-length-2 t c = omega (arith, c .before .before .link .kept .0, c .before .before .before .before .before .before .before .push .kept .0, c .before .before .before .before .before .before .before .before .before .before .before .before .before .before .expr .kept .1 .0)
 
 arg-returns-2 : (t : ℕ) → arg-lts.Need-returns-2 (arg-cs t) (arg-at t) arg.Post
 arg-returns-2 t c =
+    let a = c .before .before .before .before .before .before .before .before .before .before .before .before .before .before .before .before .before .before .before .args in
+    let hd = c .before .before .before .before .before .before .before .before .before .before .before .before .before .before .before .before .arg-head .ensures in
+    let e = c .before .before .before .before .before .before .before .before .before .before .next .given .1 in
+    let o = c .before .before .before .before .before .before .before .before .before .before .before .before .before .before .expr .ensures in
+    let f = ahead e (o .0) in (
+      omega (arith, c .before .before .before .before .before .before .before .before .before .before .before .before .before .before .before .before .before .before .before .pre .1),
+      λ ts ns g rep s. let d = done e (o .1 ts (withArgs ns g) rep (s .long) (s .held)) in
+          list-ok (arg-go rep _ g _ _ (hd .0 .1) (d .0) _ _ (d .1)) (arg-pushed (isNamed (a .toks .now) (a .at)) (a .at) s (d .2) (hd .0 .1) (hd .0 .0) (c .before .before .before .before .before .before .before .push .ensures) (c .before .before .before .before .if1 .left) (c .before .before .link .ensures)),
+    )
+
+arg-returns-3 : (t : ℕ) → arg-lts.Need-returns-3 (arg-cs t) (arg-at t) arg.Post
+arg-returns-3 t c =
     let e = c .before .number .given .1 in
     let o = c .before .before .before .before .before .expr .ensures in
-    (ahead-no refl (ahead-place e (o .0)), λ ts ns g rep s. met-arg-no (arg-no rep _ g _ _ (c .before .before .before .before .before .before .before .arg-head .ensures .0 .1) _ _ _ (refused e (o .1 ts (withArgs ns g) rep (s .long) (s .held)))))
+    (record { on = ahead-place e (o .0) }, λ ts ns g rep s. list-no (arg-no rep _ g _ _ (c .before .before .before .before .before .before .before .arg-head .ensures .0 .1) _ _ _ (refused e (o .1 ts (withArgs ns g) rep (s .long) (s .held)))))
 
 chain-primary-requires : (t : ℕ) → chain-lts.Need-primary-requires (chain-cs t) (chain-at t) chain.Post
 chain-primary-requires t c κs = omega arith
@@ -341,13 +372,13 @@ links-returns-5 t c =
     )
 
 abbrev list-Inv-loop : list-lts.InvT-loop
-list-Inv-loop toks nodes₀ start count left at₀ have₀ last₀ nodes at have last =
-    (start < at) × (7 * at ≤ length toks) × (count ≤ have) × (have + 2 * start + 2 ≤ count + 2 * at) × (last ≤ have) × (length nodes ≡ length nodes₀)
-    × After toks nodes₀ count (λ ts ns. (g : Args) × (k : ℕ) × Lists nodes ns g have last × (length ts < at + k)
+list-Inv-loop toks nodes₀ start count left at₀ have₀ first₀ nodes at have first =
+    (start < at) × (7 * at ≤ length toks) × (count ≤ have) × (have + 2 * start + 2 ≤ count + 2 * at) × (first ≤ have) × (length nodes ≡ length nodes₀)
+    × After toks nodes₀ count (λ ts ns. (g : Args) × (k : ℕ) × Lists nodes ns g have first × (length ts < at + k)
     × (listAt ts left start ≡ argsOf ts (exprAt ts (left - 1)) k g at))
 
 abbrev list-μ-loop : list-lts.MeasureT-loop
-list-μ-loop toks nodes₀ start count left at₀ have₀ last₀ nodes at have last = length toks - at
+list-μ-loop toks nodes₀ start count left at₀ have₀ first₀ nodes at have first = length toks - at
 
 list-returns : (t : ℕ) → list-lts.Need-returns (list-cs t) (list-at t) list.Post list-Inv-loop list-μ-loop
 list-returns t c = (omega arith, λ ts ns rep l h. list-no (list-shut ts _ _ (c .if1 .taken)))
@@ -378,13 +409,13 @@ list-arg-requires : (t : ℕ) → list-lts.Need-arg-requires (list-cs t) (list-a
 list-arg-requires t c κs = omega arith
 
 list-kind-at-requires-2 : (t : ℕ) → list-lts.Need-kind-at-requires-2 (list-cs t) (list-at t) list.Post list-Inv-loop list-μ-loop
-list-kind-at-requires-2 t c κs = omega (arith, ahead (c .before .next .given .1) (c .before .before .before .before .before .arg .ensures .0))
+list-kind-at-requires-2 t c κs = omega (arith, ahead-list (c .before .next .given .1) (c .before .before .before .before .before .arg .ensures .0))
 
 list-add-at-2 : (t : ℕ) → list-lts.Need-add-at-2 (list-cs t) (list-at t) list.Post list-Inv-loop list-μ-loop
-list-add-at-2 t c = omega (arith, ahead (c .before .before .before .next .given .1) (c .before .before .before .before .before .before .before .arg .ensures .0))
+list-add-at-2 t c = omega (arith, ahead-list (c .before .before .before .next .given .1) (c .before .before .before .before .before .before .before .arg .ensures .0))
 
 list-loop-less : (t : ℕ) → list-lts.Need-loop-less (list-cs t) (list-at t) list.Post list-Inv-loop list-μ-loop
-list-loop-less t c = omega (arith, ahead (c .before .before .before .next .given .1) (c .before .before .before .before .before .before .before .arg .ensures .0), inside (c .before .before .before .before .before .before .before .before .before .before .before .before .before .before .before .args .toks .now) (c .before .before .before .next .given .0 .0) 7 (seen (c .before .kind-at2 .ensures) (c .if3 .taken)))
+list-loop-less t c = omega (arith, ahead-list (c .before .before .before .next .given .1) (c .before .before .before .before .before .before .before .arg .ensures .0), inside (c .before .before .before .before .before .before .before .before .before .before .before .before .before .before .before .args .toks .now) (c .before .before .before .next .given .0 .0) 7 (seen (c .before .kind-at2 .ensures) (c .if3 .taken)))
 
 list-loop-again : (t : ℕ) → list-lts.Need-loop-again (list-cs t) (list-at t) list.Post list-Inv-loop list-μ-loop
 list-loop-again t c =
@@ -392,7 +423,7 @@ list-loop-again t c =
     let v = c .before .before .before .before .before .before .before .before .before .before .before .loop in
     let e = c .before .before .before .next .given .1 in
     let o = c .before .before .before .before .before .before .before .arg .ensures in
-    let f = ahead e (o .0) in
+    let f = ahead-list e (o .0) in
     let is9 = seen (c .before .kind-at2 .ensures) (c .if3 .taken) in
     let i = inside (a .toks .now) (c .before .before .before .next .given .0 .0) 7 is9 in (
       omega arith,
@@ -402,13 +433,13 @@ list-loop-again t c =
       omega arith,
       omega (arith, c .before .before .before .before .before .before .before .arg .kept .1 .0),
       λ ts ns rep l h. let g = v .inv .6 ts ns rep l h in
-          let d = arg-done e (o .1 ts ns (g .0) rep (g .2)) in
-          let m = args-more rep (exprAt ts (a .left - 1)) (g .0) (v .at) (g .1) (v .inv .1) (g .3) (unseen (c .before .before .before .before .before .before .before .before .before .before .kind-at .ensures) (c .before .before .before .before .before .before .before .before .before .if2 .taken)) (d .0) _ _ (d .1) is9 (omega arith) in
-          (d .0, m .0, d .2, m .1, g .4 ∙ m .2),
+          let d = list-done e (o .1 ts ns (g .0) rep (g .2)) in
+          let m = args-more rep (exprAt ts (a .left - 1)) (g .0) (v .at) (g .1) (v .inv .1) (g .3) (unseen (c .before .before .before .before .before .before .before .before .before .before .kind-at .ensures) (c .before .before .before .before .before .before .before .before .before .if2 .taken)) (d .0) _ _ (d .2) is9 (omega arith) in
+          (d .0, m .0, d .3, m .1, g .4 ∙ m .2),
     )
 
-list-add-t24 : (t : ℕ) → list-lts.Need-add-t24 (list-cs t) (list-at t) list.Post list-Inv-loop list-μ-loop
-list-add-t24 t c = omega (arith, ahead (c .before .before .before .before .next .given .1) (c .before .before .before .before .before .before .before .before .arg .ensures .0))
+list-add-t25 : (t : ℕ) → list-lts.Need-add-t25 (list-cs t) (list-at t) list.Post list-Inv-loop list-μ-loop
+list-add-t25 t c = omega (arith, ahead-list (c .before .before .before .before .next .given .1) (c .before .before .before .before .before .before .before .before .arg .ensures .0))
 
 list-same-length : (t : ℕ) → list-lts.Need-same-length (list-cs t) (list-at t) list.Post list-Inv-loop list-μ-loop
 list-same-length t c = omega (arith, c .before .before .before .before .before .before .before .before .arg .kept .1 .0, c .before .before .before .before .before .before .before .before .before .before .before .before .loop .inv .5)
@@ -419,13 +450,13 @@ list-returns-2 t c =
     let v = c .before .before .before .before .before .before .before .before .before .before .before .before .loop in
     let e = c .before .before .before .before .next .given .1 in
     let o = c .before .before .before .before .before .before .before .before .arg .ensures in
-    let f = ahead e (o .0) in
+    let f = ahead-list e (o .0) in
     let is3 = seen (c .before .before .kind-at2 .ensures) (c .if4 .taken) in
     let i = inside (a .toks .now) (c .before .before .before .before .next .given .0 .0) 1 is3 in (
       omega arith,
       λ ts ns rep l h. let g = v .inv .6 ts ns rep l h in
-          let d = arg-done e (o .1 ts ns (g .0) rep (g .2)) in
-          list-ok (g .4 ∙ args-last rep _ (g .0) _ (g .1) (v .inv .1) (g .3) (unseen (c .before .before .before .before .before .before .before .before .before .before .before .kind-at .ensures) (c .before .before .before .before .before .before .before .before .before .before .if2 .taken)) (d .0) _ _ (d .1) is3) (d .2),
+          let d = list-done e (o .1 ts ns (g .0) rep (g .2)) in
+          list-ok (g .4 ∙ args-last rep _ (g .0) _ (g .1) (v .inv .1) (g .3) (unseen (c .before .before .before .before .before .before .before .before .before .before .before .kind-at .ensures) (c .before .before .before .before .before .before .before .before .before .before .if2 .taken)) (d .0) _ _ (d .2) is3) (d .3),
     )
 
 list-same-length-2 : (t : ℕ) → list-lts.Need-same-length-2 (list-cs t) (list-at t) list.Post list-Inv-loop list-μ-loop
@@ -437,11 +468,11 @@ list-returns-3 t c =
     let k2 = c .before .before .kind-at2 in
     let e = c .before .before .before .before .next .given .1 in
     let o = c .before .before .before .before .before .before .before .before .arg .ensures in
-    let f = ahead e (o .0) in (
+    let f = ahead-list e (o .0) in (
       omega arith,
       λ ts ns rep l h. let g = v .inv .6 ts ns rep l h in
-          let d = arg-done e (o .1 ts ns (g .0) rep (g .2)) in
-          list-no (g .4 ∙ args-bad rep _ (g .0) _ (g .1) (v .inv .1) (g .3) (unseen (c .before .before .before .before .before .before .before .before .before .before .before .kind-at .ensures) (c .before .before .before .before .before .before .before .before .before .before .if2 .taken)) (d .0) _ _ (d .1) (unseen (k2 .ensures) (c .before .if3 .left)) (unseen (k2 .ensures) (c .if4 .left))),
+          let d = list-done e (o .1 ts ns (g .0) rep (g .2)) in
+          list-no (g .4 ∙ args-bad rep _ (g .0) _ (g .1) (v .inv .1) (g .3) (unseen (c .before .before .before .before .before .before .before .before .before .before .before .kind-at .ensures) (c .before .before .before .before .before .before .before .before .before .before .if2 .taken)) (d .0) _ _ (d .2) (unseen (k2 .ensures) (c .before .if3 .left)) (unseen (k2 .ensures) (c .if4 .left))),
     )
 
 list-same-length-3 : (t : ℕ) → list-lts.Need-same-length-3 (list-cs t) (list-at t) list.Post list-Inv-loop list-μ-loop
@@ -452,13 +483,13 @@ list-returns-4 t c =
     let v = c .before .before .before .before .before .before .before .before .before .loop in
     let e = c .before .number .given .1 in
     let o = c .before .before .before .before .before .arg .ensures in (
-      record { on = ahead-place e (o .0) },
+      record { on = ahead-list-place e (o .0) },
       λ ts ns rep l h. let g = v .inv .6 ts ns rep l h in
-          list-no (g .4 ∙ args-no rep _ (g .0) _ (g .1) (v .inv .1) (g .3) (unseen (c .before .before .before .before .before .before .before .before .kind-at .ensures) (c .before .before .before .before .before .before .before .if2 .taken)) _ _ _ (arg-refused e (o .1 ts ns (g .0) rep (g .2)))),
+          list-no (g .4 ∙ args-no rep _ (g .0) _ (g .1) (v .inv .1) (g .3) (unseen (c .before .before .before .before .before .before .before .before .kind-at .ensures) (c .before .before .before .before .before .before .before .if2 .taken)) _ _ _ (list-refused e (o .1 ts ns (g .0) rep (g .2)))),
     )
 
-list-add-t25 : (t : ℕ) → list-lts.Need-add-t25 (list-cs t) (list-at t) list.Post list-Inv-loop list-μ-loop
-list-add-t25 t c = omega (arith, inside (c .before .before .before .before .before .before .args .toks .now) (c .before .before .loop .at) 1 (seen (c .before .kind-at .ensures) (c .if2 .left)))
+list-add-t26 : (t : ℕ) → list-lts.Need-add-t26 (list-cs t) (list-at t) list.Post list-Inv-loop list-μ-loop
+list-add-t26 t c = omega (arith, inside (c .before .before .before .before .before .before .args .toks .now) (c .before .before .loop .at) 1 (seen (c .before .kind-at .ensures) (c .if2 .left)))
 
 list-same-length-4 : (t : ℕ) → list-lts.Need-same-length-4 (list-cs t) (list-at t) list.Post list-Inv-loop list-μ-loop
 list-same-length-4 t c = c .before .before .loop .inv .5
@@ -565,8 +596,9 @@ pub +arg+chain+expr+links+list+slashes-spec : {M : Type 1} → statement M
 +arg+chain+expr+links+list+slashes-spec =
     close μ-arg μ-chain μ-expr μ-links μ-list μ-slashes
     (λ t. arg-lts.spec (arg-cs t) (arg-at t) arg.Post (arg-arg-head-requires t) (arg-expr-requires t)
-    (λ c. search needs) (arg-sub-push t) (arg-push-requires t) (arg-add-t20 t) (λ c. search needs) (arg-same-length t)
-    (arg-returns t) (λ c. search needs) (arg-returns-2 t))
+    (λ c. search needs) (arg-sub-push t) (arg-push-requires t) (arg-add-t22 t) (arg-add-t23 t) (arg-same-length t)
+    (arg-returns t) (arg-sub-link t) (arg-add-link t) (arg-link-requires t) (arg-add-t20 t) (λ c. search needs)
+    (arg-same-length-2 t) (arg-returns-2 t) (λ c. search needs) (arg-returns-3 t))
     (λ t. chain-lts.spec (chain-cs t) (chain-at t) chain.Post (chain-primary-requires t) (λ c. search needs)
     (chain-links-requires t) (λ c. search needs) (λ c. search needs) (chain-returns t) (λ c. search needs)
     (chain-returns-2 t))
@@ -583,9 +615,9 @@ pub +arg+chain+expr+links+list+slashes-spec : {M : Type 1} → statement M
     (links-loop-less-2 t) (links-loop-again-2 t) (links-same-length-5 t) (links-returns-5 t))
     (λ t. list-lts.spec (list-cs t) (list-at t) list.Post list-Inv-loop list-μ-loop (list-returns t) (list-add-at t)
     (list-loop-holds t) (list-kind-at-requires t) (list-sub-arg t) (list-arg-requires t) (λ c. search needs)
-    (list-kind-at-requires-2 t) (list-add-at-2 t) (list-loop-less t) (list-loop-again t) (list-add-t24 t)
+    (list-kind-at-requires-2 t) (list-add-at-2 t) (list-loop-less t) (list-loop-again t) (list-add-t25 t)
     (list-same-length t) (list-returns-2 t) (list-same-length-2 t) (list-returns-3 t) (λ c. search needs)
-    (list-same-length-3 t) (list-returns-4 t) (list-add-t25 t) (list-same-length-4 t) (list-returns-5 t))
+    (list-same-length-3 t) (list-returns-4 t) (list-add-t26 t) (list-same-length-4 t) (list-returns-5 t))
     λ t. slashes-lts.spec (slashes-cs t) (slashes-at t) slashes.Post slashes-Inv-loop slashes-μ-loop
     (slashes-loop-holds t) (slashes-kind-at-requires t) (λ c. search needs) (slashes-same-length t) (slashes-returns t)
     (slashes-add-chain t) (slashes-sub-chain t) (slashes-chain-requires t) (λ c. search needs) (slashes-sub-push t)

@@ -11,4 +11,5 @@ slice-aggregate-s c = simp length-take (omega arith)
 pub show-first-spec : {M : Type 1} → statement M
 show-first-spec =
     tie.close
-    (tie.spec (λ c. search needs) slice-aggregate-s (λ c. search needs) (λ c. search needs) (λ c. search needs))
+    (tie.spec (λ c. search needs) slice-aggregate-s (λ c. search needs) (λ c. search needs) (λ c. search needs)
+    (λ c. search needs))

@@ -81,12 +81,19 @@ fn batch(mode: Mode, opts: Options) -> io::Result<ExitCode> {
     Ok(ExitCode::SUCCESS)
 }
 
+/// All of it, or an error: what is left in the buffer at the program's end would be lost without a word
+fn print(bytes: &[u8]) -> io::Result<()> {
+    let mut output = io::stdout().lock();
+    output.write_all(bytes)?;
+    output.flush()
+}
+
 fn single(mode: Mode, opts: Options) -> io::Result<ExitCode> {
     let mut src = Vec::new();
     io::stdin().lock().read_to_end(&mut src)?;
     let mut out = Vec::new();
     answer(&mut out, mode, &src, opts);
-    io::stdout().lock().write_all(&out)?;
+    print(&out)?;
     Ok(ExitCode::SUCCESS)
 }
 
@@ -130,7 +137,7 @@ fn run(args: &[String]) -> io::Result<ExitCode> {
             let mut line = Vec::new();
             text::hex(&mut line, &src);
             line.push(b'\n');
-            io::stdout().lock().write_all(&line)?;
+            print(&line)?;
             Ok(ExitCode::SUCCESS)
         }
         ["unhex"] => {
@@ -144,7 +151,7 @@ fn run(args: &[String]) -> io::Result<ExitCode> {
                 eprintln!("not hex");
                 return Ok(ExitCode::from(2));
             }
-            io::stdout().lock().write_all(&src)?;
+            print(&src)?;
             Ok(ExitCode::SUCCESS)
         }
         [name, ref rest @ ..] => {
@@ -177,6 +184,27 @@ fn run(args: &[String]) -> io::Result<ExitCode> {
         }
     }
 }
+
+unsafe extern "C" {
+    fn fcntl(fd: i32, command: i32, ...) -> i32;
+}
+
+/// Rust opens /dev/null in the place of a standard stream that is closed, before `main`: reading it would pass for an empty
+/// source, and writing it for an answer that was given. This runs before that.
+extern "C" fn refuse_closed_streams() {
+    const F_GETFD: i32 = 1;
+    for (fd, name) in [(0, "input"), (1, "output")] {
+        // Safety: it only asks whether the descriptor is open
+        if unsafe { fcntl(fd, F_GETFD) } < 0 {
+            eprintln!("standard {name}: {}", io::Error::last_os_error());
+            std::process::exit(2);
+        }
+    }
+}
+
+#[used]
+#[unsafe(link_section = ".init_array")]
+static BEFORE_MAIN: extern "C" fn() = refuse_closed_streams;
 
 fn main() -> ExitCode {
     let args: Vec<String> = std::env::args().skip(1).collect();

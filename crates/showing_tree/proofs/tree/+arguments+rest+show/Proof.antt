@@ -19,8 +19,6 @@ use Rattle.printing.proofs.output.byte.Reads as byte-reads
 use Rattle.showing_tree.proofs.leaf.end.Reads as end-reads
 use Rattle.showing_tree.proofs.leaf.name.Reads as name-reads
 use Rattle.showing_tree.proofs.leaf.start.Reads as start-reads
-use Rattle.showing_tree.proofs.node.argument_after.Reads as argument-after-reads
-use Rattle.showing_tree.proofs.node.first_argument.Reads as first-argument-reads
 use Rattle.showing_tree.proofs.node.node_at.Reads as node-at-reads
 use Rattle.showing_tree.proofs.tree.+arguments+rest+show.{statement}
 use Rattle.showing_tree.proofs.tree.+arguments+rest+show.Tie.{close}
@@ -54,13 +52,13 @@ abbrev show-below : ℕ → In 4 show-kinds.ps
 show-below t = and 4 show-kinds.ps (falls 4 show-kinds.ps _<_ μ-show t) show.Pre
 
 abbrev arguments-Inv-loop : arguments-lts.InvT-loop
-arguments-Inv-loop source tokens nodes i last out₀ at first p₀ row₀ out p row = length out ≡ length out₀
+arguments-Inv-loop source tokens nodes i start out₀ at p₀ shown₀ next₀ out p shown next = length out ≡ length out₀
 
 abbrev arguments-μ-loop : arguments-lts.MeasureT-loop
-arguments-μ-loop source tokens nodes i last out₀ at first p₀ row₀ out p row = i - row
+arguments-μ-loop source tokens nodes i start out₀ at p₀ shown₀ next₀ out p shown next = i - shown
 
 abbrev arguments-cs : ℕ → arguments-lts.Claims
-arguments-cs t = (first-argument-reads.Asked, first-argument-reads.Learnt, show-below t, show.Post, argument-after-reads.Asked, argument-after-reads.Learnt)
+arguments-cs t = (show-below t, show.Post, node-at-reads.Asked, node-at-reads.Learnt)
 
 abbrev rest-cs : ℕ → rest-lts.Claims
 rest-cs t = (name-reads.Asked, name-reads.Learnt, show-below t, show.Post, arguments-below t, arguments.Post)
@@ -73,7 +71,7 @@ pub +arguments+rest+show-spec : {M : Type 1} → statement M
     close μ-arguments μ-rest μ-show
     (λ t. arguments-lts.spec (arguments-cs t) (arguments-at t) arguments.Post arguments-Inv-loop arguments-μ-loop
     (λ c. search needs) (λ c. search needs) (λ c. search needs) (λ c. search needs) (λ c. search needs)
-    (λ c. search needs) (λ c. search needs) (λ c. search needs) (λ c. search needs) (λ c. search needs))
+    (λ c. search needs) (λ c. search needs) (λ c. search needs) (λ c. search needs) (λ c. search needs) (λ c. search needs))
     (λ t. rest-lts.spec (rest-cs t) (rest-at t) rest.Post (λ c. search needs) (λ c. search needs) (λ c. search needs)
     (λ c. search needs) (λ c. search needs) (λ c. search needs) (λ c. search needs) (λ c. search needs)
     (λ c. search needs) (λ c. search needs) (λ c. search needs))

@@ -3,14 +3,14 @@
 use mathlib.Core.Path.{refl}
 use native.Mathlib.Omega.{arith}
 use borrow.Author.Needs.{needs}
-use Rattle.language.specs.Integers.{decimal, ascii}
+use Rattle.language.specs.Integers.{mostDigits, decimal, ascii}
 use Rattle.wide.specs.Wide.{valueOf}
 use Rattle.wide.proofs.Digits.{Written, decimal-start, decimal-byte, digit-fits, again, finished}
 use Rattle.wide.proofs.Wide.decimal.Statement.{statement}
 use Rattle.wide.proofs.Wide.decimal.Tie as tie
 
 abbrev Inv-loop : tie.InvT-loop
-Inv-loop text₀ rest₀ at₀ text rest at = Written 10 39 ascii (decimal (valueOf rest₀)) text (valueOf rest) at
+Inv-loop text₀ rest₀ at₀ text rest at = Written 10 mostDigits ascii (decimal (valueOf rest₀)) text (valueOf rest) at
 
 abbrev μ-loop : tie.MeasureT-loop
 μ-loop text₀ rest₀ at₀ text rest at = at

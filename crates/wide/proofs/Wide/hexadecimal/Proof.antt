@@ -2,7 +2,7 @@
 use mathlib.Core.Path.{refl}
 use native.Mathlib.Omega.{arith}
 use borrow.Author.Needs.{needs}
-use Rattle.language.specs.Integers.{hexadecimal}
+use Rattle.language.specs.Integers.{mostHexDigits, hexadecimal}
 use Rattle.language.specs.Canonical.{spellDigits}
 use Rattle.wide.specs.Wide.{valueOf}
 use Rattle.wide.proofs.Digits.{Written, hexadecimal-start, hexadecimal-byte, hexadecimal-digit, again, finished}
@@ -10,7 +10,7 @@ use Rattle.wide.proofs.Wide.hexadecimal.Statement.{statement}
 use Rattle.wide.proofs.Wide.hexadecimal.Tie as tie
 
 abbrev Inv-loop : tie.InvT-loop
-Inv-loop text₀ rest₀ at₀ text rest at = Written 16 32 spellDigits (hexadecimal (valueOf rest₀)) text (valueOf rest) at
+Inv-loop text₀ rest₀ at₀ text rest at = Written 16 mostHexDigits spellDigits (hexadecimal (valueOf rest₀)) text (valueOf rest) at
 
 abbrev μ-loop : tie.MeasureT-loop
 μ-loop text₀ rest₀ at₀ text rest at = at
