@@ -63,7 +63,7 @@ module _ (s : List ℕ) (t n : ℕ) where
       zero : l .verdict .number ≡ 0
       zero = omega arith
 
-      pub lexed-all : Lexes s toks (l .count)
+      pub lexed-all : Lexes s toks (l .tokens)
       lexed-all = lexes x zero
 
       judged : answer ≡ canonisedWithin n (length (tokens s)) (length (text s))
@@ -103,7 +103,7 @@ module _ (s : List ℕ) (t n : ℕ) where
               canon-done s (t / tokenWidth) n
               (record { fits = record { lexes = w .lexes; short = b }; tokens = w .fit; bytes = a })
 
-          pub accepted : CanonSource s t n (result (l .verdict) (l .count) size) toks u
+          pub accepted : CanonSource s t n (result (l .verdict) (l .tokens) size) toks u
           unfolding canonTokens canonText
           accepted =
               let v : l .verdict ≡ verdictAs (verdict 0 0 0) = verdict-is x ∙ rw (answered x zero) in

@@ -22,6 +22,7 @@ use scan::Scanner;
 use scan::Step;
 use wide::Wide;
 
+#[repr(C)]
 pub struct Canonised {
     pub verdict: Verdict,
     pub tokens: u64,
@@ -238,7 +239,7 @@ pub fn canonicalise(source: &[u8], toks: &mut [u64], text: &mut [u8]) -> Canonis
     if 0 < verdict.number {
         return refused(verdict);
     }
-    let size = all_text(source, toks, lexed.count as usize, text);
+    let size = all_text(source, toks, lexed.tokens as usize, text);
     if room < size {
         return too_long(toks, text);
     }
@@ -247,7 +248,7 @@ pub fn canonicalise(source: &[u8], toks: &mut [u64], text: &mut [u8]) -> Canonis
     }
     Canonised {
         verdict: verdict,
-        tokens: lexed.count,
+        tokens: lexed.tokens,
         bytes: size as u64,
     }
 }

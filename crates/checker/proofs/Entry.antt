@@ -81,15 +81,15 @@ module _ {s toks tree : List ℕ} {count rows : ℕ} (p : Parses s toks tree cou
       (c : Counts) {found held : List ℕ} (g : Adds s noCounts (padTo (length found) []) (padTo (length held) []) (unnamed c) found held ds hs) where
     errors-are : c .errors ≡ errorsIn ds
     unfolding added
-    errors-are = ap (λ (z : Counts). z .errors) (g .counted)
+    errors-are = ap (λ (z : Counts). z .errors) (g .counted) ∙ omega arith
 
     warnings-are : c .warnings ≡ warningsIn ds
     unfolding added
-    warnings-are = ap (λ (z : Counts). z .warnings) (g .counted)
+    warnings-are = ap (λ (z : Counts). z .warnings) (g .counted) ∙ omega arith
 
     held-are : c .statements ≡ length hs
     unfolding added
-    held-are = ap (λ (z : Counts). z .statements) (g .counted)
+    held-are = ap (λ (z : Counts). z .statements) (g .counted) ∙ omega arith
 
     -- errors: the statements are not kept
     pub with-errors : {r : CheckAnswer} {x : List ℕ} → (c .errors ≡ 0 → ⊥) → x ≡ padTo (length held) []

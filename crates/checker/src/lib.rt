@@ -24,6 +24,7 @@ use rows::TokenRow;
 use rows::Verdict;
 use statements::Outcome;
 
+#[repr(C)]
 pub struct CheckAnswer {
     pub verdict: Verdict,
     pub tokens: u64,

@@ -81,14 +81,14 @@ module _ {s : List ℕ} {t n : ℕ} {r : Canonised} {toks left : List ℕ} (c : 
       }
 
   lexed-again : {k : ℕ} {q : Lexed} {table : List ℕ} → LexSource (text s) k q table → r .tokens ≤ k / tokenWidth
-      → (q .verdict .number ≡ 0) × (q .count ≡ r .tokens) × (contents (tokens (text s)) ≡ contents (tokens s))
+      → (q .verdict .number ≡ 0) × (q .tokens ≡ r .tokens) × (contents (tokens (text s)) ≡ contents (tokens s))
       × SameRows s (text s) toks table
   lexed-again {k = n} {q} {table} l room =
       let h = text-lexes-in room in
       let e : q ≡ lexedAs (lexed (verdict 0 0 0) (length (tokens (text s)))) =
       l .answer ∙ ap lexedAs (lex-done (text s) (n / tokenWidth) h) in
-      let k : q .count ≡ length (tokens (text s)) = ap (λ (x : Lexed). x .count) e in
-      let all : Lexes (text s) table (q .count) = holds (text s) n h (l .table ∙ lex-leaves (text s) n h) k in
+      let k : q .tokens ≡ length (tokens (text s)) = ap (λ (x : Lexed). x .tokens) e in
+      let all : Lexes (text s) table (q .tokens) = holds (text s) n h (l .table ∙ lex-leaves (text s) n h) k in
       (ap (λ (x : Lexed). x .verdict .number) e, k ∙ as-many ∙ sym counted, same, same-rows all-tokens all (sym same))
 
   canonised-again : {k m : ℕ} {q : Canonised} {table kept : List ℕ} → CanonSource (text s) k m q table kept

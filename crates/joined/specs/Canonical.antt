@@ -82,7 +82,7 @@ abbrev pub TextLexes : Type 0
 TextLexes =
     (source : List ℕ) (t n : ℕ) (r : Canonised) (toks left : List ℕ) → CanonSource source t n r toks left → Done r
     → (k : ℕ) (q : Lexed) (table : List ℕ) → LexSource (textLeft r left) k q table → r .tokens ≤ k / tokenWidth
-    → (q .verdict .number ≡ 0) × (q .count ≡ r .tokens) × (contents (tokens (textLeft r left)) ≡ contents (tokens source))
+    → (q .verdict .number ≡ 0) × (q .tokens ≡ r .tokens) × (contents (tokens (textLeft r left)) ≡ contents (tokens source))
     × SameRows source (textLeft r left) toks table
 
 -- canonicalising that text with any rooms for as many tokens and bytes answers the same, and leaves the same text, with zeros

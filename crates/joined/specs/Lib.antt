@@ -1,3 +1,4 @@
 pub mod Determined
 pub mod Canonical
 pub mod Exactly
+pub mod Left

@@ -1,25 +1,28 @@
 -- Each call's answer goes by the rows of 01's table.
 use Prim.Native.Nat.{ℕ, suc, _<_}
 use mathlib.Core.Path.{_≡_, refl}
-use mathlib.Core.List.{List, _++_}
+use mathlib.Core.List.{List, _++_, List·Memᴰ, List·Memᴰ·head, Memᴰ·append-right}
+use mathlib.Core.Option.{some}
 use mathlib.Core.Logic.{_↔_, inl, inr}
 use native.Mathlib.Omega.{arith}
 use lib.Dec.{ltb, eqb}
 use lib.ListN.{length, drop}
 use Rattle.language.specs.Utf8.{firstBad}
 use Rattle.language.specs.Lexemes.{scan}
-use Rattle.language.specs.Tokens.{mostBytes, items, firstWrong, tokens, contents, placeOf}
+use Rattle.language.specs.Tokens.{mostBytes, Wrong, items, firstWrong, tokens, contents, placeOf}
 use Rattle.language.specs.Canonical.{text}
 use Rattle.language.specs.Sentences.{Out, ok, no, Stmt, nodes}
 use Rattle.language.specs.Judgements.{Outcome, judged, refused, namesNumber, errorsIn}
 use Rattle.language.specs.Numbers.{Verdict, verdict, placed, lexical, tokenPlace, Scanned, scanned, scanAnswer, Lexed, lexed, lexAnswer, Parsed, parsedAs, parseAnswer, parsedNodes, Canonised, canonAnswer, Checked, refusedCheck, firstCall, statementsOf, checked, judgedWithin, checkAnswer}
 use Rattle.language.specs.Names.{FirstTooMany}
-use Rattle.language.specs.Exactly.{TooLong, NotUtf8, WrongLexeme, TokensExceed, Unexpected, OneMore, NodesExceed, bare, done, lexing, sentences, judging, parse, Reason, unexpectedToken, intOutOfRange, oneTooMany, scanRows, lexRows, parseRows, canonRows, checkRows, ScanExactly, LexExactly, ParseExactly, CanonExactly, CheckExactly}
+use Rattle.language.specs.Exactly.{TooLong, NotUtf8, WrongLexeme, TokensExceed, Unexpected, OneMore, NodesExceed, bare, done, wrongTold, lexing, sentences, judging, parse, Reason, unexpectedToken, intOutOfRange, oneTooMany, scanRows, lexRows, parseRows, canonRows, checkRows, ScanExactly, LexExactly, ParseExactly, CanonExactly, CheckExactly}
 use Rattle.language.proofs.Tests.{never}
 use Rattle.language.proofs.SentenceRefusals.{stops-for}
 use Rattle.language.proofs.Bounds.{earlier-decides, as-alone}
 use Rattle.language.proofs.Counted.{counted}
 use Rattle.language.proofs.Names.{names-refused}
+use Rattle.language.proofs.ItemPlaces.{items-placed}
+use Rattle.language.proofs.ExactlyFound.{wrong-is-first}
 use Rattle.language.proofs.ExactlyRows.{absent, Met, here, later, rowOf, exactly, less, equal, tested, one-tested, both-tested, finds, after}
 
 all-done : Met (verdict 0 0 0) done
@@ -41,6 +44,14 @@ scan-exactly line room = exactly (scanAnswer line room .verdict) (scanRows line 
 
 -- ---- lex
 
+-- the first wrong lexeme stands at the place of its first byte
+wrong-placed : (s : List ℕ) (w : Wrong) → firstWrong (items s) ≡ some w → lexical w ≡ wrongTold s w
+wrong-placed s w e =
+    let f = wrong-is-first (items s) .0 w e in
+    let m : List·Memᴰ (w .at) (items s) = rw (f .2) (Memᴰ·append-right (f .0) (List·Memᴰ·head refl)) in
+    let p = items-placed s (w .at) m in
+    rw (p .0, p .1)
+
 lex-met : (s : List ℕ) (room : ℕ) → Met (lexAnswer s room .verdict) (lexRows s room)
 unfolding lexAnswer
 lex-met s room =
@@ -50,7 +61,7 @@ lex-met s room =
     (λ at e. here (rowOf 2 (lexing s room)) (record { byte = at; found = e }) refl refl)
     (λ e. later (λ h. absent e (h .found))
     (finds v (firstWrong (items s)) (λ w. lexed (lexical w) 0)
-    (λ w f. here (rowOf 3 (lexing s room)) (record { lexeme = w; found = f }) refl refl)
+    (λ w f. here (rowOf 3 (lexing s room)) (record { lexeme = w; found = f }) (wrong-placed s w f) refl)
     (λ f. later (λ h. absent f (h .found)) (tested v 4 (ltb room (length (tokens s))) (less room (length (tokens s))) refl all-done)))))
 
 pub lex-exactly : LexExactly

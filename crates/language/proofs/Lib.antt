@@ -65,8 +65,12 @@ pub mod ExactlyRows
 pub mod Exactly
 pub mod ExactlyFound
 pub mod Samples
+pub mod Worked
 pub mod JudgementExamples
 pub mod JudgementClaims
 pub mod FindingTokens
 pub mod CheckClaims
 pub mod ShownNames
+pub mod Left
+pub mod Told
+pub mod TokensApart

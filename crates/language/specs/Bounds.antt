@@ -9,7 +9,7 @@ use lib.ListN.{length}
 use Rattle.language.specs.Choice.{if′}
 use Rattle.language.specs.Lexemes.{equals, importKeyword, letKeyword}
 use Rattle.language.specs.Tokens.{Content, eof, plain}
-use Rattle.language.specs.Sentences.{Expr, Args, none-given, Stmt, let′, expr′, Out, ok, no, andThen, unexpected, tooDeep, mostSteps, mostLists, is, isName, chainOf, slashes, argsOf, ended, importAt, program}
+use Rattle.language.specs.Sentences.{Expr, Args, none-given, Stmt, let′, expr′, Out, ok, no, andThen, unexpected, tooDeep, is, isName, chainOf, slashes, argsOf, ended, importAt, program}
 
 -- ---- the productions that have a bound, over any bounds
 
@@ -62,7 +62,7 @@ reached (no n k at) = at
 
 -- 01's bounds are 32 and 64
 abbrev pub BoundsMet : Type 0
-BoundsMet = (ts : List Content) → program ts ≡ programIn ts mostLists mostSteps
+BoundsMet = (ts : List Content) → program ts ≡ programIn ts 32 64
 
 -- the grammar alone stops with 5 or not at all, and larger bounds are the same: it has none
 abbrev pub AloneStops : Type 0
@@ -90,4 +90,4 @@ AsAlone =
 -- step more parsing goes past it
 abbrev pub OneTooMany : Type 0
 OneTooMany =
-    (ts : List Content) (u : ℕ) → program ts ≡ no 7 0 u → u < reached (programIn ts (suc mostLists) (suc mostSteps))
+    (ts : List Content) (u : ℕ) → program ts ≡ no 7 0 u → u < reached (programIn ts 33 65)

@@ -13,7 +13,7 @@ use Rattle.language.specs.Choice.{if′}
 use Rattle.language.specs.Lexemes.{lParen, rParen, dot, semiColon, comma, slash}
 use Rattle.language.specs.Tokens.{Content, eof, plain}
 use Rattle.language.specs.Tables.{contentKind}
-use Rattle.language.specs.Sentences.{Stmt, ok, no, mostSteps, mostLists, program}
+use Rattle.language.specs.Sentences.{Stmt, ok, no, program}
 use Rattle.language.specs.Bounds.{alone, reached}
 
 -- two tokens are of one kind
@@ -35,9 +35,9 @@ unfoldable pub turn : Content → ℕ → List ℕ → Effect
 turn c made outer =
     if′ (alike c eof) over
     -- `(` is a step, and in the list that it opens an expression starts
-    (if′ (alike c (plain lParen)) (if′ (leb mostSteps made || leb mostLists (length outer)) oneMore (counts 0 (suc made ∷ outer)))
+    (if′ (alike c (plain lParen)) (if′ (leb 64 made || leb 32 (length outer)) oneMore (counts 0 (suc made ∷ outer)))
     -- `.` and `/` are steps
-    (if′ (alike c (plain dot) || alike c (plain slash)) (if′ (leb mostSteps made) oneMore (counts (suc made) outer))
+    (if′ (alike c (plain dot) || alike c (plain slash)) (if′ (leb 64 made) oneMore (counts (suc made) outer))
     -- `)` closes the list: the expression around it goes on
     (if′ (alike c (plain rParen)) (counts (getD outer 0 0) (drop 1 outer))
     -- after `,` and `;` another expression starts

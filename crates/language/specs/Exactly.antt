@@ -10,20 +10,21 @@ use lib.Dec.{eqb}
 use lib.ListN.{length}
 use Rattle.language.specs.Utf8.{firstBad}
 use Rattle.language.specs.Lexemes.{LexErrorKind, scan}
-use Rattle.language.specs.Tokens.{mostBytes, Content, Item, wrong, Wrong, items, firstWrong, tokens, contents, placeOf}
+use Rattle.language.specs.Tokens.{Content, Item, wrong, Wrong, items, firstWrong, tokens, contents, placeOf}
+use Rattle.language.specs.Tables.{errorKind, errorChar}
 use Rattle.language.specs.Canonical.{text}
 use Rattle.language.specs.Sentences.{Out, no, Stmt, Node, callKind, program}
 use Rattle.language.specs.Bounds.{alone, reached}
 use Rattle.language.specs.Counted.{tooMany}
 use Rattle.language.specs.Judgements.{errorsIn}
-use Rattle.language.specs.Numbers.{Verdict, verdict, placed, lexical, tokenPlace, scanAnswer, lexAnswer, parseAnswer, parsedNodes, canonAnswer, firstCall, statementsOf, checked, foundBy, heldBy, checkAnswer}
+use Rattle.language.specs.Numbers.{Verdict, verdict, placed, tokenPlace, scanAnswer, lexAnswer, parseAnswer, parsedNodes, canonAnswer, firstCall, statementsOf, checked, foundBy, heldBy, checkAnswer}
 use Rattle.language.specs.Names.{FirstTooMany}
 
 -- ---- "Given exactly when"
 
 -- "source over 65,536 bytes"
 abbrev pub TooLong : List ℕ → Type 0
-TooLong s = mostBytes < length s
+TooLong s = 65536 < length s
 
 -- "not well-formed UTF-8", with its "first byte, stepping by whole characters, where no well-formed one starts"
 pub record NotUtf8 (s : List ℕ) : Type 0 where
@@ -83,7 +84,7 @@ pub record NamesExceed (s : List ℕ) : Type 0 where
 
 -- "canonical text exceeds its room or 65,536 bytes"
 abbrev pub TextExceeds : List ℕ → ℕ → Type 0
-TextExceeds s room = (room < length (text s)) ⊎ (mostBytes < length (text s))
+TextExceeds s room = (room < length (text s)) ⊎ (65536 < length (text s))
 
 -- "no errors, and statements exceed the room"
 abbrev pub StatementsExceed : List ℕ → ℕ → Type 0
@@ -108,12 +109,18 @@ bare n C = row n C (λ _. verdict n 0 0)
 abbrev pub done : List Row
 done = bare 0 Unit ∷ []
 
+-- "a lexical error, kind named", at the place of its lexeme's first byte; "the character of an `UnexpectedChar`", else 0
+abbrev pub wrongTold : List ℕ → Wrong → Verdict
+wrongTold s w =
+    let p = placeOf s (w .at .start) in
+    record { number = 3; kind = errorKind (w .kind); line = p .line; column = p .column; character = errorChar (w .kind) }
+
 -- lexing, then the parser, and then the checker: "6 only when neither 5 nor 7 holds"
 abbrev pub lexing : List ℕ → ℕ → List Row
 lexing s room =
     bare 1 (TooLong s)
     ∷ row 2 (NotUtf8 s) (λ h. placed 2 (placeOf s (h .byte)))
-    ∷ row 3 (WrongLexeme s) (λ h. lexical (h .lexeme))
+    ∷ row 3 (WrongLexeme s) (λ h. wrongTold s (h .lexeme))
     ∷ bare 4 (TokensExceed s room)
     ∷ []
 

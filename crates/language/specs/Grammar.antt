@@ -9,7 +9,7 @@ use lib.ListN.{length, getD}
 use Rattle.language.specs.Choice.{if′}
 use Rattle.language.specs.Lexemes.{lParen, rParen, dot, doubleColon, colon, semiColon, equals, comma, slash, importKeyword, letKeyword, ipv4Literal}
 use Rattle.language.specs.Tokens.{Content, eof, plain, name, tokens, contents}
-use Rattle.language.specs.Sentences.{Expr, literal, sock4, local, path, member, call, slash′, Args, none-given, given, named, Stmt, import′, let′, expr′, firstOf, Port, port, tooLarge, notPort, portOf, ok, no, is, isLiteral, mostSteps, mostLists, exprAt, program, Node, nodes}
+use Rattle.language.specs.Sentences.{Expr, literal, sock4, local, path, member, call, slash′, Args, none-given, given, named, Stmt, import′, let′, expr′, firstOf, Port, port, tooLarge, notPort, portOf, ok, no, is, isLiteral, exprAt, program, Node, nodes}
 
 -- the steps of an expression, "not counting those inside its argument lists"
 abbrev pub stepsOf : Expr → ℕ
@@ -68,7 +68,7 @@ module _ (ts : List Content) where
 
     -- "steps (`.`, `(`, `/`) in one expression 64"
     pub data Expression : ℕ → ℕ → Expr → ℕ → Type 0 where
-      is-expression : {d at next : ℕ} {e : Expr} → Slashed d at e next → stepsOf e ≤ mostSteps → Expression d at e next
+      is-expression : {d at next : ℕ} {e : Expr} → Slashed d at e next → stepsOf e ≤ 64 → Expression d at e next
 
     -- one argument after g, which gives h: "A bare name before `:` names its argument"
     pub data Argument : ℕ → ℕ → Args → Args → ℕ → Type 0 where
@@ -94,8 +94,8 @@ module _ (ts : List Content) where
     is-import : {at t mid next : ℕ} → One (plain importKeyword) at t → One (name []) t mid → One (plain semiColon) mid next
         → Statement at (import′ t) next
     is-let : {at t mid u v next : ℕ} {e : Expr} → One (plain letKeyword) at t → One (name []) t mid → One (plain equals) mid u
-        → Expression mostLists u e v → One (plain semiColon) v next → Statement at (let′ t e) next
-    is-expr : {at mid next : ℕ} {e : Expr} → Expression mostLists at e mid → One (plain semiColon) mid next → Statement at (expr′ e) next
+        → Expression 32 u e v → One (plain semiColon) v next → Statement at (let′ t e) next
+    is-expr : {at mid next : ℕ} {e : Expr} → Expression 32 at e mid → One (plain semiColon) mid next → Statement at (expr′ e) next
 
   -- statements to the end
   pub data Program : ℕ → List Stmt → ℕ → Type 0 where

@@ -23,4 +23,7 @@ pub mod Names
 pub mod Checks
 pub mod Determined
 pub mod Exactly
+pub mod Left
+pub mod Told
 pub mod Samples
+pub mod Worked

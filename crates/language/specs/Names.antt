@@ -9,7 +9,7 @@ use Rattle.language.specs.Choice.{if′}
 use Rattle.language.specs.Lexemes.{same}
 use Rattle.language.specs.Tokens.{Content}
 use Rattle.language.specs.Sentences.{Stmt, import′, let′, expr′, ok, program}
-use Rattle.language.specs.Judgements.{namesNumber, mostNames, mostImports, nameAt, refused, judgeAll}
+use Rattle.language.specs.Judgements.{namesNumber, nameAt, refused, judgeAll}
 
 -- names other than w
 unfoldable pub without : List ℕ → List (List ℕ) → List (List ℕ)
@@ -42,8 +42,8 @@ module _ (ts : List Content) where
 
   -- the statement after us has, at the token u, "a 513th distinct let name or 65th distinct import name"
   abbrev pub TooMany : List Stmt → Stmt → ℕ → Type 0
-  TooMany us (let′ t e) u = (t ≡ u) × NewAfter mostNames (letNames us) (nameAt ts t)
-  TooMany us (import′ t) u = (t ≡ u) × NewAfter mostImports (importNames us) (nameAt ts t)
+  TooMany us (let′ t e) u = (t ≡ u) × NewAfter 512 (letNames us) (nameAt ts t)
+  TooMany us (import′ t) u = (t ≡ u) × NewAfter 64 (importNames us) (nameAt ts t)
   TooMany us (expr′ e) u = ⊥
 
   -- "the earlier such name", at the token t: no statement before has one. It is the earlier by tokens too: `EarlierName`.

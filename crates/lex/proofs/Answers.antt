@@ -105,7 +105,7 @@ module _ (s t u : List ℕ) (k : ℕ) (z : t ≡ padTo k []) where
 -- ---- the result, and the table
 
 abbrev pub result : Verdict → ℕ → Lexed
-result v k = record { verdict = v; count = k }
+result v k = record { verdict = v; tokens = k }
 
 module _ (s : List ℕ) (n : ℕ) where
   -- a refusal leaves a table of zeros

@@ -58,8 +58,8 @@ module _ {s : List ℕ} {t : ℕ} {q : Lexed} {a : List ℕ} (o : LexSource s t 
     pub answered : answer ≡ lexed (verdict 0 0 0) (length (tokens s))
     answered = lex-done s (t / tokenWidth) lexes-in
 
-    pub counted : q .count ≡ length (tokens s)
-    counted = ap (λ (x : Lexed). x .count) (o .answer) ∙ ap (λ (x : numbers.Lexed). x .count) answered
+    pub counted : q .tokens ≡ length (tokens s)
+    counted = ap (λ (x : Lexed). x .tokens) (o .answer) ∙ ap (λ (x : numbers.Lexed). x .count) answered
 
     pub rows : a ≡ tabled tokenRow tokenWidth t (tokens s)
     rows = o .table ∙ lex-leaves s t lexes-in
@@ -67,5 +67,5 @@ module _ {s : List ℕ} {t : ℕ} {q : Lexed} {a : List ℕ} (o : LexSource s t 
     pub table-size : length a ≡ t
     table-size = ap length rows ∙ length-tabled tokenRow tokenWidth t (tokens s)
 
-    pub lexes : Lexes s a (q .count)
+    pub lexes : Lexes s a (q .tokens)
     lexes = holds s t lexes-in rows counted

@@ -144,7 +144,7 @@ abbrev pub locAs : Place → Loc
 locAs p = record { line = p .line; column = p .column }
 
 abbrev pub lexedAs : numbers.Lexed → Lexed
-lexedAs a = record { verdict = verdictAs (a .verdict); count = a .count }
+lexedAs a = record { verdict = verdictAs (a .verdict); tokens = a .count }
 
 -- ---- bodies of a string
 

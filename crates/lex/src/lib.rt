@@ -18,8 +18,8 @@ use scan::Scanner;
 use scan::Step;
 use utf8::Bad;
 
-// Adjacent string literals which are being joined in to a single token: where the first stands, where the last ends, and
-// how many there are. None waits where that is 0.
+// The string token that is not written yet, because the next literal may belong to it: the place of its first literal, its
+// span so far, and how many literals it has. With 0 of them there is no such token.
 pub struct PendingStr {
     pub line: u64,
     pub column: u64,
@@ -28,13 +28,13 @@ pub struct PendingStr {
     pub bodies: u64,
 }
 
-// The lexer is fed a line at a time, and writes tokens to a lent table.
+// What is known between two lines. The tokens themselves are in the lent table.
 pub struct Lexer {
-    // Number of lines fed so far.
+    // The number of the last line, 0 before the first.
     pub lno: u64,
     // How many tokens there are so far. One that the table has no room for is counted, and not kept.
     pub count: usize,
-    // String literals which may yet be joined with ones on following lines.
+    // The literals at the end of what was read, which another line may go on.
     pub pending: PendingStr,
 }
 
@@ -50,9 +50,10 @@ pub struct Loc {
     pub column: u64,
 }
 
+#[repr(C)]
 pub struct Lexed {
     pub verdict: Verdict,
-    pub count: u64,
+    pub tokens: u64,
 }
 
 impl PendingStr {
@@ -210,7 +211,7 @@ impl Lexer {
         lexer.lexemes(line, start, table)
     }
 
-    // All of the tokens, ending with a single `Eof` at the start of the line after the last, of a source of `size` bytes.
+    // After the last line of a source of `size` bytes: the string that waits is written, and then `Eof`.
     pub fn finish(self, size: usize, table: &mut [u64]) -> Lexer
         requires { ⌜ Few self size ⌝ }
         ensures { λ r. ⌜ Finishes self (now (table .entry)) size r (now (table .exit)) ⌝ }
@@ -300,11 +301,11 @@ fn feed_lines(source: &[u8], table: &mut [u64]) -> Fed
 }
 
 fn refused(verdict: Verdict) -> Lexed
-    ensures { λ r. ⌜ r ≡ record { verdict = verdict; count = 0 } ⌝ }
+    ensures { λ r. ⌜ r ≡ record { verdict = verdict; tokens = 0 } ⌝ }
 {
     Lexed {
         verdict: verdict,
-        count: 0,
+        tokens: 0,
     }
 }
 
@@ -336,7 +337,7 @@ pub fn lex_source(source: &[u8], table: &mut [u64]) -> Lexed
             }
             Lexed {
                 verdict: Verdict::new(Verdict::DONE, 0, 0),
-                count: done.count as u64,
+                tokens: done.count as u64,
             }
         }
     }

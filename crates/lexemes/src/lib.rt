@@ -6,18 +6,18 @@ use rows::LexemeRow;
 use rows::Tok;
 use wide::Wide;
 
-// What is wrong with the source.
+// Why a lexeme is none of the language's.
 pub enum LexErrorKind {
-    // No token starts with this character. A whole word has its number, so that an error lies in memory as a token does:
+    // The character begins nothing. A whole word has its number, so that an error lies in memory as a token does:
     // else both are read by one load that is wider than what was stored, and such a load waits for the stores.
     UnexpectedChar(u64),
-    // A `"` with no closing `"` on the same line.
+    // The line ends inside a string.
     UnterminatedString,
-    // An integer literal of 2^127 or more.
+    // Its value is 2^127 or more.
     IntOutOfRange,
-    // A decimal integer literal with a leading zero.
+    // It is decimal and begins with `0`, but is not `0`.
     IntLeadingZero,
-    // An integer literal with an unrecognized suffix.
+    // A byte of it is no digit of its base.
     IntInvalidSuffix,
     IPv4Literal,
 }
@@ -61,7 +61,7 @@ impl LexErrorKind {
     }
 }
 
-// What the scanner found at one position in a line.
+// What a lexeme is.
 pub enum LexemeKind {
     // White space or a comment.
     Trivia,

@@ -39,7 +39,7 @@ not-zero (inr e) z = omega arith
 -- ---- what lexing leaves where its number is 0
 
 module _ {s : List ℕ} {t : ℕ} {q : Lexed} {a : List ℕ} (o : LexSource s t q a) (z : q .verdict .number ≡ 0) where
-  pub bounds : (1 ≤ q .count) × (7 * q .count ≤ length a) × (q .count ≤ 65537)
+  pub bounds : (1 ≤ q .tokens) × (7 * q .tokens ≤ length a) × (q .tokens ≤ 65537)
   bounds =
       let l = lexes o z in
       let f = few-tokens s in

@@ -99,7 +99,7 @@ fn port_tok(toks: &[u64], at: usize) -> PortTok
     })
 }
 
-// The port after `ip:`, which is decimal and must fit in 16 bits.
+// What stands where a port must: a decimal up to 65,535, one that is larger, or no decimal at all.
 fn port(toks: &[u64], at: usize) -> PortIs
     requires { ⌜ at ≤ 4294967296 ⌝ }
     ensures { λ r. ⌜ r ≡ portAs (portAt (now (toks .entry)) at) ⌝ }
@@ -536,6 +536,7 @@ pub fn program(toks: &[u64], nodes: &mut [u64]) -> Parsed
 
 // ---- the entry
 
+#[repr(C)]
 pub struct ParseAnswer {
     pub verdict: Verdict,
     pub tokens: u64,
@@ -624,5 +625,5 @@ pub fn parse_source(source: &[u8], toks: &mut [u64], nodes: &mut [u64]) -> Parse
     if verdict.number != Verdict::DONE {
         return refused(verdict);
     }
-    parse_tokens(toks, nodes, lexed.count as usize)
+    parse_tokens(toks, nodes, lexed.tokens as usize)
 }

@@ -52,8 +52,8 @@ impl TokKind {
     pub const DEC_LITERAL: u64 = 18;
 }
 
-// A token of the resynth language: lex.rs `Tok`. The bytes of an `Identifier` are its span, and a `StringLiteral` has the
-// number of its bodies. The lexer makes `Eof` and `StringLiteral`, which no lexeme is.
+// A token: lex.rs `Tok`. A name's bytes are not kept: they are its span. A `StringLiteral` has the number of its bodies. The
+// lexer makes `Eof` and `StringLiteral`; every other token is one lexeme.
 pub enum Tok {
     Eof,
     LParen,

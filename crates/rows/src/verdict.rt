@@ -2,6 +2,7 @@
 ghost use mathlib.Core.Path.{_≡_};
 
 // Its number, which kind of it, where, and the character of an `UnexpectedChar`. All zero: done.
+#[repr(C)]
 pub struct Verdict {
     pub number: u64,
     pub kind: u64,

@@ -41,7 +41,7 @@ module _ (line : List ℕ) (room : ℕ) where
     fits e k c m = rw (le-ltb _ _ h, bad-nowhere (firstBad line) e, scanAnswer, ← c, le-ltb _ _ m)
 
 abbrev pub result : Verdict → ℕ → Scanned
-result v k = record { verdict = v; count = k }
+result v k = record { verdict = v; lexemes = k }
 
 module _ (line : List ℕ) (n : ℕ) where
   -- a refusal leaves a table of zeros

@@ -53,4 +53,4 @@ bodyOf s at e = if′ (leb (at + 2) e) (if′ (leb e (length s)) (between s (at 
 -- ---- the answer
 
 abbrev pub scannedAs : numbers.Scanned → Scanned
-scannedAs a = record { verdict = verdictAs (a .verdict); count = a .count }
+scannedAs a = record { verdict = verdictAs (a .verdict); lexemes = a .count }

@@ -26,7 +26,7 @@ use utf8::Decoded;
 
 // ---- words
 
-// Classifies a word: a keyword, a boolean literal, or else an identifier.
+// Which token the word from `at` up to `end` is: a reserved one, or a name.
 fn word(line: &[u8], at: usize, end: usize) -> Tok
     requires { ⌜ (at ≤ end) × (end ≤ length (now line)) ⌝ }
     ensures { λ r. ⌜ r ≡ wordAt (now (line .entry)) at end ⌝ }
@@ -122,7 +122,7 @@ fn unexpected(at: usize, end: usize, c: u32) -> Lexeme
 
 // ---- the scanner
 
-// A position within one line.
+// How far a line has been scanned: `pos` is where the next lexeme starts.
 pub struct Scanner {
     pub pos: usize,
 }
@@ -226,11 +226,8 @@ impl Scanner {
         unexpected(at, at + 1, b as u32)
     }
 
-    // What starts with a digit.
-    //
-    // Four runs of digits separated by `.` are an IPv4 literal. Otherwise, a run of word characters starting with `0x` and
-    // a hex digit is a hex literal, and any other is a decimal literal. Any word characters which follow the literal are
-    // part of it, so that `123abc` is one malformed literal, and not a literal followed by an identifier.
+    // The lexeme at a digit: an address if digits stand four times there with a dot between, else an integer. It takes in all
+    // letters, digits and `_` up to the next other byte, so a name never begins right after a digit.
     fn number(line: &[u8], at: usize) -> Lexeme
         requires { ⌜ (at < length (now line)) × (isDigit (getD (now line) at 0) ≡ true) ⌝ }
         ensures { λ r. ⌜ r ≡ lexemeAs at (number (drop at (now (line .entry)))) ⌝ }
@@ -266,7 +263,7 @@ impl Scanner {
     }
 }
 
-// The body of a string literal from `start` up to `end`: the part of the line between its quotes.
+// What stands between the quotes of the literal from `start` up to `end`, as a part of the line.
 pub fn body(line: &[u8], start: usize, end: usize) -> &[u8]
     ensures { λ r. ⌜ now r ≡ bodyOf (now (line .entry)) start end ⌝ }
 {
@@ -282,9 +279,10 @@ pub fn body(line: &[u8], start: usize, end: usize) -> &[u8]
 
 // ---- the entry
 
+#[repr(C)]
 pub struct Scanned {
     pub verdict: Verdict,
-    pub count: u64,
+    pub lexemes: u64,
 }
 
 // Writes a row for each lexeme of a line into a table of zeros, and answers how many there are. A row that the table has
@@ -318,14 +316,14 @@ pub fn scan_line(line: &[u8], table: &mut [u64]) -> Scanned
     if Source::MOST_BYTES < line.len() {
         return Scanned {
             verdict: Verdict::new(Verdict::TOO_LONG, 0, 0),
-            count: 0,
+            lexemes: 0,
         };
     }
     let bad = utf8::first_bad(line);
     if let Bad::At(at) = bad {
         return Scanned {
             verdict: Verdict::new(Verdict::NOT_UTF8, 1, at as u64 + 1),
-            count: 0,
+            lexemes: 0,
         };
     }
     let count = fill(line, table);
@@ -333,11 +331,11 @@ pub fn scan_line(line: &[u8], table: &mut [u64]) -> Scanned
         table::clear(table);
         return Scanned {
             verdict: Verdict::new(Verdict::TOKEN_ROOM, 0, 0),
-            count: 0,
+            lexemes: 0,
         };
     }
     Scanned {
         verdict: Verdict::new(Verdict::DONE, 0, 0),
-        count: count,
+        lexemes: count,
     }
 }

@@ -38,5 +38,5 @@ pub fn answer(source: &[u8], table: &mut [u64], out: &mut [u8], at: usize) -> us
     if v.number != Verdict::DONE {
         return verdict::refused(v, out, at);
     }
-    tokens(source, table, lexed.count, out, at)
+    tokens(source, table, lexed.tokens, out, at)
 }

@@ -87,5 +87,5 @@ pub fn answer(source: &[u8], table: &mut [u64], out: &mut [u8], at: usize) -> us
     if v.number != Verdict::DONE {
         return verdict::refused(v, out, at);
     }
-    lexemes(source, table, scanned.count, out, at)
+    lexemes(source, table, scanned.lexemes, out, at)
 }

@@ -1,5 +1,5 @@
 -- The laws that the proofs of the functions cite.
-pub mod Entry
+pub mod Words
 pub mod Bodies
 pub mod Spans
 pub mod Found

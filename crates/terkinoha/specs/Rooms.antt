@@ -9,12 +9,16 @@ use Rattle.language.specs.Sentences.{nodeWidth}
 use Rattle.language.specs.Findings.{stmtWidth}
 use Rattle.language.specs.Tokens.{mostBytes}
 use Rattle.language.specs.Numbers.{scanAnswer, lexAnswer, parseAnswer, canonAnswer, checkAnswer}
-use Rattle.terkinoha.specs.declared.Scanned.{Scanned}
-use Rattle.terkinoha.specs.declared.Lexed.{Lexed}
-use Rattle.terkinoha.specs.declared.Parsed.{Parsed}
-use Rattle.terkinoha.specs.declared.Canonised.{Canonised}
-use Rattle.terkinoha.specs.declared.Checked.{Checked}
-use Rattle.terkinoha.specs.Entry.{ScanLine, LexSource, ParseSource, CanonSource, CheckSource}
+use Rattle.scan.specs.declared.Scanned.{Scanned}
+use Rattle.scan.specs.Entry.{ScanLine}
+use Rattle.lex.specs.declared.Lexed.{Lexed}
+use Rattle.lex.specs.Entry.{LexSource}
+use Rattle.parse.specs.declared.ParseAnswer.{ParseAnswer}
+use Rattle.parse.specs.Entry.{ParseSource}
+use Rattle.canon.specs.declared.Canonised.{Canonised}
+use Rattle.canon.specs.Entry.{CanonSource}
+use Rattle.checker.specs.declared.CheckAnswer.{CheckAnswer}
+use Rattle.checker.specs.Entry.{CheckSource}
 
 -- lexemes: a row for each byte of the line
 abbrev pub ScanRoom : Type 0
@@ -61,7 +65,7 @@ LexEnough =
 abbrev pub ParseEnough : Type 0
 ParseEnough =
     (s : List ℕ) (n : ℕ) (q : Lexed) (left : List ℕ) → LexSource s n q left → q .verdict .number ≡ 0
-    → (t m : ℕ) (r : Parsed) (toks tree : List ℕ) → ParseSource s t m r toks tree
+    → (t m : ℕ) (r : ParseAnswer) (toks tree : List ℕ) → ParseSource s t m r toks tree
     → q .tokens ≤ t / tokenWidth → q .tokens ≤ m / nodeWidth
     → (r .verdict .number ≡ 4 → ⊥) × (r .verdict .number ≡ 6 → ⊥)
 
@@ -75,7 +79,7 @@ CanonEnough =
 abbrev pub CheckEnough : Type 0
 CheckEnough =
     (s : List ℕ) (n : ℕ) (q : Lexed) (left : List ℕ) → LexSource s n q left → q .verdict .number ≡ 0
-    → (t m d k : ℕ) (r : Checked) (toks tree found held : List ℕ) → CheckSource s t m d k r toks tree found held
+    → (t m d k : ℕ) (r : CheckAnswer) (toks tree found held : List ℕ) → CheckSource s t m d k r toks tree found held
     → q .tokens ≤ t / tokenWidth → q .tokens ≤ m / nodeWidth → q .tokens ≤ k / stmtWidth
     → ((r .verdict .number ≡ 4 → ⊥) × (r .verdict .number ≡ 6 → ⊥) × (r .verdict .number ≡ 11 → ⊥))
     × (r .errors + r .warnings ≤ q .tokens)

@@ -1,82 +1,29 @@
-// The C face: what include/terkinoha.h declares and explains. Each entry is thin over the proved one, and promises the same
-// equations. Tables are lent as words; the header turns rows into words. Nothing here keeps anything between calls.
+// The C face: what include/terkinoha.h declares and explains. Each entry hands on what the proved one below it answers, and
+// promises the same equations. Tables are lent as words; the header turns rows into words. Nothing here keeps anything between
+// calls. The words of each answer, in the order that C gets them in, are `Words` of specs/.
 ghost use mathlib.Core.Path.{_≡_};
 ghost use lib.ListN.{length};
-ghost use Rattle.terkinoha.specs.Entry.{verdictOf, ScanLine, LexSource, ParseSource, CanonSource, CheckSource};
+ghost use Rattle.scan.specs.Entry.{ScanLine};
+ghost use Rattle.lex.specs.Entry.{LexSource};
+ghost use Rattle.parse.specs.Entry.{ParseSource};
+ghost use Rattle.canon.specs.Entry.{CanonSource};
+ghost use Rattle.checker.specs.Entry.{CheckSource};
 ghost use Rattle.terkinoha.specs.Bodies.{none, FirstOf, NextBody, BodyAt};
+use canon::Canonised;
+use checker::CheckAnswer;
+use lex::Lexed;
 use lexemes::LexemeKind;
+use parse::ParseAnswer;
+use scan::Scanned;
 use scan::Scanner;
 use scan::Step;
-
-// What a call came to: its number, which kind of it, where, and the character of an `UnexpectedChar`. All zero: done.
-#[repr(C)]
-pub struct Verdict {
-    pub number: u64,
-    pub kind: u64,
-    pub line: u64,
-    pub column: u64,
-    pub character: u64,
-}
-
-#[repr(C)]
-pub struct Scanned {
-    pub verdict: Verdict,
-    pub lexemes: u64,
-}
-
-#[repr(C)]
-pub struct Lexed {
-    pub verdict: Verdict,
-    pub tokens: u64,
-}
-
-#[repr(C)]
-pub struct Parsed {
-    pub verdict: Verdict,
-    pub tokens: u64,
-    pub nodes: u64,
-}
-
-#[repr(C)]
-pub struct Canonised {
-    pub verdict: Verdict,
-    pub tokens: u64,
-    pub bytes: u64,
-}
-
-#[repr(C)]
-pub struct Checked {
-    pub verdict: Verdict,
-    pub tokens: u64,
-    pub nodes: u64,
-    pub errors: u64,
-    pub warnings: u64,
-    pub statements: u64,
-}
-
-// The verdict of a crate below, as C sees it.
-fn as_c(v: rows::Verdict) -> Verdict
-    ensures { λ r. ⌜ r ≡ verdictOf v ⌝ }
-{
-    Verdict {
-        number: v.number,
-        kind: v.kind,
-        line: v.line,
-        column: v.column,
-        character: v.character,
-    }
-}
 
 // Scans a line, which may hold byte 10, into a lent table of lexemes.
 #[no_mangle]
 pub extern "C" fn terkinoha_scan_words(line: &[u8], lexemes: &mut [u64]) -> Scanned
     ensures { λ r. ⌜ ScanLine (now (line .entry)) (length (now (lexemes .entry))) r (now (lexemes .exit)) ⌝ }
 {
-    let scanned = scan::scan_line(line, lexemes);
-    Scanned {
-        verdict: as_c(scanned.verdict),
-        lexemes: scanned.count,
-    }
+    scan::scan_line(line, lexemes)
 }
 
 // Lexes a source into a lent table of tokens.
@@ -84,11 +31,7 @@ pub extern "C" fn terkinoha_scan_words(line: &[u8], lexemes: &mut [u64]) -> Scan
 pub extern "C" fn terkinoha_lex_words(source: &[u8], tokens: &mut [u64]) -> Lexed
     ensures { λ r. ⌜ LexSource (now (source .entry)) (length (now (tokens .entry))) r (now (tokens .exit)) ⌝ }
 {
-    let lexed = lex::lex_source(source, tokens);
-    Lexed {
-        verdict: as_c(lexed.verdict),
-        tokens: lexed.count,
-    }
+    lex::lex_source(source, tokens)
 }
 
 // Parses a source into a lent table of tokens and a lent table of nodes.
@@ -97,15 +40,10 @@ pub extern "C" fn terkinoha_parse_words(
     source: &[u8],
     tokens: &mut [u64],
     nodes: &mut [u64],
-) -> Parsed
+) -> ParseAnswer
     ensures { λ r. ⌜ ParseSource (now (source .entry)) (length (now (tokens .entry))) (length (now (nodes .entry))) r (now (tokens .exit)) (now (nodes .exit)) ⌝ }
 {
-    let parsed = parse::parse_source(source, tokens, nodes);
-    Parsed {
-        verdict: as_c(parsed.verdict),
-        tokens: parsed.tokens,
-        nodes: parsed.nodes,
-    }
+    parse::parse_source(source, tokens, nodes)
 }
 
 // Lexes a source into a lent table of tokens, and writes its canonical text to a lent text.
@@ -117,12 +55,7 @@ pub extern "C" fn terkinoha_canonicalise_words(
 ) -> Canonised
     ensures { λ r. ⌜ CanonSource (now (source .entry)) (length (now (tokens .entry))) (length (now (text .entry))) r (now (tokens .exit)) (now (text .exit)) ⌝ }
 {
-    let canonised = canon::canonicalise(source, tokens, text);
-    Canonised {
-        verdict: as_c(canonised.verdict),
-        tokens: canonised.tokens,
-        bytes: canonised.bytes,
-    }
+    canon::canonicalise(source, tokens, text)
 }
 
 // Checks a source: its tokens and nodes, what was found, and the statements that it holds, each into a lent table.
@@ -133,19 +66,11 @@ pub extern "C" fn terkinoha_check_words(
     nodes: &mut [u64],
     diagnostics: &mut [u64],
     statements: &mut [u64],
-) -> Checked
+) -> CheckAnswer
     ensures { λ r. ⌜ CheckSource (now (source .entry)) (length (now (tokens .entry))) (length (now (nodes .entry))) (length (now (diagnostics .entry))) (length (now (statements .entry)))
         r (now (tokens .exit)) (now (nodes .exit)) (now (diagnostics .exit)) (now (statements .exit)) ⌝ }
 {
-    let checked = checker::check_source(source, tokens, nodes, diagnostics, statements);
-    Checked {
-        verdict: as_c(checked.verdict),
-        tokens: checked.tokens,
-        nodes: checked.nodes,
-        errors: checked.errors,
-        warnings: checked.warnings,
-        statements: checked.statements,
-    }
+    checker::check_source(source, tokens, nodes, diagnostics, statements)
 }
 
 // ---- the bodies of a string

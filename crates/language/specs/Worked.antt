@@ -1,0 +1,161 @@
+-- Rows worked out by hand from docs/TABLES.md, word by word: each kind of finding, of statement and of value once, and blanks at
+-- the edges of their ranges. The order of the words, the numbers of the kinds and the two words of a number can be read here.
+use Prim.Native.Nat.{ℕ, _+_}
+use Prim.Native.String.{String}
+use mathlib.Core.Path.{_≡_}
+use mathlib.Core.Bool.{Bool, true, false}
+use mathlib.Core.List.{List, [], _∷_, _++_, map}
+use lib.ListN.{length}
+use Rattle.table.specs.Table.{flat}
+use Rattle.language.specs.Lexemes.{isBlank}
+use Rattle.language.specs.Numbers.{scanTable, lexTable, checkNodes, checkDiags, checkStmts}
+use Rattle.language.specs.Samples.{bytes}
+
+pub data Work : Type 0 where
+  -- a line and the rows of its lexemes; a source and the rows of its tokens
+  scans : String → List (List ℕ) → Work
+  lexes : String → List (List ℕ) → Work
+  -- a source, and the rows of its nodes, of what is found and of the statements that are held
+  checks : String → List (List ℕ) → List (List ℕ) → List (List ℕ) → Work
+  -- a source, and the rows of what is found
+  finds : String → List (List ℕ) → Work
+
+-- the words of rows, and a zero after them
+abbrev pub wordsOf : List (List ℕ) → List ℕ
+wordsOf rows = flat (λ r. r) rows ++ 0 ∷ []
+
+abbrev pub size : List (List ℕ) → ℕ
+size rows = length (wordsOf rows)
+
+-- in rooms for these rows and one word more, and for 100 of the others
+abbrev pub Comes : Work → Type 0
+Comes (scans t rows) = scanTable (bytes t) (size rows) ≡ wordsOf rows
+Comes (lexes t rows) = lexTable (bytes t) (size rows) ≡ wordsOf rows
+Comes (checks t ns ds hs) =
+    (checkNodes (bytes t) 700 (size ns) (size hs) ≡ wordsOf ns)
+    × (checkDiags (bytes t) 700 (size ns) (size hs) (size ds) ≡ wordsOf ds)
+    × (checkStmts (bytes t) 700 (size ns) (size hs) ≡ wordsOf hs)
+Comes (finds t ds) = checkDiags (bytes t) 700 500 700 (size ds) ≡ wordsOf ds
+
+-- start, end, class, kind, value
+abbrev pub workedLine : Work
+workedLine =
+    scans "x 0x10000000000000001 true \"s\" @ 1.2.3.4" (
+    (0 ∷ 1 ∷ 3 ∷ 13 ∷ 0 ∷ 0 ∷ [])
+    ∷ (1 ∷ 2 ∷ 1 ∷ 0 ∷ 0 ∷ 0 ∷ [])
+    ∷ (2 ∷ 21 ∷ 3 ∷ 17 ∷ 1 ∷ 1 ∷ [])
+    ∷ (21 ∷ 22 ∷ 1 ∷ 0 ∷ 0 ∷ 0 ∷ [])
+    ∷ (22 ∷ 26 ∷ 3 ∷ 14 ∷ 1 ∷ 0 ∷ [])
+    ∷ (26 ∷ 27 ∷ 1 ∷ 0 ∷ 0 ∷ 0 ∷ [])
+    ∷ (27 ∷ 30 ∷ 2 ∷ 0 ∷ 0 ∷ 0 ∷ [])
+    ∷ (30 ∷ 31 ∷ 1 ∷ 0 ∷ 0 ∷ 0 ∷ [])
+    ∷ (31 ∷ 32 ∷ 4 ∷ 1 ∷ 64 ∷ 0 ∷ [])
+    ∷ (32 ∷ 33 ∷ 1 ∷ 0 ∷ 0 ∷ 0 ∷ [])
+    ∷ (33 ∷ 40 ∷ 3 ∷ 15 ∷ 0x01020304 ∷ 0 ∷ [])
+    ∷ []
+    )
+
+-- kind, line, column, start, end, value: of a string how many bodies
+abbrev pub workedTokens : Work
+workedTokens =
+    lexes "let s = \"a\" # c\n\"b\" / 0x10000000000000002;" (
+    (12 ∷ 1 ∷ 1 ∷ 0 ∷ 3 ∷ 0 ∷ 0 ∷ [])
+    ∷ (13 ∷ 1 ∷ 5 ∷ 4 ∷ 5 ∷ 0 ∷ 0 ∷ [])
+    ∷ (8 ∷ 1 ∷ 7 ∷ 6 ∷ 7 ∷ 0 ∷ 0 ∷ [])
+    ∷ (16 ∷ 1 ∷ 9 ∷ 8 ∷ 19 ∷ 2 ∷ 0 ∷ [])
+    ∷ (10 ∷ 2 ∷ 5 ∷ 20 ∷ 21 ∷ 0 ∷ 0 ∷ [])
+    ∷ (17 ∷ 2 ∷ 7 ∷ 22 ∷ 41 ∷ 2 ∷ 1 ∷ [])
+    ∷ (7 ∷ 2 ∷ 26 ∷ 41 ∷ 42 ∷ 0 ∷ 0 ∷ [])
+    ∷ (1 ∷ 3 ∷ 1 ∷ 42 ∷ 42 ∷ 0 ∷ 0 ∷ [])
+    ∷ []
+    )
+
+-- statements: line, column, kind, type, where the text is, value. The value cut to 80 is 2^64 + 65616
+abbrev pub workedStatements : Work
+workedStatements =
+    checks "import bench;\nbench::ping;\n1.2.3.4/18446744073709617232;\ntrue;\n\"x\";\nbench::BANNER;\n0.0.0.9:65535;\n0.0.0.9;\n18446744073709551615;\n300;\n" (
+    (11 ∷ 1 ∷ 0 ∷ 0 ∷ 0 ∷ [])
+    ∷ (1 ∷ 5 ∷ 0 ∷ 0 ∷ 0 ∷ []) ∷ (5 ∷ 3 ∷ 1 ∷ 0 ∷ 0 ∷ []) ∷ (13 ∷ 3 ∷ 2 ∷ 0 ∷ 0 ∷ [])
+    ∷ (2 ∷ 7 ∷ 0 ∷ 0 ∷ 0 ∷ []) ∷ (2 ∷ 9 ∷ 0 ∷ 0 ∷ 0 ∷ []) ∷ (7 ∷ 7 ∷ 4 ∷ 5 ∷ 0 ∷ []) ∷ (13 ∷ 7 ∷ 6 ∷ 0 ∷ 0 ∷ [])
+    ∷ (2 ∷ 11 ∷ 0 ∷ 0 ∷ 0 ∷ []) ∷ (13 ∷ 11 ∷ 8 ∷ 0 ∷ 0 ∷ [])
+    ∷ (2 ∷ 13 ∷ 0 ∷ 0 ∷ 0 ∷ []) ∷ (13 ∷ 13 ∷ 10 ∷ 0 ∷ 0 ∷ [])
+    ∷ (1 ∷ 17 ∷ 0 ∷ 0 ∷ 0 ∷ []) ∷ (5 ∷ 15 ∷ 1 ∷ 0 ∷ 0 ∷ []) ∷ (13 ∷ 15 ∷ 13 ∷ 0 ∷ 0 ∷ [])
+    ∷ (3 ∷ 19 ∷ 0 ∷ 0 ∷ 0 ∷ []) ∷ (13 ∷ 19 ∷ 15 ∷ 0 ∷ 0 ∷ [])
+    ∷ (2 ∷ 23 ∷ 0 ∷ 0 ∷ 0 ∷ []) ∷ (13 ∷ 23 ∷ 17 ∷ 0 ∷ 0 ∷ [])
+    ∷ (2 ∷ 25 ∷ 0 ∷ 0 ∷ 0 ∷ []) ∷ (13 ∷ 25 ∷ 19 ∷ 0 ∷ 0 ∷ [])
+    ∷ (2 ∷ 27 ∷ 0 ∷ 0 ∷ 0 ∷ []) ∷ (13 ∷ 27 ∷ 21 ∷ 0 ∷ 0 ∷ [])
+    ∷ []
+    ) (
+    (2 ∷ 1 ∷ 2 ∷ 24 ∷ 2 ∷ 26 ∷ 30 ∷ 14 ∷ 0 ∷ 0 ∷ 0 ∷ [])
+    ∷ (3 ∷ 9 ∷ 2 ∷ 25 ∷ 0 ∷ 0 ∷ 0 ∷ 4 ∷ 65616 ∷ 1 ∷ 0 ∷ [])
+    ∷ (3 ∷ 1 ∷ 2 ∷ 24 ∷ 0 ∷ 0 ∷ 0 ∷ 8 ∷ 0 ∷ 0 ∷ 0 ∷ [])
+    ∷ (4 ∷ 1 ∷ 2 ∷ 24 ∷ 0 ∷ 0 ∷ 0 ∷ 2 ∷ 0 ∷ 0 ∷ 0 ∷ [])
+    ∷ (5 ∷ 1 ∷ 2 ∷ 24 ∷ 0 ∷ 0 ∷ 0 ∷ 9 ∷ 0 ∷ 0 ∷ 0 ∷ [])
+    ∷ (6 ∷ 1 ∷ 2 ∷ 24 ∷ 0 ∷ 0 ∷ 0 ∷ 9 ∷ 0 ∷ 0 ∷ 0 ∷ [])
+    ∷ (7 ∷ 1 ∷ 2 ∷ 24 ∷ 0 ∷ 0 ∷ 0 ∷ 8 ∷ 0 ∷ 0 ∷ 0 ∷ [])
+    ∷ (8 ∷ 1 ∷ 2 ∷ 24 ∷ 0 ∷ 0 ∷ 0 ∷ 7 ∷ 0 ∷ 0 ∷ 0 ∷ [])
+    ∷ (9 ∷ 1 ∷ 2 ∷ 24 ∷ 0 ∷ 0 ∷ 0 ∷ 6 ∷ 0 ∷ 0 ∷ 0 ∷ [])
+    ∷ (10 ∷ 1 ∷ 2 ∷ 24 ∷ 0 ∷ 0 ∷ 0 ∷ 4 ∷ 0 ∷ 0 ∷ 0 ∷ [])
+    ∷ []
+    ) (
+    (2 ∷ 1 ∷ 1 ∷ 14 ∷ 2 ∷ 26 ∷ 30 ∷ [])
+    ∷ (3 ∷ 1 ∷ 1 ∷ 8 ∷ 0 ∷ 0x01020304 ∷ 80 ∷ [])
+    ∷ (4 ∷ 1 ∷ 1 ∷ 2 ∷ 0 ∷ 1 ∷ 0 ∷ [])
+    ∷ (5 ∷ 1 ∷ 1 ∷ 9 ∷ 1 ∷ 13 ∷ 0 ∷ [])
+    ∷ (6 ∷ 1 ∷ 1 ∷ 9 ∷ 2 ∷ 24 ∷ 26 ∷ [])
+    ∷ (7 ∷ 1 ∷ 1 ∷ 8 ∷ 0 ∷ 9 ∷ 65535 ∷ [])
+    ∷ (8 ∷ 1 ∷ 1 ∷ 7 ∷ 0 ∷ 9 ∷ 0 ∷ [])
+    ∷ (9 ∷ 1 ∷ 1 ∷ 6 ∷ 0 ∷ 18446744073709551615 ∷ 0 ∷ [])
+    ∷ (10 ∷ 1 ∷ 1 ∷ 4 ∷ 0 ∷ 300 ∷ 0 ∷ [])
+    ∷ []
+    )
+
+-- findings: line, column, severity, kind, where the text is, its start and end, type, three fields
+abbrev pub workedFindings : Work
+workedFindings =
+    finds "x;\nlet a=1;\nlet a=2;\ntrue/a;\n9.9.9.9/\"s\";\nimport m;\ny::z;\na.z;\nimport bench;\nbench::q;\nbench::HTTP::q;\nbench::deep;\n18446744073709551616;\nimport bench;\nbench::ping.x;\n" (
+    -- `UnknownName`
+    (1 ∷ 1 ∷ 1 ∷ 1 ∷ 1 ∷ 0 ∷ 1 ∷ 0 ∷ 0 ∷ 0 ∷ 0 ∷ [])
+    -- `AlreadyBound`, first in line 2, column 5
+    ∷ (3 ∷ 5 ∷ 1 ∷ 8 ∷ 1 ∷ 16 ∷ 17 ∷ 0 ∷ 2 ∷ 5 ∷ 0 ∷ [])
+    -- `OperandType`, left and right
+    ∷ (4 ∷ 1 ∷ 1 ∷ 10 ∷ 0 ∷ 0 ∷ 0 ∷ 2 ∷ 1 ∷ 7 ∷ 1 ∷ [])
+    ∷ (5 ∷ 9 ∷ 1 ∷ 10 ∷ 0 ∷ 0 ∷ 0 ∷ 9 ∷ 2 ∷ 4 ∷ 1 ∷ [])
+    -- `UnknownModule`, `NotImported`
+    ∷ (6 ∷ 8 ∷ 1 ∷ 4 ∷ 1 ∷ 49 ∷ 50 ∷ 0 ∷ 0 ∷ 0 ∷ 0 ∷ [])
+    ∷ (7 ∷ 1 ∷ 1 ∷ 5 ∷ 1 ∷ 52 ∷ 53 ∷ 0 ∷ 0 ∷ 0 ∷ 0 ∷ [])
+    -- `NoMembers` of an integer
+    ∷ (8 ∷ 3 ∷ 1 ∷ 9 ∷ 0 ∷ 0 ∷ 0 ∷ 16 ∷ 0 ∷ 0 ∷ 0 ∷ [])
+    -- `UnknownItem` of `bench`, `NotAModule`, `NotAValue`
+    ∷ (10 ∷ 8 ∷ 1 ∷ 2 ∷ 1 ∷ 84 ∷ 85 ∷ 0 ∷ 0 ∷ 5 ∷ 0 ∷ [])
+    ∷ (11 ∷ 8 ∷ 1 ∷ 6 ∷ 1 ∷ 94 ∷ 98 ∷ 0 ∷ 0 ∷ 0 ∷ 0 ∷ [])
+    ∷ (12 ∷ 8 ∷ 1 ∷ 7 ∷ 1 ∷ 110 ∷ 114 ∷ 0 ∷ 0 ∷ 0 ∷ 0 ∷ [])
+    -- `IntegralTooLarge`
+    ∷ (13 ∷ 1 ∷ 1 ∷ 22 ∷ 0 ∷ 0 ∷ 0 ∷ 0 ∷ 0 ∷ 0 ∷ 0 ∷ [])
+    -- `MultipleImports`, a warning
+    ∷ (14 ∷ 8 ∷ 2 ∷ 23 ∷ 1 ∷ 145 ∷ 150 ∷ 0 ∷ 0 ∷ 0 ∷ 0 ∷ [])
+    -- `NoMembers` of the function `ping`
+    ∷ (15 ∷ 13 ∷ 1 ∷ 9 ∷ 2 ∷ 26 ∷ 30 ∷ 14 ∷ 0 ∷ 0 ∷ 0 ∷ [])
+    ∷ []
+    )
+
+-- ---- blanks
+
+-- "Blank: U+0009 to 000D without 000A, 0020, 0085, 00A0, 1680, 2000 to 200A, 2028, 2029, 202F, 205F, 3000": those at the ends of
+-- ranges, and their neighbours, which are none
+abbrev pub blank : List ℕ
+blank =
+    0x09 ∷ 0x0B ∷ 0x0C ∷ 0x0D ∷ 0x20 ∷ 0x85 ∷ 0xA0 ∷ 0x1680 ∷ 0x2000 ∷ 0x200A ∷ 0x2028 ∷ 0x2029 ∷ 0x202F ∷ 0x205F ∷ 0x3000 ∷ []
+
+abbrev pub notBlank : List ℕ
+notBlank =
+    0x08 ∷ 0x0A ∷ 0x0E ∷ 0x1F ∷ 0x21 ∷ 0x84 ∷ 0x86 ∷ 0x9F ∷ 0xA1 ∷ 0x167F ∷ 0x1681 ∷ 0x1FFF ∷ 0x200B ∷ 0x2027 ∷ 0x202A ∷ 0x202E
+    ∷ 0x2030 ∷ 0x205E ∷ 0x2060 ∷ 0x2FFF ∷ 0x3001 ∷ []
+
+-- ---- the claims
+
+abbrev pub RowsWorked : Type 0
+RowsWorked = Comes workedLine × Comes workedTokens × Comes workedStatements × Comes workedFindings
+
+abbrev pub BlanksWorked : Type 0
+BlanksWorked = (map isBlank blank ≡ map (λ _. true) blank) × (map isBlank notBlank ≡ map (λ _. false) notBlank)
