@@ -22,9 +22,10 @@ use Rattle.language.specs.Tables.{lexemeRow, lexemeWidth, tokenRow, toke
 use Rattle.language.specs.Sentences.{Out, ok, no, Stmt, nodes, nodeRow, nodeWidth}
 use Rattle.language.specs.Judgements.{What, unknownName, unknownItem, unknownModule, notImported, notAModule, notAValue, alreadyBound, noMembers, operandType, integralTooLarge, multipleImports, discardedValue, truncated, Diag, isError, errorsIn, warningsIn, Held, Outcome, judged, refused}
 use Rattle.language.specs.Findings.{severityOf, detail, diagRow, diagWidth, stmtRow, stmtWidth}
-use Rattle.language.specs.Numbers.{Verdict, verdict, placed, tokenPlace, Scanned, scanAnswer, scanTable, Lexed, lexAnswer, lexTable, Parsed, parsedAs, parseAnswer, parsedNodes, parseTokens, parseNodes, Canonised, canonised, canonAnswer, canonTokens, canonText, Checked, refusedCheck, firstCall, checked, foundBy, heldBy, checkedWithin, judgedWithin, checkAnswer, tokenOf, checkTokens, checkNodes, checkDiags, checkStmts}
+use Rattle.language.specs.Numbers.{Verdict, verdict, placed, tokenPlace, Scanned, scanAnswer, scanTable, Lexed, lexAnswer, lexTable, Parsed, parsedAs, parseAnswer, parsedNodes, parseTokens, parseNodes, Canonised, canonised, canonAnswer, canonTokens, canonText, Checked, refusedCheck, firstCall, checked, foundBy, heldBy, checkedWithin, judgedWithin, checkAnswer, tokenOf, checkTokens, checkNodes, checkDiags, checkStmts, statementsOf}
 use Rattle.language.specs.Exactly.{parse}
 use Rattle.language.specs.Left.{AllZero, Rows, Leaves, byteRow, severe, ScanLeft, LexLeft, ParseLeft, CanonLeft, CheckLeft}
+use Rattle.language.proofs.Names.{names-refused}
 use Rattle.language.proofs.Tests.{each-side, by-cases, both-sides}
 use Rattle.language.proofs.TokensAt.{row-width}
 use Rattle.language.proofs.NodeClaims.{row-long}
@@ -239,10 +240,13 @@ module _ (s : List ℕ) where
         none-held = λ _. refl;
       })
 
-  judged-counts : (room t n : ℕ) → t ≡ length (tokens s) → n ≡ length (parsedNodes (parse s)) → (o : Outcome)
+  judged-counts : (room t n : ℕ) → t ≡ length (tokens s) → n ≡ length (parsedNodes (parse s)) → (o : Outcome) → checked s ≡ o
       → CheckCounts (foundBy o) (heldBy o) (judgedWithin s room t n o)
-  judged-counts room t n c e (refused at) = check-refused [] [] (placed 9 (tokenPlace s at)) (omega arith)
-  judged-counts room t n c e (judged ds hs) = within-counts room t n ds hs c e
+  unfolding checked
+  judged-counts room t n c e (refused m at) q =
+      let nine = names-refused (contents (tokens s)) (statementsOf (parse s)) m at .0 q .0 in
+      check-refused [] [] (placed m (tokenPlace s at)) (omega (arith, nine))
+  judged-counts room t n c e (judged ds hs) q = within-counts room t n ds hs c e
 
   check-counts : (t n k : ℕ) → CheckCounts (foundBy (checked s)) (heldBy (checked s)) (checkAnswer s t n k)
   unfolding checkAnswer
@@ -253,7 +257,7 @@ module _ (s : List ℕ) where
       by-cases P (eqb (p .verdict .number) 0)
       (λ e.
       found-or P (firstCall (parsedNodes (parse s))) (λ at. check-refused _ _ (placed 8 (tokenPlace s at)) (omega arith))
-      (judged-counts k (p .tokens) (p .nodes) (same-count (c .0) e) (same-count (c .1) e) (checked s)))
+      (judged-counts k (p .tokens) (p .nodes) (same-count (c .0) e) (same-count (c .1) e) (checked s) refl))
       (λ e. check-refused _ _ (p .verdict) (let z = eqb-false (p .verdict .number) 0 e in omega (arith, z)))
 
 -- ---- the claims

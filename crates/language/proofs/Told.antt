@@ -184,30 +184,12 @@ unfolding readSide numbered
 side-back left = refl
 side-back right = refl
 
-readEntry : ℕ → ℕ
-readEntry start =
-    numbered ((0, 1) ∷ (5, 2) ∷ (9, 3) ∷ (13, 4) ∷ (16, 5) ∷ (18, 6) ∷ (26, 7) ∷ (30, 8) ∷ (34, 9) ∷ []) 0 start
-
-entry-back : (m : ℕ) → entryAt m .start < entryAt m .end → readEntry (entryAt m .start) ≡ m
-unfolding entries readEntry numbered
-entry-back zero h = absurd (omega arith)
-entry-back (suc zero) h = refl
-entry-back (suc (suc zero)) h = refl
-entry-back (suc (suc (suc zero))) h = refl
-entry-back (suc (suc (suc (suc zero)))) h = refl
-entry-back (suc (suc (suc (suc (suc zero))))) h = refl
-entry-back (suc (suc (suc (suc (suc (suc zero)))))) h = refl
-entry-back (suc (suc (suc (suc (suc (suc (suc zero))))))) h = refl
-entry-back (suc (suc (suc (suc (suc (suc (suc (suc zero)))))))) h = refl
-entry-back (suc (suc (suc (suc (suc (suc (suc (suc (suc zero))))))))) h = refl
-entry-back (suc (suc (suc (suc (suc (suc (suc (suc (suc (suc m)))))))))) h = absurd (omega arith)
-
 -- ---- findings
 
 -- all but a name that is bound twice, which tells the place of a token
 readWhat : ℕ → ℕ → ℕ → ℕ → What
 readWhat k ty a b =
-    numbered ((1, unknownName) ∷ (2, unknownItem (readEntry a)) ∷ (4, unknownModule) ∷ (5, notImported) ∷ (6, notAModule) ∷ (7, notAValue)
+    numbered ((1, unknownName) ∷ (2, unknownItem a) ∷ (4, unknownModule) ∷ (5, notImported) ∷ (6, notAModule) ∷ (7, notAValue)
     ∷ (9, noMembers (readTy ty)) ∷ (10, operandType (readSide a) (readTy b) (readTy ty)) ∷ (22, integralTooLarge) ∷ (23, multipleImports)
     ∷ (24, discardedValue (readTy ty)) ∷ (25, truncated (b * wordLimit + a) (readTy ty)) ∷ []) unknownName k
 
@@ -216,7 +198,7 @@ module _ (tokenAt : ℕ → Token) (n : ℕ) where
       → let d = detail tokenAt at w in (d .kind ≡ 8 → ⊥) → readWhat (d .kind) (d .type) (d .first) (d .second) ≡ w
   unfolding readWhat numbered
   what-back at unknownName r h = refl
-  what-back at (unknownItem m) r h = ap unknownItem (entry-back m r)
+  what-back at (unknownItem m) r h = refl
   what-back at unknownModule r h = refl
   what-back at notImported r h = refl
   what-back at notAModule r h = refl

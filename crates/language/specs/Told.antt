@@ -61,10 +61,10 @@ RealValue (isString t) = Unit
 RealValue (isText a b) = Unit
 RealValue (isFunction k) = entryAt k .value ≡ some (isFunction k)
 
--- what a finding tells is of the first n tokens, and of entries of the table; a module there has a name
+-- what a finding tells is of the first n tokens, and of entries of the table
 abbrev pub RealWhat : ℕ → What → Type 0
 RealWhat n unknownName = Unit
-RealWhat n (unknownItem m) = entryAt m .start < entryAt m .end
+RealWhat n (unknownItem m) = Unit
 RealWhat n unknownModule = Unit
 RealWhat n notImported = Unit
 RealWhat n notAModule = Unit

@@ -127,7 +127,7 @@ workedFindings =
     -- `NoMembers` of an integer
     ∷ (8 ∷ 3 ∷ 1 ∷ 9 ∷ 0 ∷ 0 ∷ 0 ∷ 16 ∷ 0 ∷ 0 ∷ 0 ∷ [])
     -- `UnknownItem` of `bench`, `NotAModule`, `NotAValue`
-    ∷ (10 ∷ 8 ∷ 1 ∷ 2 ∷ 1 ∷ 84 ∷ 85 ∷ 0 ∷ 0 ∷ 5 ∷ 0 ∷ [])
+    ∷ (10 ∷ 8 ∷ 1 ∷ 2 ∷ 1 ∷ 84 ∷ 85 ∷ 0 ∷ 1 ∷ 0 ∷ 0 ∷ [])
     ∷ (11 ∷ 8 ∷ 1 ∷ 6 ∷ 1 ∷ 94 ∷ 98 ∷ 0 ∷ 0 ∷ 0 ∷ 0 ∷ [])
     ∷ (12 ∷ 8 ∷ 1 ∷ 7 ∷ 1 ∷ 110 ∷ 114 ∷ 0 ∷ 0 ∷ 0 ∷ 0 ∷ [])
     -- `IntegralTooLarge`
