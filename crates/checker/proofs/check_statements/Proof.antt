@@ -1,4 +1,4 @@
-use mathlib.Core.Path.{sym}
+use mathlib.Core.Path.{sym, _∙_}
 use native.Mathlib.Omega.{arith}
 use lib.Seq.{length-take-le}
 use Rattle.checker.proofs.Parsed.{token-words, node-words, lexed-part, rows-fit}
@@ -26,38 +26,27 @@ slice-aggregate-run-2 : tie.Need-slice-aggregate-run-2
 slice-aggregate-run-2 c = sym (length-take-le _ _ (node-words (c .before .before .before .before .before .before .before .pre .0)))
 
 run-requires : tie.Need-run-requires
-run-requires c κs =
-    let start = c .before .before .before .before .before .before .before .before .before in
-    (lexed-part (start .pre .0), rows-fit (start .pre .0))
+run-requires c κs = (lexed-part (c .before .before .before .before .before .before .before .before .before .pre .0), rows-fit (c .before .before .before .before .before .before .before .before .before .pre .0))
 
 at-token-requires : tie.Need-at-token-requires
 at-token-requires c κs = token-words (c .before .before .before .before .before .before .before .before .before .before .before .before .before .before .before .before .before .before .pre .0)
 
 returns : tie.Need-returns
-returns c quiet =
-    let end = c .before .before .before .before .before .before .before .before in
-    let arm = end .before .before .before .before .before .before in
-    let held = arm .before .before .before in
-    let found = held .before .before in
-    let ran = found .before in
-    let start = ran .before .before .before .before .before .before .before .before .before .before in
-    concluded (start .pre .0) quiet (found .diags .given) (held .stmts .given) (ran .run .ensures) (start .pre .1) (arm .counts .given .1) (end .conclude .ensures)
+returns c = λ quiet. concluded (c .before .before .before .before .before .before .before .before .before .before .before .before .before .before .before .before .before .before .before .before .before .before .before .before .before .before .before .before .before .before .pre .0) quiet (c .before .before .before .before .before .before .before .before .before .before .before .before .before .before .before .before .before .before .before .diags .given) (c .before .before .before .before .before .before .before .before .before .before .before .before .before .before .before .before .before .stmts .given) (c .before .before .before .before .before .before .before .before .before .before .before .before .before .before .before .before .before .before .before .before .run .ensures) (c .before .before .before .before .before .before .before .before .before .before .before .before .before .before .before .before .before .before .before .before .before .before .before .before .before .before .before .before .before .before .pre .1) (c .before .before .before .before .before .before .before .before .before .before .before .before .before .before .counts .given .1) (c .before .before .before .before .before .before .before .before .conclude .ensures)
+
+same-length-7 : tie.Need-same-length-7
+same-length-7 c = (c .before .before .before .before .before .before .before .before .give-up .kept .1 .1 .1 .0) ∙ (c .before .before .before .before .before .before .before .before .before .before .before .before .before .before .before .before .before .before .before .before .before .before .run .kept .1 .1 .1 .0)
+
+same-length-8 : tie.Need-same-length-8
+same-length-8 c = (c .before .before .before .before .before .before .before .before .give-up .kept .1 .1 .1 .1 .0) ∙ (c .before .before .before .before .before .before .before .before .before .before .before .before .before .before .before .before .before .before .before .before .before .before .run .kept .1 .1 .1 .1 .0)
 
 returns-2 : tie.Need-returns-2
-returns-2 c quiet =
-    let end = c .before .before .before .before .before .before .before .before in
-    let placed = end .before .before .before .before .before in
-    let arm = placed .before .before .before in
-    let held = arm .before .before .before in
-    let found = held .before .before in
-    let ran = found .before in
-    let start = ran .before .before .before .before .before .before .before .before .before .before in
-    refused-stmt (start .pre .0) quiet (found .diags .given) (held .stmts .given) (ran .run .ensures) (arm .number .given .1) (placed .at-token .ensures) (end .give-up .ensures)
+returns-2 c = λ quiet. refused-stmt (c .before .before .before .before .before .before .before .before .before .before .before .before .before .before .before .before .before .before .before .before .before .before .before .before .before .before .before .before .before .before .before .before .pre .0) quiet (c .before .before .before .before .before .before .before .before .before .before .before .before .before .before .before .before .before .before .before .before .before .diags .given) (c .before .before .before .before .before .before .before .before .before .before .before .before .before .before .before .before .before .before .before .stmts .given) (c .before .before .before .before .before .before .before .before .before .before .before .before .before .before .before .before .before .before .before .before .before .before .run .ensures) (c .before .before .before .before .before .before .before .before .before .before .before .before .before .before .before .before .number .given .1) (c .before .before .before .before .before .before .before .before .before .before .before .before .before .at-token .ensures) (c .before .before .before .before .before .before .before .before .give-up .ensures)
 
 pub check-statements-spec : {M : Type 1} → statement M
 check-statements-spec =
     tie.close
     (tie.spec mul-token-words mul-node-words slice-reshare-prefix-run slice-aggregate-run slice-reshare-prefix-run-2
-    slice-aggregate-run-2 run-requires (λ c. search needs) (λ c. search needs) (λ c. search needs) at-token-requires
-    (λ c. search needs) (λ c. search needs) (λ c. search needs) (λ c. search needs) (λ c. search needs) returns
-    (λ c. search needs) (λ c. search needs) (λ c. search needs) (λ c. search needs) returns-2)
+    slice-aggregate-run-2 run-requires (λ c. search needs) (λ c κs. search needs) (λ c. search needs)
+    at-token-requires (λ c κs. search needs) (λ c. search needs) (λ c. search needs) (λ c. search needs)
+    (λ c. search needs) returns (λ c. search needs) (λ c. search needs) same-length-7 same-length-8 returns-2)
