@@ -1,4 +1,9 @@
 // The rows of the five tables: how many words each has, and which they are, in their order.
+ghost use mathlib.Core.Path.{_≡_};
+ghost use Prim.Native.Nat.{_+_, _*_, _≤_};
+ghost use lib.ListN.{length};
+ghost use Rattle.language.specs.Findings.{diagWidth};
+ghost use Rattle.rows.specs.Rows.{rowDiagnostic};
 
 // What the scanner found.
 pub struct LexemeRow {}
@@ -74,6 +79,27 @@ pub struct DiagnosticRow {
 
 impl DiagnosticRow {
     pub const WORDS: usize = 11;
+}
+
+// Row i of the table of findings.
+pub fn diagnostic_row(diags: &[u64], i: usize) -> DiagnosticRow
+    requires { ⌜ diagWidth * i + diagWidth ≤ length (now diags) ⌝ }
+    ensures { λ r. ⌜ r ≡ rowDiagnostic (now (diags .entry)) i ⌝ }
+{
+    let at = DiagnosticRow::WORDS * i;
+    DiagnosticRow {
+        line: diags[at],
+        column: diags[at + 1],
+        severity: diags[at + 2],
+        kind: diags[at + 3],
+        text: diags[at + 4],
+        start: diags[at + 5],
+        end: diags[at + 6],
+        ty: diags[at + 7],
+        first: diags[at + 8],
+        second: diags[at + 9],
+        third: diags[at + 10],
+    }
 }
 
 // What a check holds.

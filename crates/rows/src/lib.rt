@@ -7,6 +7,7 @@ mod token;
 mod types;
 mod verdict;
 
+pub use layout::diagnostic_row;
 pub use layout::DiagnosticRow;
 pub use layout::LexemeRow;
 pub use layout::NodeRow;

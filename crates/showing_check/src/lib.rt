@@ -9,5 +9,3 @@ mod types;
 pub use answers::answer;
 pub use answers::report;
 pub use answers::tell_unshown;
-pub use diagnostic::Diagnostic;
-pub use statement::Statement;

@@ -2,6 +2,7 @@
 // the source is shown as the list of its raw bodies.
 ghost use Prim.Native.Nat.{_≤_};
 ghost use lib.ListN.{length};
+ghost use Rattle.language.specs.Findings.{stmtWidth};
 use crate::texts;
 use crate::types;
 use printing::output;
@@ -9,29 +10,6 @@ use printing::token;
 use rows::StatementRow;
 use rows::Text;
 use rows::Ty;
-use statements::Checker;
-
-// A row of the table of statements: which its words are, after the line.
-pub struct Statement {}
-
-impl Statement {
-    // How many words a row has.
-    pub const ROW_WORDS: usize = StatementRow::WORDS;
-
-    const COLUMN: usize = 1;
-
-    const KIND: usize = 2;
-
-    const TYPE: usize = 3;
-
-    // where its text is: a string of the source, or the constant table's text
-    const TEXT: usize = 4;
-
-    // what these mean depends on the type
-    const VALUE: usize = 5;
-
-    const SECOND: usize = 6;
-}
 
 // An address and its port.
 fn sock4(out: &mut [u8], at: usize, address: u64, port: u64) -> usize {
@@ -62,10 +40,10 @@ fn value(
     out: &mut [u8],
     at: usize,
 ) -> usize
-    requires { ⌜ 7 ≤ length (now row) ⌝ }
+    requires { ⌜ stmtWidth ≤ length (now row) ⌝ }
 {
-    let value = row[Statement::VALUE];
-    if row[Statement::TEXT] == Text::SOURCE {
+    let value = row[StatementRow::LOW];
+    if row[StatementRow::TEXT] == Text::SOURCE {
         return token::bodies(source, token::row_at(tokens, value as usize).token, out, at);
     }
     let p = output::byte(out, at, b' ');
@@ -73,28 +51,28 @@ fn value(
         text,
         out,
         p,
-        row[Statement::TYPE],
+        row[StatementRow::TYPE],
         value,
-        row[Statement::SECOND],
+        row[StatementRow::HIGH],
     )
 }
 
 // A word, and the place.
 fn placed(word: &[u8], row: &[u64], out: &mut [u8], at: usize) -> usize
-    requires { ⌜ 7 ≤ length (now row) ⌝ }
+    requires { ⌜ stmtWidth ≤ length (now row) ⌝ }
 {
     let p = output::text(out, at, word);
-    output::pair(out, p, row[0], row[Statement::COLUMN])
+    output::pair(out, p, row[StatementRow::LINE], row[StatementRow::COLUMN])
 }
 
 // What stands before the value.
 fn start(row: &[u64], out: &mut [u8], at: usize) -> usize
-    requires { ⌜ 7 ≤ length (now row) ⌝ }
+    requires { ⌜ stmtWidth ≤ length (now row) ⌝ }
 {
     let a = placed(b"stmt ", row, out, at);
-    let b = output::word(out, a, b"- Discard", row[Statement::KIND]);
+    let b = output::word(out, a, b"- Discard", row[StatementRow::KIND]);
     let c = placed(b" (const ", row, out, b);
-    types::word(out, c, row[Statement::TYPE])
+    types::word(out, c, row[StatementRow::TYPE])
 }
 
 fn line_of(
@@ -105,7 +83,7 @@ fn line_of(
     out: &mut [u8],
     at: usize,
 ) -> usize
-    requires { ⌜ 7 ≤ length (now row) ⌝ }
+    requires { ⌜ stmtWidth ≤ length (now row) ⌝ }
 {
     let p = start(row, out, at);
     let q = value(source, text, tokens, row, out, p);

@@ -1,4 +1,5 @@
 // Parts of the constant table's text, which is lent and which rows name by where they start and end.
+use constants::Constants;
 use printing::output;
 
 pub fn plain(text: &[u8], out: &mut [u8], at: usize, start: u64, end: u64) -> usize {
@@ -9,4 +10,14 @@ pub fn plain(text: &[u8], out: &mut [u8], at: usize, start: u64, end: u64) -> us
 pub fn hex(text: &[u8], out: &mut [u8], at: usize, start: u64, end: u64) -> usize {
     let p = output::byte(out, at, b'x');
     output::hex(out, p, parts::part(text, start as usize, end as usize))
+}
+
+// A blank, and the name of an entry.
+pub fn entry(text: &[u8], k: u64, out: &mut [u8], at: usize) -> usize {
+    let table = Constants::new();
+    let rows = table.rows;
+    let p = output::byte(out, at, b' ');
+    let start = constants::entry_word(&rows, k, Constants::NAME_START);
+    let end = constants::entry_word(&rows, k, Constants::NAME_END);
+    plain(text, out, p, start, end)
 }

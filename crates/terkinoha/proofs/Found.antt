@@ -7,25 +7,25 @@ use native.Mathlib.Omega.{arith}
 use lib.ListN.{length, length-append}
 use Rattle.language.specs.Tokens.{Content}
 use Rattle.language.specs.Sentences.{Stmt, stmtNodes, nodesFrom, nodes, stmtSize}
-use Rattle.language.specs.Judgements.{Diag, Held, Known, known, Turn, goes, full, Outcome, judged, refused, stmt, onward, run, judgeAll}
+use Rattle.language.specs.Judgements.{Diag, Held, Known, known, Turn, goes, refuses, Outcome, judged, refused, stmt, onward, run, judgeAll}
 use Rattle.statements.proofs.Runs.{few-findings}
 use Rattle.language.proofs.NodeClaims.{stmt-long, some-stmt-node}
 
 -- as many findings as a and as many statements as b, at the most
 abbrev Within : ℕ → ℕ → Outcome → Type 0
 Within a b (judged ds hs) = (length ds ≤ a) × (length hs ≤ b)
-Within a b (refused t) = Unit
+Within a b (refused m t) = Unit
 
 wider : (a b c d : ℕ) (o : Outcome) → a ≤ c → b ≤ d → Within a b o → Within c d o
 wider a b c d (judged ds hs) h l w = (omega (arith, w .0), omega (arith, w .1))
-wider a b c d (refused t) h l w = tt
+wider a b c d (refused m t) h l w = tt
 
 module _ (ts : List Content) where
   -- one statement of c nodes, and those that follow, of m nodes
   onward-within : (s : Stmt) (n : ℕ) (k : Known) (c m : ℕ) → c ≡ stmtSize s → (t : Turn) → stmt ts n k s ≡ t → (ds : List Diag) (hs : List Held)
       (f : Known → List Diag → List Held → Outcome) → ((k′ : Known) (es : List Diag) (gs : List Held) → Within (length es + m) (length gs + m) (f k′ es gs))
       → Within (length ds + (c + m)) (length hs + (c + m)) (onward ts t ds hs f)
-  onward-within s n k c m l (full t) e ds hs f g = tt
+  onward-within s n k c m l (refuses o t) e ds hs f g = tt
   onward-within s n k c m l (goes k′ es gs) e ds hs f g =
       let h = few-findings ts n k s e in
       wider (length (ds ++ es) + m) (length (hs ++ gs) + m) (length ds + (c + m)) (length hs + (c + m)) (f k′ (ds ++ es) (hs ++ gs))

@@ -25,6 +25,7 @@ use Rattle.language.proofs.LexemeSpans.{spans-join}
 use Rattle.language.proofs.Done.{lex-done, lex-done-only}
 use Rattle.parse.proofs.TokenRows.{few-tokens}
 use Rattle.terkinoha.specs.Rooms.{ScanRoom, LexRoom, ParseRoom, CanonRoom, CheckRoom, ScanEnough, LexEnough, ParseEnough, CanonEnough, CheckEnough}
+use Rattle.language.proofs.Names.{names-refused}
 use Rattle.parse.proofs.Few.{nodes-few}
 use Rattle.language.proofs.SentenceRefusals.{refused-number}
 use Rattle.terkinoha.proofs.Found.{found-few}
@@ -128,7 +129,7 @@ check-room s room t n k z h l i = go (program cs) refl
         × (a .errors + a .warnings ≤ lexAnswer s room .count)
 
     judged-in : (ss : List Stmt) (a b : ℕ) → length (nodes ss) ≤ lexAnswer s room .count → (o : Outcome) → judgeAll cs ss ≡ o → P (judgedWithin s k a b o)
-    judged-in ss a b m (refused at) e = (other 9 refl, omega arith)
+    judged-in ss a b m (refused v at) e = (let nine = names-refused cs ss v at .0 e .0 in rw nine (other 9 refl), omega arith)
     judged-in ss a b m (judged ds hs) e =
         let w = found-few cs ss e in
         let c = all-counted ds in
