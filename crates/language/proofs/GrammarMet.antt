@@ -17,7 +17,7 @@ use Rattle.language.proofs.Tests.{either}
 use Rattle.language.proofs.GrammarSound.{found-program}
 use Rattle.language.proofs.SentenceUnfolds.{names-unfold, slashes-unfold, expr-unfolds, args-unfold, list-unfolds, stmts-unfold, program-unfolds}
 
-is-good : (p : Port) → isPort p ≡ true → p ≡ port
+pub is-good : (p : Port) → isPort p ≡ true → p ≡ port
 is-good port e = refl
 is-good tooLarge e = absurd (false≢true e)
 is-good notPort e = absurd (false≢true e)

@@ -45,6 +45,7 @@ pub mod GrammarPlaces
 pub mod SentenceUnfolds
 pub mod GrammarMet
 pub mod GrammarRows
+pub mod Sound
 pub mod TokenTexts
 pub mod NodeClaims
 pub mod NodeCalls
