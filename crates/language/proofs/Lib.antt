@@ -49,6 +49,7 @@ pub mod Sound
 pub mod TokenTexts
 pub mod NodeClaims
 pub mod NodeCalls
+pub mod NothingMadeUp
 pub mod RowClaims
 pub mod ParseClaims
 pub mod PortKinds

@@ -6,10 +6,16 @@ use mathlib.Core.Path.{_≡_}
 use mathlib.Core.Bool.{Bool, true, _||_}
 use mathlib.Core.List.{List, [], _∷_, _++_, List·Memᴰ}
 use mathlib.Core.Option.{Option, none, some}
+use lib.Dec.{ltb}
 use lib.ListN.{length, getD}
+use Rattle.language.specs.Choice.{if′}
 use Rattle.language.specs.Lexemes.{lParen, booleanLiteral, ipv4Literal, hexLiteral, decLiteral}
 use Rattle.language.specs.Tokens.{Content, eof, plain, name, string, tokens, contents}
-use Rattle.language.specs.Sentences.{Expr, literal, sock4, local, path, member, call, slash′, Args, none-given, given, named, Stmt, import′, let′, expr′, largestPort, ok, program}
+use Rattle.language.specs.Sentences.{Expr, literal, sock4, local, path, member, call, slash′, Args, none-given, given, named, Stmt, import′, let′, expr′, firstOf, largestPort, ok, is, isLiteral, program}
+use Rattle.language.specs.Tables.{contentLow}
+use Rattle.language.specs.Values.{Value, isSock4, typeOf, entryAt, lookup}
+use Rattle.language.specs.Judgements.{namesNumber, mostNames, mostImports, unknownItem, unknownModule, notImported, alreadyBound, noMembers, multipleImports, Diag, diag, Judged, val, err, poisoned, Judgement, judgement, andThen, Import, Binding, Known, known, find, findImport, Held, Turn, goes, refuses, Outcome, judged, content, literalAt, lastItem, innerItem, boundTo, leftOf, rightOf, told, onward}
+use Rattle.language.specs.Numbers.{firstCall, parsedNodes, statementsOf, checked}
 
 -- ---- trees that name tokens of the right kinds
 
@@ -60,6 +66,95 @@ module _ (ts : List Content) where
   SoundStmt (let′ t e) = NameStands t × SoundExpr e
   SoundStmt (expr′ e) = SoundExpr e
 
+-- ---- judging with other values where something cannot happen
+
+-- what stands for the bytes of a token that is no name, the value of one that is no literal, the number of one that is no address or
+-- no decimal, for what a path comes to that has no name to look up, and for a call, which is refused before
+pub record MadeUp : Type 0 where
+  pub bytes : List ℕ
+  pub value : Value
+  pub number : ℕ
+  pub walked : Judged
+  pub called : Judgement
+
+-- the definitions of Judgements.antt, of the same names without `Or`, but that these stand there
+module _ (ts : List Content) (x : MadeUp) where
+  abbrev pub bytesOr : Content → List ℕ
+  bytesOr (name bs) = bs
+  bytesOr eof = x .bytes
+  bytesOr (plain t) = x .bytes
+  bytesOr (string b bs) = x .bytes
+
+  unfoldable pub nameOr : ℕ → List ℕ
+  nameOr t = bytesOr (content ts t)
+
+  unfoldable pub literalOr : ℕ → Value
+  literalOr t = if′ (isLiteral ts t || is ts t (plain (ipv4Literal 0))) (literalAt ts t) (x .value)
+
+  unfoldable pub numberOr : Content → ℕ → ℕ
+  numberOr c t = if′ (is ts t c) (contentLow (content ts t)) (x .number)
+
+  unfoldable pub walkOr : ℕ → ℕ → ℕ → Judged
+  walkOr zero m t = x .walked
+  walkOr (suc zero) m t = elim (lookup m (nameOr (t + 2))) [
+    | none ↦ err (t + 2) (unknownItem m)
+    | some k ↦ lastItem ts (t + 2) (entryAt k .value)
+  ]
+  walkOr (suc (suc n)) m t = elim (lookup m (nameOr (t + 2))) [
+    | none ↦ err (t + 2) (unknownItem m)
+    | some k ↦ innerItem ts (t + 2) (entryAt k .value) (walkOr (suc n) k (t + 2))
+  ]
+
+  abbrev pub belowOr : ℕ → ℕ → Option Import → Judged
+  belowOr t n none = err t notImported
+  belowOr t n (some i) = elim (i .found) [ none ↦ poisoned | some m ↦ walkOr n m t ]
+
+  module _ (n : ℕ) where
+    unfoldable pub judgeOr : Known → Expr → Judgement
+    judgeOr k (literal t) = judgement (val (literalOr t)) []
+    judgeOr k (sock4 t) = judgement (val (isSock4 (numberOr (plain (ipv4Literal 0)) t) (numberOr (plain (decLiteral 0)) (t + 2)))) []
+    judgeOr k (local t) = judgement (boundTo ts t (find (k .bindings) (nameOr t))) []
+    judgeOr k (path t m) = judgement (belowOr t m (findImport (k .imports) (nameOr t))) []
+    judgeOr k (member e t) = andThen (judgeOr k e) (λ v. judgement (err t (noMembers (typeOf v))) [])
+    judgeOr k (slash′ a b) =
+        andThen (judgeOr k a) (leftOf ts (firstOf a) (λ ip. andThen (judgeOr k b) (rightOf ts n ip (firstOf b))))
+    judgeOr k (call e t g) = x .called
+
+    abbrev pub importedOr : Known → ℕ → Option ℕ → Turn
+    importedOr k t (some m) = goes (known (k .imports ++ record { name = nameOr t; found = some m } ∷ []) (k .bindings)) [] []
+    importedOr k t none =
+        goes (known (k .imports ++ record { name = nameOr t; found = none } ∷ []) (k .bindings)) (diag n t unknownModule ∷ []) []
+
+    abbrev pub importStmtOr : Known → ℕ → Option Import → Turn
+    importStmtOr k t (some i) = goes k (diag n t multipleImports ∷ []) []
+    importStmtOr k t none =
+        if′ (ltb (length (k .imports)) mostImports) (importedOr k t (lookup 0 (nameOr t))) (refuses namesNumber t)
+
+    abbrev pub bindOr : Known → ℕ → Option Value → Known
+    bindOr k t v = known (k .imports) (k .bindings ++ record { name = nameOr t; tok = t; value = v } ∷ [])
+
+    abbrev pub boundOr : Known → ℕ → Judged → List Diag → Turn
+    boundOr k t (val v) ws = goes (bindOr k t (some v)) ws []
+    boundOr k t (err at w) ws = goes (bindOr k t none) (ws ++ diag n at w ∷ []) []
+    boundOr k t poisoned ws = goes (bindOr k t none) ws []
+
+    abbrev pub letStmtOr : Known → ℕ → Expr → Option Binding → Turn
+    letStmtOr k t e (some b) = goes k (diag n t (alreadyBound (b .tok)) ∷ []) []
+    letStmtOr k t e none =
+        if′ (ltb (length (k .bindings)) mostNames) (boundOr k t (judgeOr k e .out) (judgeOr k e .warns)) (refuses namesNumber t)
+
+    unfoldable pub stmtOr : Known → Stmt → Turn
+    stmtOr k (import′ t) = importStmtOr k t (findImport (k .imports) (nameOr t))
+    stmtOr k (let′ t e) = letStmtOr k t e (find (k .bindings) (nameOr t))
+    stmtOr k (expr′ e) = told ts n k (firstOf e) (judgeOr k e .out) (judgeOr k e .warns)
+
+  unfoldable pub runOr : List Stmt → ℕ → Known → List Diag → List Held → Outcome
+  runOr [] n k ds hs = judged ds hs
+  runOr (s ∷ ss) n k ds hs = onward ts (stmtOr n k s) ds hs (λ k′ es gs. runOr ss (suc n) k′ es gs)
+
+  abbrev pub judgeAllOr : List Stmt → Outcome
+  judgeAllOr ss = runOr ss 1 (known [] []) [] []
+
 -- ---- the claims
 
 -- each statement of a source that parses is such a tree
@@ -67,3 +162,9 @@ abbrev pub TreesSound : Type 0
 TreesSound =
     (s : List ℕ) (ss : List Stmt) (next x : ℕ) → program (contents (tokens s)) ≡ ok ss next x
     → (a : Stmt) → List·Memᴰ a ss → SoundStmt (contents (tokens s)) a
+
+-- in a source with no call, judging asks for none of these values: whatever they are, it comes to the same
+abbrev pub NothingMadeUp : Type 0
+NothingMadeUp =
+    (s : List ℕ) (x : MadeUp) → firstCall (parsedNodes (program (contents (tokens s)))) ≡ none
+    → judgeAllOr (contents (tokens s)) x (statementsOf (program (contents (tokens s)))) ≡ checked s
