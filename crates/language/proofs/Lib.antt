@@ -73,6 +73,7 @@ pub mod JudgementClaims
 pub mod FindingTokens
 pub mod CheckClaims
 pub mod ShownNames
+pub mod PlacesInside
 pub mod Left
 pub mod Told
 pub mod TokensApart

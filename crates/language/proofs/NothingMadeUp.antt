@@ -5,7 +5,8 @@ use mathlib.Core.Bool.{Bool, true, false, or-true}
 use mathlib.Core.List.{List, [], _∷_, _++_, List·Memᴰ, List·Memᴰ·head, List·Memᴰ·tail, List·Memᴰ·not-nil}
 use mathlib.Core.Option.{Option, none, some}
 use native.Mathlib.Omega.{arith}
-use lib.Dec.{eqb, ltb}
+use borrow.Author.Tests.{eqb-true}
+use lib.Dec.{eqb}
 use lib.ListN.{length}
 use Rattle.language.specs.Choice.{if′}
 use Rattle.language.specs.Lexemes.{ipv4Literal, decLiteral}
@@ -14,9 +15,10 @@ use Rattle.language.specs.Tables.{contentLow}
 use Rattle.language.specs.Sentences.{Expr, literal, sock4, local, path, member, call, slash′, Stmt, import′, let′, expr′, firstOf, Out, ok, no, is, callKind, Node, nodes, program, callsOf, argCalls, stmtCalls, programCalls, callTokens}
 use Rattle.language.specs.Values.{Value, entryAt, lookup}
 use Rattle.language.specs.Judgements.{unknownItem, notImported, Diag, Judged, val, err, poisoned, Judgement, judgement, andThen, Import, Binding, Known, known, find, findImport, mostImports, mostNames, Held, Turn, goes, refuses, Outcome, content, nameAt, literalAt, lastItem, innerItem, walk, below, leftOf, rightOf, judge, imported, importStmt, bound, letStmt, stmt, onward, run, judgeAll}
-use Rattle.language.specs.Numbers.{sooner, firstCall, parsedNodes, statementsOf, checked}
+use Rattle.language.specs.Numbers.{firstCall, parsedNodes, statementsOf, checked}
 use Rattle.language.specs.Sound.{NameStands, AddressStands, PortStands, PathStands, LiteralStands, a-bool, a-string, a-hex, a-dec, an-address, SoundExpr, SoundStmt, MadeUp, nameOr, literalOr, numberOr, walkOr, belowOr, judgeOr, importedOr, importStmtOr, boundOr, letStmtOr, stmtOr, runOr, judgeAllOr, NothingMadeUp}
-use Rattle.language.proofs.Tests.{never, each-side}
+use Rattle.language.proofs.Tests.{never, by-cases}
+use Rattle.language.proofs.ExactlyFound.{call-is-first}
 use Rattle.language.proofs.NodeCalls.{calls-shown}
 use Rattle.language.proofs.Sound.{trees-sound}
 
@@ -29,16 +31,10 @@ none-left (a ∷ xs) ys e = never (cc)
 none-called : (ns : List Node) → firstCall ns ≡ none → callTokens ns ≡ []
 unfolding firstCall callTokens
 none-called [] e = refl
-none-called (n ∷ ns) e = by (eqb (n .kind) callKind) e (none-called ns)
-  where
-    some-sooner : (o : Option ℕ) → sooner (n .third) o ≡ none → ⊥
-    some-sooner none f = never (cc)
-    some-sooner (some u) f = each-side (λ p. p ≡ none → ⊥) (ltb u (n .third)) (λ g. never (cc)) (λ g. never (cc)) f
-
-    by : (b : Bool) → if′ b (sooner (n .third) (firstCall ns)) (firstCall ns) ≡ none → (firstCall ns ≡ none → callTokens ns ≡ [])
-        → if′ b (n .third ∷ callTokens ns) (callTokens ns) ≡ []
-    by true f rest = absurd (some-sooner (firstCall ns) f)
-    by false f rest = rest f
+none-called (n ∷ ns) e =
+    by-cases (λ ts. ts ≡ []) (eqb (n .kind) callKind)
+    (λ k. absurd (call-is-first (n ∷ ns) .1 e n (List·Memᴰ·head refl) (eqb-true (n .kind) callKind k)))
+    (λ k. none-called ns (rw (k, firstCall) at e))
 
 module _ (ts : List Content) (x : MadeUp) where
   -- ---- tokens

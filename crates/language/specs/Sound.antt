@@ -14,8 +14,8 @@ use Rattle.language.specs.Tokens.{Content, eof, plain, name, string, tok
 use Rattle.language.specs.Sentences.{Expr, literal, sock4, local, path, member, call, slash′, Args, none-given, given, named, Stmt, import′, let′, expr′, firstOf, largestPort, ok, is, isLiteral, program}
 use Rattle.language.specs.Tables.{contentLow}
 use Rattle.language.specs.Values.{Value, isSock4, typeOf, entryAt, lookup}
-use Rattle.language.specs.Judgements.{namesNumber, mostNames, mostImports, unknownItem, unknownModule, notImported, alreadyBound, noMembers, multipleImports, Diag, diag, Judged, val, err, poisoned, Judgement, judgement, andThen, Import, Binding, Known, known, find, findImport, Held, Turn, goes, refuses, Outcome, judged, content, literalAt, lastItem, innerItem, boundTo, leftOf, rightOf, told, onward}
-use Rattle.language.specs.Numbers.{firstCall, parsedNodes, statementsOf, checked}
+use Rattle.language.specs.Judgements.{namesNumber, mostNames, mostImports, unknownItem, unknownModule, notImported, alreadyBound, noMembers, multipleImports, Diag, diag, Judged, val, err, poisoned, Judgement, judgement, andThen, Import, Binding, Known, known, find, findImport, Held, Turn, goes, refuses, Outcome, judged, refused, content, literalAt, lastItem, innerItem, boundTo, leftOf, rightOf, told, onward}
+use Rattle.language.specs.Numbers.{firstCall, parsedNodes, statementsOf, checked, foundBy, heldBy}
 
 -- ---- trees that name tokens of the right kinds
 
@@ -168,3 +168,13 @@ abbrev pub NothingMadeUp : Type 0
 NothingMadeUp =
     (s : List ℕ) (x : MadeUp) → firstCall (parsedNodes (program (contents (tokens s)))) ≡ none
     → judgeAllOr (contents (tokens s)) x (statementsOf (program (contents (tokens s)))) ≡ checked s
+
+-- and the places that check shows are those of tokens of the source: of each finding, and where its name was bound first; of each
+-- statement that is held; of a name that is one too many; and of the first call. Of 5 and 7 it is `StopsInside` (Grammar.antt).
+abbrev pub PlacesInside : Type 0
+PlacesInside =
+    (s : List ℕ) (t : ℕ)
+    → ((d : Diag) → List·Memᴰ d (foundBy (checked s)) → (d .at < length (tokens s)) × (d .what ≡ alreadyBound t → t < length (tokens s)))
+    × ((h : Held) → List·Memᴰ h (heldBy (checked s)) → h .at < length (tokens s))
+    × ((m : ℕ) → checked s ≡ refused m t → t < length (tokens s))
+    × (firstCall (parsedNodes (program (contents (tokens s)))) ≡ some t → t < length (tokens s))
