@@ -13,6 +13,7 @@ use Rattle.language.specs.Lexemes.{lParen, booleanLiteral, ipv4Literal, 
 use Rattle.language.specs.Tokens.{Content, eof, plain, name, string, tokens, contents}
 use Rattle.language.specs.Sentences.{Expr, literal, sock4, local, path, member, call, slash′, Args, none-given, given, named, Stmt, import′, let′, expr′, firstOf, largestPort, ok, is, isLiteral, program}
 use Rattle.language.specs.Tables.{contentLow}
+use Rattle.language.specs.Bounds.{alone}
 use Rattle.language.specs.Values.{Value, isSock4, typeOf, entryAt, lookup}
 use Rattle.language.specs.Judgements.{namesNumber, mostNames, mostImports, unknownItem, unknownModule, notImported, alreadyBound, noMembers, multipleImports, Diag, diag, Judged, val, err, poisoned, Judgement, judgement, andThen, Import, Binding, Known, known, find, findImport, Held, Turn, goes, refuses, Outcome, judged, refused, content, literalAt, lastItem, innerItem, boundTo, leftOf, rightOf, told, onward}
 use Rattle.language.specs.Numbers.{firstCall, parsedNodes, statementsOf, checked, foundBy, heldBy}
@@ -162,6 +163,13 @@ abbrev pub TreesSound : Type 0
 TreesSound =
     (s : List ℕ) (ss : List Stmt) (next x : ℕ) → program (contents (tokens s)) ≡ ok ss next x
     → (a : Stmt) → List·Memᴰ a ss → SoundStmt (contents (tokens s)) a
+
+-- what parses asks for no token past `Eof`: whatever stood there, the trees would be the same. Where a token is refused, that is one
+-- of the source's (`StopsInside`: Grammar.antt), and none after it matters (`NoneFollows`: Follows.antt).
+abbrev pub NoneAfter : Type 0
+NoneAfter =
+    (s : List ℕ) (us : List Content) (ss : List Stmt) (next x : ℕ) → program (contents (tokens s)) ≡ ok ss next x
+    → alone (contents (tokens s) ++ us) ≡ ok ss next x
 
 -- in a source with no call, judging asks for none of these values: whatever they are, it comes to the same
 abbrev pub NothingMadeUp : Type 0
