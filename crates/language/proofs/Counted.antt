@@ -8,10 +8,10 @@ use Prim.Native.Nat.{ℕ, _+_, _≤_, _<_}
 use native.Mathlib.Omega.{arith}
 use borrow.Author.Tests.{eq-eqb}
 use lib.ListN.{getD}
-use Rattle.language.specs.Lexemes.{lParen, rParen, dot, doubleColon, colon, semiColon, equals, comma, slash, importKeyword, letKeyword, identifier, booleanLiteral, ipv4Literal, hexLiteral, decLiteral}
-use Rattle.language.specs.Tokens.{Content, eof, plain, name, string}
+use Rattle.language.specs.Lexemes.{lParen, dot, colon, decLiteral}
+use Rattle.language.specs.Tokens.{Content, eof, plain}
 use Rattle.language.specs.Tables.{contentKind}
-use Rattle.language.specs.Sentences.{Stmt, port, portOf, Out, ok, no, mostSteps, mostLists, is, program}
+use Rattle.language.specs.Sentences.{Stmt, port, Out, ok, no, mostSteps, mostLists, is, program}
 use Rattle.language.specs.Grammar.{isStep}
 use Rattle.language.specs.Bounds.{alone, reached}
 use Rattle.language.specs.Counted.{turn, tooMany, Counted, CountedInPrograms}

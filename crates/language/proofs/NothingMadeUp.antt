@@ -1,20 +1,17 @@
 -- No value that stands for what cannot happen is asked for: the trees of a program are sound, and a call is refused before.
 use Prim.Native.Nat.{ℕ, zero, suc, _+_, _*_, _<_}
 use mathlib.Core.Path.{_≡_, refl, sym, ap, _∙_}
-use mathlib.Core.Bool.{Bool, true, false, or-true}
 use mathlib.Core.List.{List, [], _∷_, _++_, List·Memᴰ, List·Memᴰ·head, List·Memᴰ·tail, List·Memᴰ·not-nil}
 use mathlib.Core.Option.{Option, none, some}
 use native.Mathlib.Omega.{arith}
 use borrow.Author.Tests.{eqb-true}
 use lib.Dec.{eqb}
-use lib.ListN.{length}
-use Rattle.language.specs.Choice.{if′}
 use Rattle.language.specs.Lexemes.{ipv4Literal, decLiteral}
 use Rattle.language.specs.Tokens.{Content, plain, tokens, contents}
 use Rattle.language.specs.Tables.{contentLow}
-use Rattle.language.specs.Sentences.{Expr, literal, sock4, local, path, member, call, slash′, Stmt, import′, let′, expr′, firstOf, Out, ok, no, is, callKind, Node, nodes, program, callsOf, argCalls, stmtCalls, programCalls, callTokens}
-use Rattle.language.specs.Values.{Value, entryAt, lookup}
-use Rattle.language.specs.Judgements.{unknownItem, notImported, Diag, Judged, val, err, poisoned, Judgement, judgement, andThen, Import, Binding, Known, known, find, findImport, mostImports, mostNames, Held, Turn, goes, refuses, Outcome, content, nameAt, literalAt, lastItem, innerItem, walk, below, leftOf, rightOf, judge, imported, importStmt, bound, letStmt, stmt, onward, run, judgeAll}
+use Rattle.language.specs.Sentences.{Expr, literal, sock4, local, path, member, call, slash′, Stmt, import′, let′, expr′, Out, ok, no, callKind, Node, nodes, program, callsOf, argCalls, stmtCalls, programCalls, callTokens}
+use Rattle.language.specs.Values.{entryAt, lookup}
+use Rattle.language.specs.Judgements.{unknownItem, Diag, Judged, val, err, poisoned, Import, Binding, Known, known, find, findImport, Held, Turn, goes, refuses, content, nameAt, literalAt, innerItem, walk, below, judge, imported, importStmt, bound, letStmt, stmt, onward, run, judgeAll}
 use Rattle.language.specs.Numbers.{firstCall, parsedNodes, statementsOf, checked}
 use Rattle.language.specs.Sound.{NameStands, AddressStands, PortStands, PathStands, LiteralStands, a-bool, a-string, a-hex, a-dec, an-address, SoundExpr, SoundStmt, MadeUp, nameOr, literalOr, numberOr, walkOr, belowOr, judgeOr, importedOr, importStmtOr, boundOr, letStmtOr, stmtOr, runOr, judgeAllOr, NothingMadeUp}
 use Rattle.language.proofs.Tests.{never, by-cases}

@@ -1,8 +1,8 @@
 -- The trees of a program name tokens that are there and of their kinds: each rule of the grammar says so.
-use Prim.Native.Nat.{ℕ, zero, suc, _+_, _*_, _≤_, _<_}
-use mathlib.Core.Path.{_≡_, refl, sym, ap, _∙_}
-use mathlib.Core.Bool.{Bool, true, false, false≢true}
-use mathlib.Core.List.{List, [], _∷_}
+use Prim.Native.Nat.{ℕ, _+_, _*_, _≤_, _<_}
+use mathlib.Core.Path.{_≡_, refl, _∙_}
+use mathlib.Core.Bool.{Bool, true, false}
+use mathlib.Core.List.{List, []}
 use mathlib.Core.Logic.{inl, inr}
 use native.Mathlib.Omega.{arith}
 use native.Mathlib.Decide.{decLe}
@@ -13,13 +13,13 @@ use Rattle.language.specs.Choice.{if′}
 use Rattle.language.specs.Lexemes.{lParen, booleanLiteral, ipv4Literal, hexLiteral, decLiteral}
 use Rattle.language.specs.Tokens.{Content, eof, plain, name, string, eofToken, tokens, contents}
 use Rattle.language.specs.Tables.{contentKind}
-use Rattle.language.specs.Sentences.{Expr, Args, Stmt, Port, port, tooLarge, portOf, ok, largestPort, is, isLiteral, program}
+use Rattle.language.specs.Sentences.{Expr, Args, Stmt, port, tooLarge, portOf, largestPort, is, isLiteral}
 use Rattle.language.specs.Numbers.{tokenOf}
 use Rattle.language.specs.Grammar.{isPort, PathNames, is-start, is-name, Chain, is-literal, is-address, is-sock4, is-local, is-path, is-member, is-call, Slashed, is-chain, is-slash, Expression, is-expression, Argument, is-given, is-named, Arguments, is-none, is-more, Bracketed, is-closed, is-last, Statement, is-import, is-let, is-expr, Program, is-end, is-next}
-use Rattle.language.specs.Sound.{Stands, NameStands, AddressStands, PortStands, LiteralStands, a-bool, a-string, a-hex, a-dec, an-address, PathStands, SoundExpr, SoundArgs, SoundStmt, TreesSound}
+use Rattle.language.specs.Sound.{NameStands, AddressStands, PortStands, LiteralStands, a-bool, a-string, a-hex, a-dec, an-address, SoundExpr, SoundArgs, SoundStmt, TreesSound}
 use Rattle.language.proofs.Tests.{either}
 use Rattle.language.proofs.Each.{Each, of-none, of-one, of-both}
-use Rattle.language.proofs.Forms.{TokOf, of-lParen, of-boolean, of-ipv4, of-hex, of-dec, ContentOf, of-plain, of-string, content-form, no-string, port-kind}
+use Rattle.language.proofs.Forms.{of-lParen, of-boolean, of-ipv4, of-hex, of-dec, ContentOf, of-plain, of-string, content-form, no-string, port-kind}
 use Rattle.language.proofs.TokenContents.{as-many}
 use Rattle.language.proofs.TokensAt.{mem-at, content-of}
 use Rattle.language.proofs.TokenClaims.{name-kind}
