@@ -176,7 +176,7 @@ module _ (s u : List ℕ) where
     same-finding at notAModule h = shows at notAModule 0 0 h (omega arith)
     same-finding at notAValue h = shows at notAValue 0 0 h (omega arith)
     same-finding at multipleImports h = shows at multipleImports 0 0 h (omega arith)
-    same-finding at (alreadyBound t) h = same-bound (tokenOf s at) (tokenOf u at) (same-name at h) t
+    same-finding at (alreadyBound t) h = same-bound (tokenOf s at) (tokenOf u at) (same-name at (h .0)) t
     same-finding at (noMembers t) h = same-detail _ _ (no-source t) (omega arith)
     same-finding at (operandType x t f) h = same-detail _ _ (no-source f) (omega arith)
     same-finding at (discardedValue t) h = same-detail _ _ (no-source t) (omega arith)
@@ -204,8 +204,8 @@ checked-by-contents s u h l e =
       outcome = rw e;
       diags = λ t n k m. (refl, rw (same-number s u h l e t n k, e));
       stmts = λ t n k. (refl, rw (same-number s u h l e t n k, e));
-      finding = λ d m. same-finding s u e (d .at) (d .what) (g .found .holds d m);
-      statement = λ d m. same-held s u e d (g .kept .holds d m);
+      finding = λ d m. same-finding s u e (d .at) (d .what) (g .found .holds d m .0);
+      statement = λ d m. same-held s u e d (g .kept .holds d m .0);
     }
 
 pub text-checked : TextChecked

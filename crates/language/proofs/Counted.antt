@@ -8,39 +8,18 @@ use Prim.Native.Nat.{ℕ, _+_, _≤_, _<_}
 use native.Mathlib.Omega.{arith}
 use borrow.Author.Tests.{eq-eqb}
 use lib.ListN.{getD}
-use Rattle.language.specs.Lexemes.{lParen, rParen, dot, doubleColon, colon, semiColon, equals, comma, slash, importKeyword, letKeyword, identifier, booleanLiteral, ipv4Literal, hexLiteral, decLiteral}
-use Rattle.language.specs.Tokens.{Content, eof, plain, name, string}
+use Rattle.language.specs.Lexemes.{lParen, dot, colon, decLiteral}
+use Rattle.language.specs.Tokens.{Content, eof, plain}
 use Rattle.language.specs.Tables.{contentKind}
-use Rattle.language.specs.Sentences.{Stmt, port, portOf, Out, ok, no, mostSteps, mostLists, is, program}
+use Rattle.language.specs.Sentences.{Stmt, port, Out, ok, no, mostSteps, mostLists, is, program}
 use Rattle.language.specs.Grammar.{isStep}
 use Rattle.language.specs.Bounds.{alone, reached}
 use Rattle.language.specs.Counted.{turn, tooMany, Counted, CountedInPrograms}
 use Rattle.language.proofs.Tests.{never, either}
+use Rattle.language.proofs.Forms.{port-kind}
 use Rattle.language.proofs.Bounds.{Passed, bounded}
 use Rattle.language.proofs.SentenceWalk.{Quiet, of-path, of-name, of-bool, of-string, of-hex, of-dec, of-quad, of-import, of-let, of-equals, not-kinds, Quad, Walk, found, refused, Told, program-told}
 use Rattle.language.proofs.CountedTokens.{At, Passes, start, there, passed, opened, closed, dotted, slashed, after-comma, after-semiColon, list-named, lParen-named, dot-named, slash-named, none-named, not-before}
-
--- a port is a decimal token
-port-kind : (c : Content) → portOf c ≡ port → contentKind c ≡ 18
-port-kind (plain (decLiteral n)) e = refl
-port-kind eof e = never (cc)
-port-kind (plain lParen) e = never (cc)
-port-kind (plain rParen) e = never (cc)
-port-kind (plain dot) e = never (cc)
-port-kind (plain doubleColon) e = never (cc)
-port-kind (plain colon) e = never (cc)
-port-kind (plain semiColon) e = never (cc)
-port-kind (plain equals) e = never (cc)
-port-kind (plain comma) e = never (cc)
-port-kind (plain slash) e = never (cc)
-port-kind (plain importKeyword) e = never (cc)
-port-kind (plain letKeyword) e = never (cc)
-port-kind (plain identifier) e = never (cc)
-port-kind (plain (booleanLiteral b)) e = never (cc)
-port-kind (plain (ipv4Literal n)) e = never (cc)
-port-kind (plain (hexLiteral n)) e = never (cc)
-port-kind (name bs) e = never (cc)
-port-kind (string b bs) e = never (cc)
 
 -- tokens that change nothing
 quiet-passes : {c : Content} → Quiet c → Passes c

@@ -1,6 +1,6 @@
--- What is found and held stands for tokens of the right kinds, and for parts of the table's text: a finding that shows a name
+-- What is found and held stands at tokens that are there, for those of the right kinds, and for parts of the table's text: a finding that shows a name
 -- stands at one, a string that is held is one, and a function or module that is shown has a name in the table.
-use Prim.Native.Nat.{ℕ, zero, suc, _+_, _*_, _<_}
+use Prim.Native.Nat.{ℕ, zero, suc, _+_, _*_, _≤_, _<_}
 use mathlib.Core.Path.{_≡_, refl}
 use mathlib.Core.Bool.{Bool, true, _&&_}
 use mathlib.Core.List.{List, [], _∷_, _++_, List·Memᴰ·head, List·Memᴰ·tail}
@@ -13,17 +13,19 @@ use lib.ListN.{length, getD}
 use Rattle.language.specs.Integers.{u16, smallest, low16, isTruncated}
 use Rattle.language.specs.Lexemes.{Tok, lParen, rParen, dot, doubleColon, colon, semiColon, equals, comma, slash, importKeyword, letKeyword, identifier, booleanLiteral, ipv4Literal, hexLiteral, decLiteral, same}
 use Rattle.language.specs.Tokens.{Content, eof, plain, name, string}
+use Rattle.language.specs.Tables.{contentKind}
 use Rattle.language.specs.Sentences.{Expr, Stmt, firstOf, Out, ok, no, is, program}
 use Rattle.language.specs.Grammar.{PathNames, is-start, is-name, Chain, is-literal, is-address, is-sock4, is-local, is-path, is-member, is-call, Slashed, is-chain, is-slash, Expression, is-expression, Statement, is-import, is-let, is-expr, Program, is-end, is-next}
 use Rattle.language.specs.Values.{Value, isInteger, isBool, isSized, isIp4, isSock4, isString, isText, isFunction, Ty, tyBool, tyInt, tyIp4, tySock4, tyBytes, tyFunction, tyInteger, typeOf, Entry, entry, tableText, entries, entryAt, entryName, lookupFrom, lookup}
-use Rattle.language.specs.Judgements.{left, right, What, unknownName, unknownItem, unknownModule, notImported, notAModule, notAValue, alreadyBound, noMembers, operandType, integralTooLarge, multipleImports, discardedValue, truncated, Diag, Judged, val, err, poisoned, Judgement, judgement, andThen, goesOn, ip4Of, integerOf, Known, known, Import, Binding, Held, Turn, goes, refuses, Outcome, firstNamed, find, findImport, mostImports, mostNames, content, nameAt, tokValue, literalValue, leftOf, rightOf, cut, narrowed, lastItem, innerItem, walk, below, boundTo, judge, imported, importStmt, bound, letStmt, discarded, told, stmt, onward, run, judgeAll}
+use Rattle.language.specs.Judgements.{left, right, What, unknownName, unknownItem, unknownModule, notImported, notAModule, notAValue, alreadyBound, noMembers, operandType, integralTooLarge, multipleImports, discardedValue, truncated, Diag, Judged, val, err, poisoned, Judgement, judgement, andThen, goesOn, ip4Of, integerOf, Known, known, Import, Binding, Held, Turn, goes, refuses, Outcome, refused, firstNamed, find, findImport, mostImports, mostNames, content, nameAt, tokValue, literalValue, leftOf, rightOf, cut, narrowed, lastItem, innerItem, walk, below, boundTo, judge, imported, importStmt, bound, letStmt, discarded, told, stmt, onward, run, judgeAll}
 use Rattle.language.specs.Numbers.{statementsOf, foundBy, heldBy}
 use Rattle.language.specs.Checks.{PartOf, ModuleEntry}
-use Rattle.language.proofs.Tests.{both, each-side}
+use Rattle.language.proofs.Tests.{never, both, each-side}
 use Rattle.language.proofs.Each.{Each, All, of-none, of-one, of-both}
-use Rattle.language.proofs.SentenceOutcomes.{Every}
+use Rattle.language.proofs.SentenceOutcomes.{Every, before-end, not-end}
 use Rattle.language.proofs.GrammarSound.{found-program}
-use Rattle.language.proofs.GrammarPlaces.{names-next}
+use Rattle.language.proofs.GrammarPlaces.{names-next, chain-first, slashed-first, expr-first}
+use Rattle.language.proofs.GrammarMet.{is-not, chain-starts, slashed-starts, expr-starts}
 
 -- a part of the table's text, by a test
 part : (start end : ℕ) → ltb start end && leb end (length tableText) ≡ true → PartOf tableText start end
@@ -88,7 +90,7 @@ module _ (ts : List Content) where
   Shown notImported at = is ts at (name []) ≡ true
   Shown notAModule at = is ts at (name []) ≡ true
   Shown notAValue at = is ts at (name []) ≡ true
-  Shown (alreadyBound t) at = is ts at (name []) ≡ true
+  Shown (alreadyBound t) at = (is ts at (name []) ≡ true) × (is ts t (name []) ≡ true)
   Shown multipleImports at = is ts at (name []) ≡ true
   Shown (noMembers t) at = NamedTy t
   Shown (operandType s t u) at = NamedTy u
@@ -96,8 +98,28 @@ module _ (ts : List Content) where
   Shown (discardedValue t) at = NamedTy t
   Shown (truncated n t) at = NamedTy t
 
+  -- where a token is
+  abbrev pub ShownAt : What → ℕ → Type 0
+  ShownAt w at = Shown w at × (at < length ts)
+
   abbrev pub Stands : Diag → Type 0
-  Stands d = Shown (d .what) (d .at)
+  Stands d = ShownAt (d .what) (d .at)
+
+  pub name-there : {at : ℕ} → is ts at (name []) ≡ true → at < length ts
+  name-there e = before-end ts (name []) refl e
+
+  -- what starts an expression is no end
+  starts-there : (at : ℕ) → 13 ≤ contentKind (getD ts at eof) → at < length ts
+  starts-there at h = not-end ts (is-not ts at eof (λ e. omega (arith, h, e)))
+
+  chain-there : {d at next : ℕ} {e : Expr} → Chain ts d at e next → firstOf e < length ts
+  chain-there {at = at} c = rw (chain-first ts c) (starts-there at (chain-starts ts c))
+
+  slashed-there : {d at next : ℕ} {e : Expr} → Slashed ts d at e next → firstOf e < length ts
+  slashed-there {at = at} c = rw (slashed-first ts c) (starts-there at (slashed-starts ts c))
+
+  expr-there : {d at next : ℕ} {e : Expr} → Expression ts d at e next → firstOf e < length ts
+  expr-there {at = at} c = rw (expr-first ts c) (starts-there at (expr-starts ts c))
 
   -- a string is that of a string's token, bytes of the table are a part of its text, and a function has a name
   abbrev pub Right : Value → Type 0
@@ -171,12 +193,12 @@ module _ (ts : List Content) where
   -- ---- what is known
 
   abbrev Bound : Binding → Type 0
-  Bound b = If Right (b .value)
+  Bound b = If Right (b .value) × (is ts (b .tok) (name []) ≡ true)
 
   abbrev Found : Import → Type 0
   Found i = If ModuleEntry (i .found)
 
-  -- values are right, and modules are modules
+  -- values are right and bound to names, and modules are modules
   record Sure (k : Known) : Type 0 where
     values : Each Bound (k .bindings)
     modules : Each Found (k .imports)
@@ -185,7 +207,7 @@ module _ (ts : List Content) where
 
   abbrev Sound : Judged → Type 0
   Sound (val v) = Right v
-  Sound (err at w) = Shown w at
+  Sound (err at w) = ShownAt w at
   Sound poisoned = Unit {0}
 
   record Fine (j : Judgement) : Type 0 where
@@ -205,8 +227,8 @@ module _ (ts : List Content) where
       by poisoned r = record { out = tt; warns = h .warns }
 
   bound-sound : (t : ℕ) (o : Option Binding) → is ts t (name []) ≡ true → If Bound o → Sound (boundTo ts t o)
-  bound-sound t none a h = a
-  bound-sound t (some b) a h = by (b .value) h
+  bound-sound t none a h = (a, name-there a)
+  bound-sound t (some b) a h = by (b .value) (h .0)
     where
       by : (o : Option Value) → If Right o → Sound (elim o [ some v ↦ val v | none ↦ poisoned ])
       by (some v) r = r
@@ -228,10 +250,10 @@ module _ (ts : List Content) where
 
   last-sound : (t : ℕ) (o : Option Value) → is ts t (name []) ≡ true → If Right o → Sound (lastItem ts t o)
   last-sound t (some v) a h = h
-  last-sound t none a h = a
+  last-sound t none a h = (a, name-there a)
 
   inner-sound : (t : ℕ) (o : Option Value) (j : Judged) → is ts t (name []) ≡ true → (o ≡ none → Sound j) → Sound (innerItem ts t o j)
-  inner-sound t (some v) j a h = a
+  inner-sound t (some v) j a h = (a, name-there a)
   inner-sound t none j a h = h refl
 
   walk-sound : (n m t : ℕ) → Names t n → ModuleEntry m → Sound (walk ts n m t)
@@ -240,7 +262,7 @@ module _ (ts : List Content) where
   walk-sound (suc zero) m t h e =
       elim (lookup m (nameAt ts (t + 2)))
       as (λ o. Sound (elim o [ none ↦ err (t + 2) (unknownItem m) | some k ↦ lastItem ts (t + 2) (entryAt k .value) ])) [
-        | none ↦ (h 0 (omega arith), e)
+        | none ↦ ((h 0 (omega arith), e), name-there (h 0 (omega arith)))
         | some k ↦ last-sound (t + 2) (entryAt k .value) (h 0 (omega arith)) (entry-right k)
       ]
   walk-sound (suc (suc n)) m t h e =
@@ -252,11 +274,11 @@ module _ (ts : List Content) where
             | none ↦ err (t + 2) (unknownItem m)
             | some k ↦ innerItem ts (t + 2) (entryAt k .value) (walk ts (suc n) k (t + 2))
           ])
-      go none l f = (h 0 (omega arith), e)
+      go none l f = ((h 0 (omega arith), e), name-there (h 0 (omega arith)))
       go (some k) l f = inner-sound (t + 2) (entryAt k .value) (walk ts (suc n) k (t + 2)) (h 0 (omega arith)) (λ p. f k (record { named = l; plain = p }))
 
   below-sound : (t n : ℕ) (o : Option Import) → is ts t (name []) ≡ true → Names t n → If Found o → Sound (below ts t n o)
-  below-sound t n none a h f = a
+  below-sound t n none a h f = (a, name-there a)
   below-sound t n (some i) a h f = go (i .found) f
     where
       go : (o : Option ℕ) → If ModuleEntry o → Sound (elim o [ none ↦ poisoned | some m ↦ walk ts n m t ])
@@ -266,26 +288,25 @@ module _ (ts : List Content) where
   -- ---- expressions
 
   module _ (n : ℕ) where
-    cut-fine : (at i : ℕ) → Each Stands (cut ts n at i)
-    cut-fine at i =
-        each-side (Each Stands) (isTruncated i) (of-one tt) of-none
+    cut-fine : (at i : ℕ) → at < length ts → Each Stands (cut ts n at i)
+    cut-fine at i l = each-side (Each Stands) (isTruncated i) (of-one (tt, l)) of-none
 
-    right-fine : (ip at : ℕ) (v : Value) → Right v → Fine (rightOf ts n ip at v)
-    right-fine ip at v r =
+    right-fine : (ip at : ℕ) (v : Value) → at < length ts → Right v → Fine (rightOf ts n ip at v)
+    right-fine ip at v l r =
         elim (integerOf v)
         as (λ o. Fine (elim o [
           | some i ↦ judgement (val (isSock4 ip (low16 i))) (cut ts n at i)
           | none ↦ judgement (err at (operandType right (tyInt u16) (typeOf v))) []
         ])) [
-          | some i ↦ record { out = tt; warns = cut-fine at i }
-          | none ↦ alone (type-named v r)
+          | some i ↦ record { out = tt; warns = cut-fine at i l }
+          | none ↦ alone (type-named v r, l)
         ]
 
-    left-fine : (at : ℕ) (f : ℕ → Judgement) (v : Value) → Right v → ((i : ℕ) → Fine (f i)) → Fine (leftOf ts at f v)
-    left-fine at f v r h =
+    left-fine : (at : ℕ) (f : ℕ → Judgement) (v : Value) → at < length ts → Right v → ((i : ℕ) → Fine (f i)) → Fine (leftOf ts at f v)
+    left-fine at f v l r h =
         elim (ip4Of v) as (λ o. Fine (elim o [ some i ↦ f i | none ↦ judgement (err at (operandType left tyIp4 (typeOf v))) [] ])) [
           | some i ↦ h i
-          | none ↦ alone (type-named v r)
+          | none ↦ alone (type-named v r, l)
         ]
 
     module _ (k : Known) (sure : Sure k) where
@@ -300,7 +321,7 @@ module _ (ts : List Content) where
       chain-fine (is-path {at = at} {n = m} a p l b) =
           alone (below-sound at m (findImport (k .imports) (nameAt ts at)) (a .passes) (names-at at (a .after) p)
           (find-each _ (k .imports) (nameAt ts at) (sure .modules)))
-      chain-fine (is-member {e = e} c a b) = then-fine (judge ts n k e) _ (chain-fine c) (λ v h. alone (type-named v h))
+      chain-fine (is-member {e = e} c a b) = then-fine (judge ts n k e) _ (chain-fine c) (λ v h. alone (type-named v h, name-there (b .passes)))
       chain-fine (is-call c l) = alone tt
 
       slashed-fine : {d at next : ℕ} {e : Expr} → Slashed ts d at e next → Fine (judge ts n k e)
@@ -308,7 +329,8 @@ module _ (ts : List Content) where
       slashed-fine (is-chain c) = chain-fine c
       slashed-fine (is-slash {e = e} {r} c a q) =
           then-fine (judge ts n k e) _ (slashed-fine c) (λ v h.
-          left-fine (firstOf e) _ v h (λ ip. then-fine (judge ts n k r) _ (chain-fine q) (λ w l. right-fine ip (firstOf r) w l)))
+          left-fine (firstOf e) _ v (slashed-there c) h (λ ip.
+          then-fine (judge ts n k r) _ (chain-fine q) (λ w l. right-fine ip (firstOf r) w (chain-there q) l)))
 
       expr-fine : {d at next : ℕ} {e : Expr} → Expression ts d at e next → Fine (judge ts n k e)
       expr-fine (is-expression c l) = slashed-fine c
@@ -316,11 +338,11 @@ module _ (ts : List Content) where
   -- ---- statements
 
   abbrev pub Kept : Held → Type 0
-  Kept h = Right (h .value)
+  Kept h = Right (h .value) × (h .at < length ts)
 
   abbrev Turned : Turn → Type 0
   Turned (goes k ds hs) = Sure k × Each Stands ds × Each Kept hs
-  Turned (refuses m t) = Unit {0}
+  Turned (refuses m t) = t < length ts
 
   module _ (n : ℕ) (k : Known) (sure : Sure k) where
     -- with a value or a module more
@@ -332,60 +354,64 @@ module _ (ts : List Content) where
 
     imported-turned : (t : ℕ) (o : Option ℕ) → is ts t (name []) ≡ true → If ModuleEntry o → Turned (imported ts n k t o)
     imported-turned t (some m) a l = (more-modules _ l, of-none, of-none)
-    imported-turned t none a l = (more-modules _ tt, of-one a, of-none)
+    imported-turned t none a l = (more-modules _ tt, of-one (a, name-there a), of-none)
 
     import-turned : (t : ℕ) (o : Option Import) → is ts t (name []) ≡ true → Turned (importStmt ts n k t o)
-    import-turned t (some i) a = (sure, of-one a, of-none)
+    import-turned t (some i) a = (sure, of-one (a, name-there a), of-none)
     import-turned t none a =
         each-side Turned (ltb (length (k .imports)) mostImports)
-        (imported-turned t (lookup 0 (nameAt ts t)) a (root-module (nameAt ts t))) tt
+        (imported-turned t (lookup 0 (nameAt ts t)) a (root-module (nameAt ts t))) (name-there a)
 
-    bound-turned : (t : ℕ) (o : Judged) (ws : List Diag) → Sound o → Each Stands ws → Turned (bound ts n k t o ws)
-    bound-turned t (val v) ws h l = (more-values _ h, l, of-none)
-    bound-turned t (err at w) ws h l = (more-values _ tt, of-both l (of-one h), of-none)
-    bound-turned t poisoned ws h l = (more-values _ tt, l, of-none)
+    bound-turned : (t : ℕ) (o : Judged) (ws : List Diag) → is ts t (name []) ≡ true → Sound o → Each Stands ws
+        → Turned (bound ts n k t o ws)
+    bound-turned t (val v) ws a h l = (more-values _ (h, a), l, of-none)
+    bound-turned t (err at w) ws a h l = (more-values _ (tt, a), of-both l (of-one h), of-none)
+    bound-turned t poisoned ws a h l = (more-values _ (tt, a), l, of-none)
 
-    let-turned : (t : ℕ) (e : Expr) (o : Option Binding) → is ts t (name []) ≡ true → Fine (judge ts n k e)
+    let-turned : (t : ℕ) (e : Expr) (o : Option Binding) → is ts t (name []) ≡ true → If Bound o → Fine (judge ts n k e)
         → Turned (letStmt ts n k t e o)
-    let-turned t e (some b) a f = (sure, of-one a, of-none)
-    let-turned t e none a f =
+    let-turned t e (some b) a h f = (sure, of-one ((a, h .1), name-there a), of-none)
+    let-turned t e none a h f =
         each-side Turned (ltb (length (k .bindings)) mostNames)
-        (bound-turned t (judge ts n k e .out) (judge ts n k e .warns) (f .out) (f .warns)) tt
+        (bound-turned t (judge ts n k e .out) (judge ts n k e .warns) a (f .out) (f .warns)) (name-there a)
 
-    discarded-turned : (at : ℕ) (o : Option Value) (ws : List Diag) → If Right o → Each Stands ws → Turned (discarded ts n k at o ws)
-    discarded-turned at (some v) ws h l = (sure, of-both l (of-one (type-named v h)), of-one h)
-    discarded-turned at none ws h l = (sure, of-both l (of-one tt), of-none)
+    discarded-turned : (at : ℕ) (o : Option Value) (ws : List Diag) → at < length ts → If Right o → Each Stands ws
+        → Turned (discarded ts n k at o ws)
+    discarded-turned at (some v) ws a h l = (sure, of-both l (of-one (type-named v h, a)), of-one (h, a))
+    discarded-turned at none ws a h l = (sure, of-both l (of-one (tt, a)), of-none)
 
-    told-turned : (at : ℕ) (o : Judged) (ws : List Diag) → Sound o → Each Stands ws → Turned (told ts n k at o ws)
-    told-turned at (val v) ws h l = discarded-turned at (narrowed v) ws (narrowed-right v h) l
-    told-turned at (err p w) ws h l = (sure, of-both l (of-one h), of-none)
-    told-turned at poisoned ws h l = (sure, l, of-none)
+    told-turned : (at : ℕ) (o : Judged) (ws : List Diag) → at < length ts → Sound o → Each Stands ws → Turned (told ts n k at o ws)
+    told-turned at (val v) ws a h l = discarded-turned at (narrowed v) ws a (narrowed-right v h) l
+    told-turned at (err p w) ws a h l = (sure, of-both l (of-one h), of-none)
+    told-turned at poisoned ws a h l = (sure, l, of-none)
 
     stmt-turned : {at next : ℕ} {s : Stmt} → Statement ts at s next → Turned (stmt ts n k s)
     unfolding stmt
     stmt-turned (is-import {t = t} a b c) = import-turned t (findImport (k .imports) (nameAt ts t)) (b .passes)
     stmt-turned (is-let {t = t} {e = e} a b c x o) =
-        let-turned t e (find (k .bindings) (nameAt ts t)) (b .passes) (expr-fine n k sure x)
+        let-turned t e (find (k .bindings) (nameAt ts t)) (b .passes) (find-each _ (k .bindings) (nameAt ts t) (sure .values))
+        (expr-fine n k sure x)
     stmt-turned (is-expr {e = e} x o) =
-        let f = expr-fine n k sure x in told-turned (firstOf e) (judge ts n k e .out) (judge ts n k e .warns) (f .out) (f .warns)
+        let f = expr-fine n k sure x in told-turned (firstOf e) (judge ts n k e .out) (judge ts n k e .warns) (expr-there x) (f .out) (f .warns)
 
   -- ---- the run
 
   pub record Grounded (o : Outcome) : Type 0 where
     pub found : Each Stands (foundBy o)
     pub kept : Each Kept (heldBy o)
+    pub stopped : (m t : ℕ) → o ≡ refused m t → t < length ts
 
   onward-grounded : (t : Turn) (ds : List Diag) (hs : List Held) (f : Known → List Diag → List Held → Outcome) → Turned t
       → Each Stands ds → Each Kept hs
       → ((k : Known) (es : List Diag) (gs : List Held) → Sure k → Each Stands es → Each Kept gs → Grounded (f k es gs))
       → Grounded (onward ts t ds hs f)
-  onward-grounded (refuses m t) ds hs f h a b g = record { found = of-none; kept = of-none }
+  onward-grounded (refuses m t) ds hs f h a b g = record { found = of-none; kept = of-none; stopped = λ i u e. let z : t ≡ u = cc in rw z at h }
   onward-grounded (goes k es gs) ds hs f h a b g = g k (ds ++ es) (hs ++ gs) (h .0) (of-both a (h .1)) (of-both b (h .2))
 
   run-grounded : {at next : ℕ} {ss : List Stmt} → Program ts at ss next → (n : ℕ) (k : Known) (ds : List Diag) (hs : List Held)
       → Sure k → Each Stands ds → Each Kept hs → Grounded (run ts ss n k ds hs)
   unfolding run
-  run-grounded (is-end e) n k ds hs sure a b = record { found = a; kept = b }
+  run-grounded (is-end e) n k ds hs sure a b = record { found = a; kept = b; stopped = λ m t f. never (cc) }
   run-grounded (is-next {s = s} {ss} x p) n k ds hs sure a b =
       onward-grounded (stmt ts n k s) ds hs (λ k′ es gs. run ts ss (suc n) k′ es gs) (stmt-turned n k sure x) a b
       (λ k′ es gs c d e. run-grounded p (suc n) k′ es gs c d e)
@@ -395,7 +421,7 @@ module _ (ts : List Content) where
   unfolding run
   parsed-grounded (ok ss at x) h =
       run-grounded (h .holds) 1 (known [] []) [] [] (record { values = of-none; modules = of-none }) of-none of-none
-  parsed-grounded (no n m at) h = record { found = of-none; kept = of-none }
+  parsed-grounded (no n m at) h = record { found = of-none; kept = of-none; stopped = λ i t e. never (cc) }
 
   pub outcome-grounded : Grounded (judgeAll ts (statementsOf (program ts)))
   outcome-grounded = parsed-grounded (program ts) (found-program ts)

@@ -1,14 +1,16 @@
 -- The forms of tokens, contents and values by the numbers of their kinds: a case over a number has only the forms with it.
 use Prim.Native.Nat.{ℕ}
-use mathlib.Core.Path.{_≡_, subst}
+use mathlib.Core.Path.{_≡_, refl, subst}
 use mathlib.Core.Bool.{Bool}
 use mathlib.Core.List.{List}
 use Rattle.language.specs.Integers.{u8, u16, u32, u64}
 use Rattle.language.specs.Lexemes.{Tok, lParen, rParen, dot, doubleColon, colon, semiColon, equals, comma, slash, importKeyword, letKeyword, identifier, booleanLiteral, ipv4Literal, hexLiteral, decLiteral}
 use Rattle.language.specs.Tokens.{Content, eof, plain, name, string}
 use Rattle.language.specs.Tables.{tokKind, contentKind}
+use Rattle.language.specs.Sentences.{port, portOf}
 use Rattle.language.specs.Values.{Value, isInteger, isBool, isSized, isIp4, isSock4, isString, isText, isFunction}
 use Rattle.language.specs.Findings.{valueKind}
+use Rattle.language.proofs.Tests.{never}
 
 -- ---- tokens
 
@@ -74,6 +76,28 @@ own-content (string b bs) = of-string
 
 pub content-form : (c : Content) {k : ℕ} → contentKind c ≡ k → ContentOf k c
 content-form c e = subst (λ k. ContentOf k c) e (own-content c)
+
+-- a port is a decimal token
+pub port-kind : (c : Content) → portOf c ≡ port → contentKind c ≡ 18
+port-kind (plain (decLiteral n)) e = refl
+port-kind eof e = never (cc)
+port-kind (plain lParen) e = never (cc)
+port-kind (plain rParen) e = never (cc)
+port-kind (plain dot) e = never (cc)
+port-kind (plain doubleColon) e = never (cc)
+port-kind (plain colon) e = never (cc)
+port-kind (plain semiColon) e = never (cc)
+port-kind (plain equals) e = never (cc)
+port-kind (plain comma) e = never (cc)
+port-kind (plain slash) e = never (cc)
+port-kind (plain importKeyword) e = never (cc)
+port-kind (plain letKeyword) e = never (cc)
+port-kind (plain identifier) e = never (cc)
+port-kind (plain (booleanLiteral b)) e = never (cc)
+port-kind (plain (ipv4Literal n)) e = never (cc)
+port-kind (plain (hexLiteral n)) e = never (cc)
+port-kind (name bs) e = never (cc)
+port-kind (string b bs) e = never (cc)
 
 -- ---- values
 

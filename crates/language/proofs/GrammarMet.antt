@@ -17,7 +17,7 @@ use Rattle.language.proofs.Tests.{either}
 use Rattle.language.proofs.GrammarSound.{found-program}
 use Rattle.language.proofs.SentenceUnfolds.{names-unfold, slashes-unfold, expr-unfolds, args-unfold, list-unfolds, stmts-unfold, program-unfolds}
 
-is-good : (p : Port) → isPort p ≡ true → p ≡ port
+pub is-good : (p : Port) → isPort p ≡ true → p ≡ port
 is-good port e = refl
 is-good tooLarge e = absurd (false≢true e)
 is-good notPort e = absurd (false≢true e)
@@ -31,7 +31,7 @@ module _ (ts : List Content) where
   kind-is : (at : ℕ) (c : Content) → is ts at c ≡ true → kindAt at ≡ contentKind c
   kind-is at c e = eqb-true (kindAt at) (contentKind c) e
 
-  is-not : (at : ℕ) (c : Content) → (kindAt at ≡ contentKind c → ⊥) → is ts at c ≡ false
+  pub is-not : (at : ℕ) (c : Content) → (kindAt at ≡ contentKind c → ⊥) → is ts at c ≡ false
   is-not at c h = ne-eqb (kindAt at) (contentKind c) h
 
   -- after an expression that is not gone on with
@@ -70,7 +70,7 @@ module _ (ts : List Content) where
         ]
       ]
 
-  chain-starts : {d at next : ℕ} {e : Expr} → Chain ts d at e next → 13 ≤ kindAt at
+  pub chain-starts : {d at next : ℕ} {e : Expr} → Chain ts d at e next → 13 ≤ kindAt at
   chain-starts {at = at} (is-literal a) = literal-kind at (a .passes)
   chain-starts {at = at} (is-address a b) = omega (arith, kind-is at (plain (ipv4Literal 0)) (a .passes))
   chain-starts {at = at} (is-sock4 a b c) = omega (arith, kind-is at (plain (ipv4Literal 0)) (a .passes))
@@ -79,11 +79,11 @@ module _ (ts : List Content) where
   chain-starts (is-member c a b) = chain-starts c
   chain-starts (is-call c l) = chain-starts c
 
-  slashed-starts : {d at next : ℕ} {e : Expr} → Slashed ts d at e next → 13 ≤ kindAt at
+  pub slashed-starts : {d at next : ℕ} {e : Expr} → Slashed ts d at e next → 13 ≤ kindAt at
   slashed-starts (is-chain c) = chain-starts c
   slashed-starts (is-slash c a r) = slashed-starts c
 
-  expr-starts : {d at next : ℕ} {e : Expr} → Expression ts d at e next → 13 ≤ kindAt at
+  pub expr-starts : {d at next : ℕ} {e : Expr} → Expression ts d at e next → 13 ≤ kindAt at
   expr-starts (is-expression c l) = slashed-starts c
 
   arg-starts : {d at next : ℕ} {g h : Args} → Argument ts d at g h next → 13 ≤ kindAt at

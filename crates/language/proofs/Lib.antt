@@ -45,9 +45,11 @@ pub mod GrammarPlaces
 pub mod SentenceUnfolds
 pub mod GrammarMet
 pub mod GrammarRows
+pub mod Sound
 pub mod TokenTexts
 pub mod NodeClaims
 pub mod NodeCalls
+pub mod NothingMadeUp
 pub mod RowClaims
 pub mod ParseClaims
 pub mod PortKinds
@@ -71,6 +73,7 @@ pub mod JudgementClaims
 pub mod FindingTokens
 pub mod CheckClaims
 pub mod ShownNames
+pub mod PlacesInside
 pub mod Left
 pub mod Told
 pub mod TokensApart

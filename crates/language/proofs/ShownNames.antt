@@ -72,7 +72,7 @@ module _ (s : List ℕ) where
     finding-shown notAModule h = shows-name notAModule 0 0 h (λ m e. never (cc))
     finding-shown notAValue h = shows-name notAValue 0 0 h (λ m e. never (cc))
     finding-shown multipleImports h = shows-name multipleImports 0 0 h (λ m e. never (cc))
-    finding-shown (alreadyBound t) h = shows-name (alreadyBound t) _ _ h (λ m e. never (cc))
+    finding-shown (alreadyBound t) h = shows-name (alreadyBound t) _ _ (h .0) (λ m e. never (cc))
     finding-shown (noMembers t) h = shows-type (noMembers t) t 0 0 0 (omega arith) h
     finding-shown (operandType x t f) h = shows-type (operandType x t f) f _ _ 1 (omega arith) h
     finding-shown (discardedValue t) h = shows-type (discardedValue t) t 0 0 0 (omega arith) h
@@ -115,6 +115,6 @@ pub names-shown : NamesShown
 unfolding checked
 names-shown s =
     let g = outcome-grounded (contents (tokens s)) in (
-      λ d m. finding-shown s (d .statement) (d .at) (d .what) (g .found .holds d m),
-      λ h m. held-shown s (h .value) (g .kept .holds h m),
+      λ d m. finding-shown s (d .statement) (d .at) (d .what) (g .found .holds d m .0),
+      λ h m. held-shown s (h .value) (g .kept .holds h m .0),
     )

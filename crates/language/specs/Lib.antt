@@ -15,6 +15,7 @@ pub mod Numbers
 pub mod Entries
 -- What is proved of them: claims, and the words that these are said with. Nobody need believe more than what a claim says.
 pub mod Grammar
+pub mod Sound
 pub mod Bounds
 pub mod Follows
 pub mod Counted

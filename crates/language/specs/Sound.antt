@@ -1,0 +1,188 @@
+-- What no answer shows (01: "`unreachable!`, `unwrap` and `expect` become proved facts"). Definitions are total: where a tree would
+-- name a token that is not there or not of its kind, or a path would have no name to look up, some value stands. The claims say
+-- that no program has such a tree, and that whatever stood there, each program would be judged alike.
+use Prim.Native.Nat.{ℕ, zero, suc, _+_, _*_, _≤_, _<_}
+use mathlib.Core.Path.{_≡_}
+use mathlib.Core.Bool.{Bool, _||_}
+use mathlib.Core.List.{List, [], _∷_, _++_, List·Memᴰ}
+use mathlib.Core.Option.{Option, none, some}
+use lib.Dec.{ltb}
+use lib.ListN.{length, getD}
+use Rattle.language.specs.Choice.{if′}
+use Rattle.language.specs.Lexemes.{lParen, booleanLiteral, ipv4Literal, hexLiteral, decLiteral}
+use Rattle.language.specs.Tokens.{Content, eof, plain, name, string, tokens, contents}
+use Rattle.language.specs.Sentences.{Expr, literal, sock4, local, path, member, call, slash′, Args, none-given, given, named, Stmt, import′, let′, expr′, firstOf, largestPort, ok, is, isLiteral, program}
+use Rattle.language.specs.Tables.{contentLow}
+use Rattle.language.specs.Bounds.{alone}
+use Rattle.language.specs.Values.{Value, isSock4, typeOf, entryAt, lookup}
+use Rattle.language.specs.Judgements.{namesNumber, mostNames, mostImports, unknownItem, unknownModule, notImported, alreadyBound, noMembers, multipleImports, Diag, diag, Judged, val, err, poisoned, Judgement, judgement, andThen, Import, Binding, Known, known, find, findImport, Held, Turn, goes, refuses, Outcome, judged, refused, content, literalAt, lastItem, innerItem, boundTo, leftOf, rightOf, told, onward}
+use Rattle.language.specs.Numbers.{firstCall, parsedNodes, statementsOf, checked, foundBy, heldBy}
+
+-- ---- trees that name tokens of the right kinds
+
+module _ (ts : List Content) where
+  -- the token t is there, with this content
+  abbrev pub Stands : ℕ → Content → Type 0
+  Stands t c = (t < length ts) × (getD ts t eof ≡ c)
+
+  abbrev pub NameStands : ℕ → Type 0
+  NameStands t = (bs : List ℕ) × Stands t (name bs)
+
+  abbrev pub AddressStands : ℕ → Type 0
+  AddressStands t = (n : ℕ) × Stands t (plain (ipv4Literal n))
+
+  -- "the port must be a decimal token up to 65,535"
+  abbrev pub PortStands : ℕ → Type 0
+  PortStands t = (n : ℕ) × Stands t (plain (decLiteral n)) × (n ≤ largestPort)
+
+  -- a bool, a string, an integer or an address
+  pub data LiteralStands (t : ℕ) : Type 0 where
+    a-bool : (b : Bool) → Stands t (plain (booleanLiteral b)) → LiteralStands t
+    a-string : (b : List ℕ) (bs : List (List ℕ)) → Stands t (string b bs) → LiteralStands t
+    a-hex : (n : ℕ) → Stands t (plain (hexLiteral n)) → LiteralStands t
+    a-dec : (n : ℕ) → Stands t (plain (decLiteral n)) → LiteralStands t
+    an-address : (n : ℕ) → Stands t (plain (ipv4Literal n)) → LiteralStands t
+
+  -- a path has a name after its first, and each of its names is one
+  abbrev pub PathStands : ℕ → ℕ → Type 0
+  PathStands t n = (0 < n) × ((j : ℕ) → j ≤ n → NameStands (t + 2 * j))
+
+  abbrev mutual
+    pub SoundExpr : Expr → Type 0
+    SoundExpr (literal t) = LiteralStands t
+    SoundExpr (sock4 t) = AddressStands t × PortStands (t + 2)
+    SoundExpr (local t) = NameStands t
+    SoundExpr (path t n) = PathStands t n
+    SoundExpr (member e t) = SoundExpr e × NameStands t
+    SoundExpr (call e t g) = SoundExpr e × Stands t (plain lParen) × SoundArgs g
+    SoundExpr (slash′ a b) = SoundExpr a × SoundExpr b
+
+    pub SoundArgs : Args → Type 0
+    SoundArgs none-given = Unit {0}
+    SoundArgs (given g e) = SoundArgs g × SoundExpr e
+    SoundArgs (named g t e) = SoundArgs g × NameStands t × SoundExpr e
+
+  abbrev pub SoundStmt : Stmt → Type 0
+  SoundStmt (import′ t) = NameStands t
+  SoundStmt (let′ t e) = NameStands t × SoundExpr e
+  SoundStmt (expr′ e) = SoundExpr e
+
+-- ---- judging with other values where something cannot happen
+
+-- what stands for the bytes of a token that is no name, the value of one that is no literal, the number of one that is no address or
+-- no decimal, for what a path comes to that has no name to look up, and for a call, which is refused before
+pub record MadeUp : Type 0 where
+  pub bytes : List ℕ
+  pub value : Value
+  pub number : ℕ
+  pub walked : Judged
+  pub called : Judgement
+
+-- the definitions of Judgements.antt, of the same names without `Or`, but that these stand there
+module _ (ts : List Content) (x : MadeUp) where
+  abbrev pub bytesOr : Content → List ℕ
+  bytesOr (name bs) = bs
+  bytesOr eof = x .bytes
+  bytesOr (plain t) = x .bytes
+  bytesOr (string b bs) = x .bytes
+
+  unfoldable pub nameOr : ℕ → List ℕ
+  nameOr t = bytesOr (content ts t)
+
+  unfoldable pub literalOr : ℕ → Value
+  literalOr t = if′ (isLiteral ts t || is ts t (plain (ipv4Literal 0))) (literalAt ts t) (x .value)
+
+  unfoldable pub numberOr : Content → ℕ → ℕ
+  numberOr c t = if′ (is ts t c) (contentLow (content ts t)) (x .number)
+
+  unfoldable pub walkOr : ℕ → ℕ → ℕ → Judged
+  walkOr zero m t = x .walked
+  walkOr (suc zero) m t = elim (lookup m (nameOr (t + 2))) [
+    | none ↦ err (t + 2) (unknownItem m)
+    | some k ↦ lastItem ts (t + 2) (entryAt k .value)
+  ]
+  walkOr (suc (suc n)) m t = elim (lookup m (nameOr (t + 2))) [
+    | none ↦ err (t + 2) (unknownItem m)
+    | some k ↦ innerItem ts (t + 2) (entryAt k .value) (walkOr (suc n) k (t + 2))
+  ]
+
+  abbrev pub belowOr : ℕ → ℕ → Option Import → Judged
+  belowOr t n none = err t notImported
+  belowOr t n (some i) = elim (i .found) [ none ↦ poisoned | some m ↦ walkOr n m t ]
+
+  module _ (n : ℕ) where
+    unfoldable pub judgeOr : Known → Expr → Judgement
+    judgeOr k (literal t) = judgement (val (literalOr t)) []
+    judgeOr k (sock4 t) = judgement (val (isSock4 (numberOr (plain (ipv4Literal 0)) t) (numberOr (plain (decLiteral 0)) (t + 2)))) []
+    judgeOr k (local t) = judgement (boundTo ts t (find (k .bindings) (nameOr t))) []
+    judgeOr k (path t m) = judgement (belowOr t m (findImport (k .imports) (nameOr t))) []
+    judgeOr k (member e t) = andThen (judgeOr k e) (λ v. judgement (err t (noMembers (typeOf v))) [])
+    judgeOr k (slash′ a b) =
+        andThen (judgeOr k a) (leftOf ts (firstOf a) (λ ip. andThen (judgeOr k b) (rightOf ts n ip (firstOf b))))
+    judgeOr k (call e t g) = x .called
+
+    abbrev pub importedOr : Known → ℕ → Option ℕ → Turn
+    importedOr k t (some m) = goes (known (k .imports ++ record { name = nameOr t; found = some m } ∷ []) (k .bindings)) [] []
+    importedOr k t none =
+        goes (known (k .imports ++ record { name = nameOr t; found = none } ∷ []) (k .bindings)) (diag n t unknownModule ∷ []) []
+
+    abbrev pub importStmtOr : Known → ℕ → Option Import → Turn
+    importStmtOr k t (some i) = goes k (diag n t multipleImports ∷ []) []
+    importStmtOr k t none =
+        if′ (ltb (length (k .imports)) mostImports) (importedOr k t (lookup 0 (nameOr t))) (refuses namesNumber t)
+
+    abbrev pub bindOr : Known → ℕ → Option Value → Known
+    bindOr k t v = known (k .imports) (k .bindings ++ record { name = nameOr t; tok = t; value = v } ∷ [])
+
+    abbrev pub boundOr : Known → ℕ → Judged → List Diag → Turn
+    boundOr k t (val v) ws = goes (bindOr k t (some v)) ws []
+    boundOr k t (err at w) ws = goes (bindOr k t none) (ws ++ diag n at w ∷ []) []
+    boundOr k t poisoned ws = goes (bindOr k t none) ws []
+
+    abbrev pub letStmtOr : Known → ℕ → Expr → Option Binding → Turn
+    letStmtOr k t e (some b) = goes k (diag n t (alreadyBound (b .tok)) ∷ []) []
+    letStmtOr k t e none =
+        if′ (ltb (length (k .bindings)) mostNames) (boundOr k t (judgeOr k e .out) (judgeOr k e .warns)) (refuses namesNumber t)
+
+    unfoldable pub stmtOr : Known → Stmt → Turn
+    stmtOr k (import′ t) = importStmtOr k t (findImport (k .imports) (nameOr t))
+    stmtOr k (let′ t e) = letStmtOr k t e (find (k .bindings) (nameOr t))
+    stmtOr k (expr′ e) = told ts n k (firstOf e) (judgeOr k e .out) (judgeOr k e .warns)
+
+  unfoldable pub runOr : List Stmt → ℕ → Known → List Diag → List Held → Outcome
+  runOr [] n k ds hs = judged ds hs
+  runOr (s ∷ ss) n k ds hs = onward ts (stmtOr n k s) ds hs (λ k′ es gs. runOr ss (suc n) k′ es gs)
+
+  abbrev pub judgeAllOr : List Stmt → Outcome
+  judgeAllOr ss = runOr ss 1 (known [] []) [] []
+
+-- ---- the claims
+
+-- each statement of a source that parses is such a tree
+abbrev pub TreesSound : Type 0
+TreesSound =
+    (s : List ℕ) (ss : List Stmt) (next x : ℕ) → program (contents (tokens s)) ≡ ok ss next x
+    → (a : Stmt) → List·Memᴰ a ss → SoundStmt (contents (tokens s)) a
+
+-- what parses asks for no token past `Eof`: whatever stood there, the trees would be the same. Where a token is refused, that is one
+-- of the source's (`StopsInside`: Grammar.antt), and none after it matters (`NoneFollows`: Follows.antt).
+abbrev pub NoneAfter : Type 0
+NoneAfter =
+    (s : List ℕ) (us : List Content) (ss : List Stmt) (next x : ℕ) → program (contents (tokens s)) ≡ ok ss next x
+    → alone (contents (tokens s) ++ us) ≡ ok ss next x
+
+-- in a source with no call, judging asks for none of these values: whatever they are, it comes to the same
+abbrev pub NothingMadeUp : Type 0
+NothingMadeUp =
+    (s : List ℕ) (x : MadeUp) → firstCall (parsedNodes (program (contents (tokens s)))) ≡ none
+    → judgeAllOr (contents (tokens s)) x (statementsOf (program (contents (tokens s)))) ≡ checked s
+
+-- and the places that check shows are those of tokens of the source: of each finding, and where its name was bound first; of each
+-- statement that is held; of a name that is one too many; and of the first call. Of 5 and 7 it is `StopsInside` (Grammar.antt).
+abbrev pub PlacesInside : Type 0
+PlacesInside =
+    (s : List ℕ) (t : ℕ)
+    → ((d : Diag) → List·Memᴰ d (foundBy (checked s)) → (d .at < length (tokens s)) × (d .what ≡ alreadyBound t → t < length (tokens s)))
+    × ((h : Held) → List·Memᴰ h (heldBy (checked s)) → h .at < length (tokens s))
+    × ((m : ℕ) → checked s ≡ refused m t → t < length (tokens s))
+    × (firstCall (parsedNodes (program (contents (tokens s)))) ≡ some t → t < length (tokens s))
