@@ -194,7 +194,7 @@ module _ {s toks tree : List ℕ} {count rows : ℕ} (p : Parses s toks tree cou
         → ((z : List ℕ) → TokenTable z (take (tokenWidth * count) toks) → w ≡ verdictAs (placed n (tokenPlace z t)))
         → GivesUp w (length toks) (length tree) (length y) (length v) q a b e f → CheckSource s (length toks) (length tree) (length x) (length u) q a b e f
     refused-stmt {n} {t} {w} {q} {a} {b} {e} {f} i l g =
-        gave-up s (length toks) (length tree) (length x) (length u) (placed n (tokenPlace s t)) (judged-as p (length u / 7) quiet ∙ rw (refused-at i came)) (number-nine s (refused-at i came))  (l s (lexed-part p))
+        gave-up s (length toks) (length tree) (length x) (length u) (placed n (tokenPlace s t)) (judged-as p (length u / 7) quiet ∙ rw (refused-at i came)) (number-nine s (refused-at i came)) (l s (lexed-part p))
         (subst (λ (m : ℕ). GivesUp w (length toks) (length tree) (length x) m q a b e f) same-held
         (subst (λ (m : ℕ). GivesUp w (length toks) (length tree) m (length v) q a b e f) same-found g))
 

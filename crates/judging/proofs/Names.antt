@@ -77,4 +77,3 @@ module _ (s : List ℕ) (ws : List ℕ) (used i t n : ℕ) (ts : List Content) (
 
   pub below-lost : used ≤ i → err t notImported ≡ below ts t n (findImport (importsIn s ws used 0) v)
   below-lost h = rw (import-lost s ws v used i e′ h)
-

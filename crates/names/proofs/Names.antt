@@ -150,4 +150,3 @@ module _ (s : List ℕ) (ws : List ℕ) {A : Type 0} (entry : ℕ → A) (named 
 -- of a name that is the same
 pub same-place : (xs : List (List ℕ)) {w v : List ℕ} {i : ℕ} → i ≡ place xs w → w ≡ v → i ≡ place xs v
 same-place xs p o = p ∙ ap (place xs) o
-

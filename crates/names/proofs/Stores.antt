@@ -110,39 +110,39 @@ module _ (room : ℕ) (ws : List ℕ) (u : ℕ) (e : Entry) (size : length ws �
       let z : room + 6 * u + 0 ≡ at = omega arith in
       let l : length w1 ≡ length ws = simp length-set in
       rw (rooms-now, z) (
-        getD-set-other w6 (at + 5) at (e .hi) 0 (λ q. absurd (omega (arith, q)))
-        ∙ getD-set-other w5 (at + 4) at (e .lo) 0 (λ q. absurd (omega (arith, q)))
-        ∙ getD-set-other w4 (at + 3) at (e .kind) 0 (λ q. absurd (omega (arith, q)))
-        ∙ getD-set-other w3 (at + 2) at (e .token) 0 (λ q. absurd (omega (arith, q)))
-        ∙ getD-set-other w2 (at + 1) at (e .end) 0 (λ q. absurd (omega (arith, q)))
-        ∙ getD-set-same w1 at (e .start) 0 (omega (arith, size, l)))
+      getD-set-other w6 (at + 5) at (e .hi) 0 (λ q. absurd (omega (arith, q)))
+      ∙ getD-set-other w5 (at + 4) at (e .lo) 0 (λ q. absurd (omega (arith, q)))
+      ∙ getD-set-other w4 (at + 3) at (e .kind) 0 (λ q. absurd (omega (arith, q)))
+      ∙ getD-set-other w3 (at + 2) at (e .token) 0 (λ q. absurd (omega (arith, q)))
+      ∙ getD-set-other w2 (at + 1) at (e .end) 0 (λ q. absurd (omega (arith, q)))
+      ∙ getD-set-same w1 at (e .start) 0 (omega (arith, size, l)))
 
   pub new-end : nameWord (stored room ws u e) u 1 ≡ e .end
   new-end =
       let l : length w2 ≡ length ws = simp length-set in
       rw rooms-now (
-        getD-set-other w6 (at + 5) (at + 1) (e .hi) 0 (λ q. absurd (omega (arith, q)))
-        ∙ getD-set-other w5 (at + 4) (at + 1) (e .lo) 0 (λ q. absurd (omega (arith, q)))
-        ∙ getD-set-other w4 (at + 3) (at + 1) (e .kind) 0 (λ q. absurd (omega (arith, q)))
-        ∙ getD-set-other w3 (at + 2) (at + 1) (e .token) 0 (λ q. absurd (omega (arith, q)))
-        ∙ getD-set-same w2 (at + 1) (e .end) 0 (omega (arith, size, l)))
+      getD-set-other w6 (at + 5) (at + 1) (e .hi) 0 (λ q. absurd (omega (arith, q)))
+      ∙ getD-set-other w5 (at + 4) (at + 1) (e .lo) 0 (λ q. absurd (omega (arith, q)))
+      ∙ getD-set-other w4 (at + 3) (at + 1) (e .kind) 0 (λ q. absurd (omega (arith, q)))
+      ∙ getD-set-other w3 (at + 2) (at + 1) (e .token) 0 (λ q. absurd (omega (arith, q)))
+      ∙ getD-set-same w2 (at + 1) (e .end) 0 (omega (arith, size, l)))
 
   pub new-token : nameWord (stored room ws u e) u 2 ≡ e .token
   new-token =
       let l : length w3 ≡ length ws = simp length-set in
       rw rooms-now (
-        getD-set-other w6 (at + 5) (at + 2) (e .hi) 0 (λ q. absurd (omega (arith, q)))
-        ∙ getD-set-other w5 (at + 4) (at + 2) (e .lo) 0 (λ q. absurd (omega (arith, q)))
-        ∙ getD-set-other w4 (at + 3) (at + 2) (e .kind) 0 (λ q. absurd (omega (arith, q)))
-        ∙ getD-set-same w3 (at + 2) (e .token) 0 (omega (arith, size, l)))
+      getD-set-other w6 (at + 5) (at + 2) (e .hi) 0 (λ q. absurd (omega (arith, q)))
+      ∙ getD-set-other w5 (at + 4) (at + 2) (e .lo) 0 (λ q. absurd (omega (arith, q)))
+      ∙ getD-set-other w4 (at + 3) (at + 2) (e .kind) 0 (λ q. absurd (omega (arith, q)))
+      ∙ getD-set-same w3 (at + 2) (e .token) 0 (omega (arith, size, l)))
 
   pub new-kind : nameWord (stored room ws u e) u 3 ≡ e .kind
   new-kind =
       let l : length w4 ≡ length ws = simp length-set in
       rw rooms-now (
-        getD-set-other w6 (at + 5) (at + 3) (e .hi) 0 (λ q. absurd (omega (arith, q)))
-        ∙ getD-set-other w5 (at + 4) (at + 3) (e .lo) 0 (λ q. absurd (omega (arith, q)))
-        ∙ getD-set-same w4 (at + 3) (e .kind) 0 (omega (arith, size, l)))
+      getD-set-other w6 (at + 5) (at + 3) (e .hi) 0 (λ q. absurd (omega (arith, q)))
+      ∙ getD-set-other w5 (at + 4) (at + 3) (e .lo) 0 (λ q. absurd (omega (arith, q)))
+      ∙ getD-set-same w4 (at + 3) (e .kind) 0 (omega (arith, size, l)))
 
   pub new-low : nameWord (stored room ws u e) u 4 ≡ e .lo
   new-low =

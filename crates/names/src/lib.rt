@@ -91,7 +91,8 @@ fn any8(names: &[u64], i: usize, key: u64) -> bool
     ensures { λ r. ⌜ (r ≡ false → NoneOf (now (names .entry)) key i (i + 8)) ⌝ }
 {
     (((names[i] == key) | (names[i + 1] == key)) | ((names[i + 2] == key) | (names[i + 3] == key)))
-        | (((names[i + 4] == key) | (names[i + 5] == key)) | ((names[i + 6] == key) | (names[i + 7] == key)))
+        | (((names[i + 4] == key) | (names[i + 5] == key))
+            | ((names[i + 6] == key) | (names[i + 7] == key)))
 }
 
 // How many entries are passed by eights: each has another key.

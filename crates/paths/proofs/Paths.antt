@@ -172,4 +172,3 @@ module-of (some (suc j)) h = refl
 
 pub found-module : (m : ℕ) (bs : List ℕ) → orNone (orZero (lookup m bs)) ≡ lookup m bs
 found-module m bs = module-of (lookup m bs) (at-least entries 1 m bs)
-

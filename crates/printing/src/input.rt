@@ -2,8 +2,8 @@
 // longer than a chunk.
 ghost use Prim.Native.Nat.{_≤_};
 ghost use lib.ListN.{length};
-use crate::streams::Read;
 use crate::streams;
+use crate::streams::Read;
 
 // What is not yet read of a chunk.
 pub struct Unread {

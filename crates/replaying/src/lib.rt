@@ -8,14 +8,14 @@
 mod lent;
 mod sources;
 
-use printing::header::Mode;
 use printing::header;
+use printing::header::Mode;
+use printing::input;
 use printing::input::Line;
 use printing::input::Unread;
-use printing::input;
 use printing::output;
-use printing::streams::Read;
 use printing::streams;
+use printing::streams::Read;
 
 pub fn run() {
     if streams::no_arguments() {

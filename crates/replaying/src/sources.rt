@@ -1,8 +1,8 @@
 // The sources of standard input, one after the other.
 use printing::header::Mode;
+use printing::input;
 use printing::input::Line;
 use printing::input::Unread;
-use printing::input;
 use printing::output;
 use showing::canon_mode;
 use showing::lex_mode;

@@ -1,8 +1,8 @@
 // The mode `lex`: each token is a line of the answer. A string is shown as the list of its raw bodies.
 use printing::output;
+use printing::token;
 use printing::token::Placed;
 use printing::token::Token;
-use printing::token;
 use printing::verdict;
 use rows::TokKind;
 use rows::Verdict;

@@ -1,8 +1,8 @@
 // Whole answers: what was found, what the check program prints, and what the mode `check` does.
-use checker::CheckAnswer;
-use constants::Constants;
 use crate::diagnostic;
 use crate::statement;
+use checker::CheckAnswer;
+use constants::Constants;
 use libc::STDERR_FILENO;
 use printing::output;
 use printing::verdict;

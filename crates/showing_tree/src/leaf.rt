@@ -1,10 +1,10 @@
 // What a row of the table of nodes shows of itself, its children aside.
-use crate::node::Node;
 use crate::node;
+use crate::node::Node;
 use printing::output;
+use printing::token;
 use printing::token::Placed;
 use printing::token::Token;
-use printing::token;
 use rows::NodeKind;
 use rows::TokKind;
 use rows::TokenRow;

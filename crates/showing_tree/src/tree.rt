@@ -1,8 +1,8 @@
 // Trees from the table of nodes, where a child's row stands before its parent's, and an argument's before the next one's. A row
 // that does not is not shown, so the walk ends on any table.
 use crate::leaf;
-use crate::node::Node;
 use crate::node;
+use crate::node::Node;
 use printing::output;
 use rows::NodeKind;
 

@@ -250,7 +250,7 @@ fn module_named(name: &[u8]) -> u64
     constants::lookup(&rows, &text, 0, name)
 }
 
-// `import` of the name at the token t. A failed import poisons its name, as a failed `let` does.
+// `import` of the name at the token t. Where there is no such module, the name is imported as failed.
 fn import(
     source: &[u8],
     toks: &[u64],
@@ -383,7 +383,15 @@ fn stmt<'a>(
         ),
         NodeKind::LET => let_stmt(source, toks, nodes, bindings, imports, diags, i, counts),
         NodeKind::EXPRESSION => Turn::Went(expr_stmt(
-            source, toks, nodes, bindings, imports, diags, stmts, i, counts,
+            source,
+            toks,
+            nodes,
+            bindings,
+            imports,
+            diags,
+            stmts,
+            i,
+            counts,
         )),
         _ => Turn::Went(counts),
     }

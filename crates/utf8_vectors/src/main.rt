@@ -11,8 +11,8 @@
 // `stdout` is what Rust's `std::str::from_utf8` says of the same input: oracle/utf8/main.rs made it.
 use printing::input;
 use printing::output;
-use printing::streams::Read;
 use printing::streams;
+use printing::streams::Read;
 use utf8::Bad;
 use utf8::Decoded;
 ghost use Prim.Native.Nat.{_≤_, _<_};

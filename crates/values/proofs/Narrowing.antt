@@ -168,4 +168,3 @@ module _ {v : Value} (u : values.Value) (e : v ≡ valueAs u) where
 
   pub shown-other : (v .kind ≡ 14 → ⊥) → (v .kind ≡ 17 → ⊥) → (v .kind ≡ 9 → ⊥) → record { from = 0; start = v .lo; end = v .hi } ≡ shownAs u
   shown-other p q o = rw e (other-shown u (λ z. p (kind-is ∙ z)) (λ z. q (kind-is ∙ z)) (λ z. o (kind-is ∙ z)))
-

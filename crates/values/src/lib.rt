@@ -137,7 +137,7 @@ pub fn is_integral(kind: u64) -> bool
     ((Ty::BOOL <= kind) & (kind <= Ty::U64)) | (kind == Ty::INTEGER)
 }
 
-// For an integer with no size, narrows to the smallest type that can hold it. Any other value is returned unchanged.
+// An integer with no size takes the smallest type that holds it. Any other value stays as it is.
 pub fn narrow(v: Value) -> Narrowed
     ensures { λ r. ⌜ Narrow v r ⌝ }
 {
