@@ -1,21 +1,27 @@
 -- What the code sees of a token: its kind, whether it is a port, whether it names an argument.
 use mathlib.Core.Path.{_≡_, refl, sym, ap, _∙_}
-use mathlib.Core.Bool.{Bool, true, false}
-use mathlib.Core.List.{List}
+use mathlib.Core.Bool.{Bool, true, false, not}
+use mathlib.Core.List.{List, [], _∷_}
 use Prim.Native.Nat.{ℕ, suc, _+_, _*_, _≤_, _<_}
 use native.Mathlib.Omega.{arith}
 use native.Mathlib.Decide.{decLe}
-use borrow.Author.Tests.{eq-eqb, ne-eqb, le-leb, lt-leb}
+use borrow.Author.Tests.{not-true, eq-eqb, ne-eqb, le-leb, lt-leb}
 use lib.Dec.{eqb}
 use lib.ListN.{length, getD}
 use Rattle.wide.specs.declared.Wide.{Wide}
 use Rattle.language.specs.Tables.{contentKind}
 use Rattle.language.specs.Tokens.{Content, eof}
 use Rattle.language.specs.Sentences.{Port, port, tooLarge, notPort}
-use Rattle.parse.specs.Parsing.{kindAt, literalKind, portAs, portTokOf, portOfTok, portAt, isNamed, argKind, valueFrom, Rep}
-use Rattle.language.proofs.Tests.{never}
-use Rattle.parse.specs.declared.PortTok.{PortTok}
-use Rattle.parse.specs.declared.PortTok.the-variants.{DecLiteral, Other}
+use Rattle.parse.specs.Parsing.{literalKind, portAs, portOfTok, portAt, isNamed, argKind, valueFrom, Rep}
+use Rattle.language.proofs.Tests.{never, of-each}
+use Rattle.rows.specs.declared.token.Tok.{Tok}
+use Rattle.rows.specs.declared.token.Tok.the-variants.{DecLiteral}
+use Rattle.rows.specs.Tokens.{kindAt, tokAt}
+use Rattle.rows.proofs.token.Tok as tok
+use Rattle.rows.proofs.Toks.{kind-past, tok-past}
+use Rattle.rows.proofs.Plain.{number-tag}
+use types.Run.{OneOf}
+use denote.Enum.Declared.{tagOf}
 use Rattle.parse.specs.declared.PortIs.the-variants.{Good, TooLarge, NotPort}
 
 -- ---- kinds
@@ -28,23 +34,15 @@ pub unseen : {r k n : ℕ} → r ≡ k → (r ≡ n → ⊥) → k ≡ n → ⊥
 unseen p f q = f (p ∙ q)
 
 module _ (toks : List ℕ) (at : ℕ) where
-  pub kind-in : 7 * at + 7 ≤ length toks → getD toks (7 * at) 0 ≡ kindAt toks at
-  unfolding kindAt
-  kind-in h = rw (le-leb _ _ h)
-
-  pub kind-past : length toks < 7 * at + 7 → 1 ≡ kindAt toks at
-  unfolding kindAt
-  kind-past h = rw (lt-leb _ _ h)
-
   -- a token that is not `Eof` has a row
   pub inside : (n : ℕ) → kindAt toks at ≡ suc (suc n) → 7 * at + 7 ≤ length toks
   inside n e = elim (decLe (7 * at + 7) (length toks)) [
     | yes h ↦ h
-    | no h ↦ let one = kind-past (omega arith) in absurd (omega (arith, one, e))
+    | no h ↦ let one = kind-past toks at (omega arith) in absurd (omega (arith, one, e))
   ]
 
   pub row-of : (kindAt toks at ≡ 1 → ⊥) → 7 * at + 7 ≤ length toks
-  row-of some = elim (decLe (7 * at + 7) (length toks)) [ yes h ↦ h | no h ↦ absurd (some (sym (kind-past (omega arith)))) ]
+  row-of some = elim (decLe (7 * at + 7) (length toks)) [ yes h ↦ h | no h ↦ absurd (some (sym (kind-past toks at (omega arith)))) ]
 
   module _ {ts : List Content} (rep : Rep toks ts) (n : ℕ) where
     pub kind-is : kindAt toks at ≡ n → contentKind (getD ts at eof) ≡ n
@@ -66,22 +64,21 @@ literal-inside toks at e = row-of toks at (λ one. let z : false ≡ true = rw o
 
 -- ---- ports
 
-pub port-other : (kind lo hi : ℕ) → (kind ≡ 18 → ⊥) → Other ≡ portTokOf kind lo hi
-unfolding portTokOf
-port-other kind lo hi f = rw (ne-eqb _ _ f)
+-- the tags of the tokens that are no decimals
+abbrev others : List ℕ
+others = 0 ∷ 1 ∷ 2 ∷ 3 ∷ 4 ∷ 5 ∷ 6 ∷ 7 ∷ 8 ∷ 9 ∷ 10 ∷ 11 ∷ 12 ∷ 13 ∷ 14 ∷ 15 ∷ 16 ∷ []
 
-pub port-dec : (kind lo hi : ℕ) → kind ≡ 18 → DecLiteral (record { hi = hi; lo = lo }) ≡ portTokOf kind lo hi
-unfolding portTokOf
-port-dec kind lo hi e = rw (eq-eqb _ _ e)
+pub other-port : (t : Tok) → OneOf others (tagOf tok.the-type t) → portOfTok t ≡ notPort
+unfolding portOfTok
+other-port t h = rw (number-tag t, not-true (eqb (suc (tagOf tok.the-type t)) 18) (of-each (λ k. not (eqb (suc k) 18)) others (tagOf tok.the-type t) refl h)) refl
 
-module _ (t : PortTok) (toks : List ℕ) (at : ℕ) (e : t ≡ portTokOf (kindAt toks at) (getD toks (7 * at + 5) 0) (getD toks (7 * at + 6) 0)) where
+module _ {t : Tok} (toks : List ℕ) (at : ℕ) (e : t ≡ tokAt toks at) where
   port-at : portOfTok t ≡ portAt toks at
   unfolding portAt
   port-at = rw e
 
-  pub port-not : t ≡ Other → NotPort ≡ portAs (portAt toks at)
-  unfolding portOfTok
-  port-not q = ap portAs (sym (ap portOfTok q) ∙ port-at)
+  pub port-not : OneOf others (tagOf tok.the-type t) → NotPort ≡ portAs (portAt toks at)
+  port-not h = ap portAs (sym (other-port t h) ∙ port-at)
 
   module _ (v : Wide) (q : t ≡ DecLiteral v) where
     pub port-good : v .hi ≡ 0 → v .lo ≤ 65535 → Good ≡ portAs (portAt toks at)
@@ -114,8 +111,11 @@ is-not notPort e = refl
 
 -- a port has a row
 pub port-inside : (toks : List ℕ) (at : ℕ) → portAt toks at ≡ port → 7 * at + 7 ≤ length toks
-unfolding portAt portTokOf portOfTok
-port-inside toks at e = row-of toks at (λ one. let z : notPort ≡ port = rw one at e in never (cc))
+unfolding portAt portOfTok
+port-inside toks at e = elim (decLe (7 * at + 7) (length toks)) [
+  | yes h ↦ h
+  | no h ↦ let z : notPort ≡ port = rw (← tok-past toks at (omega arith)) at e in never (cc)
+]
 
 -- ---- the names of arguments
 

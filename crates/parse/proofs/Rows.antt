@@ -14,8 +14,9 @@ use Rattle.language.specs.Tokens.{Content, eof, plain, name, string, Token, con
 use Rattle.language.specs.Sentences.{portOf}
 use Rattle.language.proofs.TokenContents.{as-many}
 use Rattle.language.proofs.TokensAt.{row-width}
-use Rattle.parse.specs.Parsing.{kindAt, portTokOf, portOfTok, portAt, Rep}
-use Rattle.parse.proofs.Looks.{kind-in, kind-past}
+use Rattle.parse.specs.Parsing.{portOfTok, portAt, Rep}
+use Rattle.rows.specs.Tokens.{kindAt, tokOf}
+use Rattle.rows.proofs.Toks.{kind-in, kind-past, tok-in, tok-past}
 
 -- past the end
 abbrev end : Token
@@ -29,8 +30,8 @@ content-at : (ts : List Token) (at : ℕ) → getD (contents ts) at eof ≡ getD
 content-at ts at = List·getD-map (λ (t : Token). t .content) ts at end
 
 -- a value of two words is a port where it fits in 16 bits
-port-value : (n : ℕ) → portOfTok (portTokOf 18 (n % wordLimit) (n / wordLimit)) ≡ portOf (plain (decLiteral n))
-unfolding portOfTok portTokOf
+port-value : (n : ℕ) → portOfTok (tokOf 18 (n % wordLimit) (n / wordLimit)) ≡ portOf (plain (decLiteral n))
+unfolding portOfTok tokOf
 port-value n = elim (decLe n 65535) [
   | yes h ↦ rw (eq-eqb (n / wordLimit) 0 (omega arith), le-leb (n % wordLimit) 65535 (omega arith), le-leb n 65535 h)
   | no h ↦ rw (lt-leb n 65535 (omega arith)) (elim (decLe wordLimit n) [
@@ -39,8 +40,8 @@ port-value n = elim (decLe n 65535) [
   ])
 ]
 
-port-content : (c : Content) → portOfTok (portTokOf (contentKind c) (contentLow c) (contentHigh c)) ≡ portOf c
-unfolding portOfTok portTokOf
+port-content : (c : Content) → portOfTok (tokOf (contentKind c) (contentLow c) (contentHigh c)) ≡ portOf c
+unfolding portOfTok tokOf
 port-content eof = refl
 port-content (plain lParen) = refl
 port-content (plain rParen) = refl
@@ -68,22 +69,23 @@ module _ (ts : List Token) (at : ℕ) where
   past-end : length (flat tokenRow ts) < 7 * at + 7 → getD (contents ts) at eof ≡ eof
   past-end h = let past : length ts ≤ at = omega (arith, rows-long ts) in content-at ts at ∙ ap (λ (t : Token). t .content) (List·getD-eq-default ts end past)
 
-  kind-row : kindAt (flat tokenRow ts) at ≡ contentKind (getD (contents ts) at eof)
+  kind-word : at < length ts → getD (flat tokenRow ts) (7 * at) 0 ≡ contentKind (getD ts at end .content)
   unfolding tokenRow
+  kind-word h = let e : 7 * at ≡ 7 * at + 0 = omega arith in rw e (word-at ts at 0 (omega arith) h)
+
+  kind-row : kindAt (flat tokenRow ts) at ≡ contentKind (getD (contents ts) at eof)
   kind-row = elim (decLe (7 * at + 7) (length (flat tokenRow ts))) [
-    | yes h ↦
-        let e : 7 * at ≡ 7 * at + 0 = omega arith in
-        sym (kind-in (flat tokenRow ts) at h) ∙ rw (e, content-at ts at) (word-at ts at 0 (omega arith) (omega (arith, rows-long ts)))
+    | yes h ↦ sym (kind-in (flat tokenRow ts) at h) ∙ rw (content-at ts at) (kind-word (omega (arith, rows-long ts)))
     | no h ↦ let past : length (flat tokenRow ts) < 7 * at + 7 = omega arith in sym (kind-past (flat tokenRow ts) at past) ∙ rw (past-end past)
   ]
 
   port-row : portAt (flat tokenRow ts) at ≡ portOf (getD (contents ts) at eof)
-  unfolding tokenRow portAt portTokOf portOfTok
+  unfolding tokenRow portAt portOfTok
   port-row = elim (decLe (7 * at + 7) (length (flat tokenRow ts))) [
     | yes h ↦
         let lt : at < length ts = omega (arith, rows-long ts) in
-        rw (kind-row, word-at ts at 5 (omega arith) lt, word-at ts at 6 (omega arith) lt, content-at ts at) (port-content (getD ts at end .content))
-    | no h ↦ let past : length (flat tokenRow ts) < 7 * at + 7 = omega arith in rw (← kind-past (flat tokenRow ts) at past, past-end past)
+        rw (← tok-in (flat tokenRow ts) at h refl, kind-word lt, word-at ts at 5 (omega arith) lt, word-at ts at 6 (omega arith) lt, content-at ts at) (port-content (getD ts at end .content))
+    | no h ↦ let past : length (flat tokenRow ts) < 7 * at + 7 = omega arith in rw (← tok-past (flat tokenRow ts) at past, past-end past)
   ]
 
 pub represented : (ts : List Token) → Rep (flat tokenRow ts) (contents ts)

@@ -11,7 +11,8 @@ use Rattle.language.specs.Choice.{if′}
 use Rattle.language.specs.Tables.{contentKind}
 use Rattle.language.specs.Tokens.{Content, eof}
 use Rattle.language.specs.Sentences.{Expr, literal, sock4, local, path, member, call, slash′, Args, none-given, given, named, Stmt, import′, let′, expr′, port, tooLarge, notPort, Out, ok, no, andThen, mostSteps, mostLists, namesFrom, address, named′, primary, links, chainOf, slashes, exprOf, argOf, argsOf, listAt, exprAt, ended, importAt, letAt, stmtAt, stmtsFrom, program}
-use Rattle.parse.specs.Parsing.{kindAt, literalKind, portAt, isNamed, valueFrom, withArg, exprStmt, Rep}
+use Rattle.rows.specs.Tokens.{kindAt}
+use Rattle.parse.specs.Parsing.{literalKind, portAt, isNamed, valueFrom, withArg, exprStmt, Rep}
 use Rattle.parse.proofs.Looks.{inside, kind-is, is-true, is-false}
 
 -- a path whose names after the first are still to be read, n of them read

@@ -16,6 +16,8 @@ use Rattle.language.specs.Numbers.{tokenPlace}
 use Rattle.language.proofs.TokenClaims.{places-right, tokens-in-order}
 use Rattle.language.proofs.TokensAt.{row-width, long-tokens, some-token, last-token, past-token}
 use Rattle.rows.specs.declared.verdict.Verdict.{Verdict}
+use Rattle.rows.specs.declared.token.Token as row
+use Rattle.rows.specs.Tokens.{rowToken}
 use Rattle.parse.specs.Parsing.{Rep, rowVerdict, verdictAt}
 use Rattle.parse.proofs.Rows.{represented}
 
@@ -53,6 +55,10 @@ pub part-rep : (ts : List Token) (n : ℕ) {toks : List ℕ} {count : ℕ} → t
 part-rep ts n e c h = rw (e, c, tabled-rows tokenRow 7 row-width n ts h) (represented ts)
 
 -- ---- places
+
+pub row-told : {t : row.Token} (toks : List ℕ) (number kind i : ℕ) → t ≡ rowToken toks i
+    → record { number = number; kind = kind; line = t .line; column = t .column; character = 0 } ≡ rowVerdict toks number kind i
+row-told toks number kind i e = rw e
 
 module _ (toks : List ℕ) (count number kind at : ℕ) where
   pub near : at < count → rowVerdict toks number kind at ≡ verdictAt toks count number kind at

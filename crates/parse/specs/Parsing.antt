@@ -11,20 +11,16 @@ use Rattle.language.specs.Tables.{contentKind}
 use Rattle.language.specs.Tokens.{Content, eof, mostTokens}
 use Rattle.language.specs.Sentences.{Expr, Args, given, named, Stmt, expr′, firstOf, Port, port, tooLarge, notPort, portOf, Out, ok, no, andThen, mostLists, exprAt, ended, Node, node, exprNodes, argNodes, firstRow, stmtNodes, nodes, nodeRow, nodeWidth, largestPort}
 use Rattle.rows.specs.declared.verdict.Verdict.{Verdict}
+use Rattle.rows.specs.declared.token.Tok.{Tok}
+use Rattle.rows.specs.Tokens.{tokNumber, tokValue, kindAt, tokAt}
 use Rattle.parse.specs.declared.Parsed.{Parsed}
 use Rattle.parse.specs.declared.Parsed.the-variants.{Done, Refused}
 use Rattle.parse.specs.declared.Listed.{Listed}
 use Rattle.parse.specs.declared.Listed.the-variants as listed
-use Rattle.parse.specs.declared.PortTok.{PortTok}
-use Rattle.parse.specs.declared.PortTok.the-variants.{DecLiteral, Other}
 use Rattle.parse.specs.declared.PortIs.{PortIs}
 use Rattle.parse.specs.declared.PortIs.the-variants.{Good, TooLarge, NotPort}
 
 -- ---- tokens
-
--- the kind of the token with an index: `Eof` past the last whole row
-unfoldable pub kindAt : List ℕ → ℕ → ℕ
-kindAt toks at = if′ (leb (7 * at + 7) (length toks)) (getD toks (7 * at) 0) 1
 
 -- a bool, a string or an integer
 abbrev pub literalKind : ℕ → Bool
@@ -35,16 +31,12 @@ portAs port = Good
 portAs tooLarge = TooLarge
 portAs notPort = NotPort
 
--- a token's kind and value, where a port is expected
-unfoldable pub portTokOf : ℕ → ℕ → ℕ → PortTok
-portTokOf kind lo hi = if′ (eqb kind 18) (DecLiteral (record { hi = hi; lo = lo })) Other
-
-unfoldable pub portOfTok : PortTok → Port
-portOfTok (DecLiteral v) = if′ (eqb (v .hi) 0) (if′ (leb (v .lo) largestPort) port tooLarge) tooLarge
-portOfTok Other = notPort
+-- a decimal up to 65,535, one that is larger, or another token
+unfoldable pub portOfTok : Tok → Port
+portOfTok t = if′ (eqb (tokNumber t) 18) (if′ (eqb (tokValue t .hi) 0) (if′ (leb (tokValue t .lo) largestPort) port tooLarge) tooLarge) notPort
 
 unfoldable pub portAt : List ℕ → ℕ → Port
-portAt toks at = portOfTok (portTokOf (kindAt toks at) (getD toks (7 * at + 5) 0) (getD toks (7 * at + 6) 0))
+portAt toks at = portOfTok (tokAt toks at)
 
 -- the table's rows are those of tokens with these contents
 pub record Rep (toks : List ℕ) (ts : List Content) : Type 0 where

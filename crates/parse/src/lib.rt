@@ -6,17 +6,19 @@
 ghost use mathlib.Core.Path.{_≡_};
 ghost use mathlib.Core.List.{List, [], _∷_, _++_};
 ghost use Prim.Native.Nat.{ℕ, _+_, _*_, _<_, _≤_};
-ghost use lib.ListN.{length, getD};
-ghost use Rattle.language.specs.Tokens.{Content, mostBytes, mostTokens};
+ghost use lib.ListN.{length};
+ghost use Rattle.language.specs.Tables.{tokenWidth};
+ghost use Rattle.language.specs.Tokens.{Content, mostTokens};
 ghost use Rattle.language.specs.Sentences.{Stmt, Node, node, mostSteps, primary, address, named′, links, chainAt, slashes, exprAt, argOf, listAt, ended, importAt, letAt, stmtAt, program};
 ghost use Rattle.parse.specs.Entry.{GivesUp, Lexes, ParseSource};
-ghost use Rattle.parse.specs.Parsing.{kindAt, literalKind, portAt, portAs, portTokOf, isNamed, argKind, valueFrom, Room, Rep, Holds, Pushes, Links, withStmt, exprStmt, After, AfterExpr, AfterArgs, MetExpr, MetArgs, MetStmt, MetAll, Ahead, AheadList, rowVerdict, verdictAt};
+ghost use Rattle.rows.specs.Tokens.{kindAt};
+ghost use Rattle.parse.specs.Parsing.{literalKind, portAt, portAs, isNamed, argKind, valueFrom, Room, Rep, Holds, Pushes, Links, withStmt, exprStmt, After, AfterExpr, AfterArgs, MetExpr, MetArgs, MetStmt, MetAll, Ahead, AheadList, rowVerdict, verdictAt};
 use rows::NodeKind;
 use rows::NodeRow;
+use rows::Tok;
 use rows::TokKind;
 use rows::TokenRow;
 use rows::Verdict;
-use wide::Wide;
 
 // What a part of the grammar came to.
 pub enum Parsed {
@@ -31,12 +33,6 @@ pub enum Listed {
     // the next token, how many nodes there are then, and the row of the first argument plus 1, 0 where there is none
     Done(usize, usize, usize),
     Refused(u64, u64, usize),
-}
-
-// A token where a port is expected.
-pub enum PortTok {
-    DecLiteral(Wide),
-    Other,
 }
 
 pub enum PortIs {
@@ -72,40 +68,12 @@ impl Parser {
 
 // ---- tokens
 
-// The kind of a token, the first word of its row: `Eof` past the last row.
-fn kind_at(toks: &[u64], at: usize) -> u64
-    requires { ⌜ at ≤ 4294967296 ⌝ }
-    ensures { λ r. ⌜ r ≡ kindAt (now (toks .entry)) at ⌝ }
-{
-    let i = TokenRow::WORDS * at;
-    if i + TokenRow::WORDS <= toks.len() {
-        return toks[i];
-    }
-    TokKind::EOF
-}
-
-// The token where a port is expected, with its value, whose high word is the last of the row.
-fn port_tok(toks: &[u64], at: usize) -> PortTok
-    requires { ⌜ at ≤ 4294967296 ⌝ }
-    ensures { λ r. ⌜ r ≡ portTokOf (kindAt (now (toks .entry)) at) (getD (now (toks .entry)) (7 * at + 5) 0) (getD (now (toks .entry)) (7 * at + 6) 0) ⌝ }
-{
-    if kind_at(toks, at) != TokKind::DEC_LITERAL {
-        return PortTok::Other;
-    }
-    let i = TokenRow::WORDS * at;
-    PortTok::DecLiteral(Wide {
-        hi: toks[i + TokenRow::HIGH],
-        lo: toks[i + TokenRow::LOW],
-    })
-}
-
 // What stands where a port must: a decimal up to 65,535, one that is larger, or no decimal at all.
 fn port(toks: &[u64], at: usize) -> PortIs
     requires { ⌜ at ≤ 4294967296 ⌝ }
     ensures { λ r. ⌜ r ≡ portAs (portAt (now (toks .entry)) at) ⌝ }
 {
-    let tok = port_tok(toks, at);
-    let PortTok::DecLiteral(v) = tok else {
+    let Tok::DecLiteral(v) = rows::tok_at(toks, at) else {
         return PortIs::NotPort;
     };
     if v.hi == 0 {
@@ -171,8 +139,8 @@ fn module_path(toks: &[u64], nodes: &mut [u64], at: usize, count: usize, steps: 
     let mut next = at + 1;
     let mut have = count;
     let mut names: usize = 0;
-    while kind_at(toks, next) == TokKind::DOUBLE_COLON {
-        if kind_at(toks, next + 1) != TokKind::IDENTIFIER {
+    while rows::kind_at(toks, next) == TokKind::DOUBLE_COLON {
+        if rows::kind_at(toks, next + 1) != TokKind::IDENTIFIER {
             return unexpected(next + 1);
         }
         push(nodes, have, NodeKind::NAME, next + 1, 0, 0, 0);
@@ -191,7 +159,7 @@ fn address(toks: &[u64], nodes: &mut [u64], at: usize, count: usize, steps: usiz
     ensures { λ r. ⌜ Ahead 1 (length (now (toks .entry))) at count steps r ⌝ }
     ensures { λ r. ⌜ After (now (toks .entry)) (now (nodes .entry)) count (λ ts ns. MetExpr r (now (nodes .exit)) ns at (address ts at steps)) ⌝ }
 {
-    if kind_at(toks, at + 1) != TokKind::COLON {
+    if rows::kind_at(toks, at + 1) != TokKind::COLON {
         push(nodes, count, NodeKind::LITERAL, at, 0, 0, 0);
         return Parsed::Done(at + 1, count + 1, steps);
     }
@@ -220,7 +188,7 @@ fn primary(toks: &[u64], nodes: &mut [u64], at: usize, count: usize, steps: usiz
     ensures { λ r. ⌜ Ahead 1 (length (now (toks .entry))) at count steps r ⌝ }
     ensures { λ r. ⌜ After (now (toks .entry)) (now (nodes .entry)) count (λ ts ns. MetExpr r (now (nodes .exit)) ns at (primary ts at steps)) ⌝ }
 {
-    let kind = kind_at(toks, at);
+    let kind = rows::kind_at(toks, at);
     if is_literal(kind) {
         push(nodes, count, NodeKind::LITERAL, at, 0, 0, 0);
         return Parsed::Done(at + 1, count + 1, steps);
@@ -228,7 +196,7 @@ fn primary(toks: &[u64], nodes: &mut [u64], at: usize, count: usize, steps: usiz
     match kind {
         TokKind::IPV4_LITERAL => address(toks, nodes, at, count, steps),
         TokKind::IDENTIFIER => {
-            if kind_at(toks, at + 1) == TokKind::DOUBLE_COLON {
+            if rows::kind_at(toks, at + 1) == TokKind::DOUBLE_COLON {
                 return module_path(toks, nodes, at, count, steps);
             }
             push(nodes, count, NodeKind::LOCAL, at, 0, 0, 0);
@@ -269,7 +237,7 @@ fn slashes(toks: &[u64], nodes: &mut [u64], p: Parser, start: usize, count: usiz
     let mut at = start;
     let mut have = count;
     let mut more = p.steps;
-    while kind_at(toks, at) == TokKind::SLASH {
+    while rows::kind_at(toks, at) == TokKind::SLASH {
         if more == 0 {
             return too_deep(at);
         }
@@ -323,7 +291,7 @@ fn links(toks: &[u64], nodes: &mut [u64], p: Parser, start: usize, count: usize)
     let mut have = count;
     let mut more = p.steps;
     loop {
-        let t = kind_at(toks, at);
+        let t = rows::kind_at(toks, at);
         if t == TokKind::LPAREN {
             if more == 0 {
                 return too_deep(at);
@@ -341,7 +309,7 @@ fn links(toks: &[u64], nodes: &mut [u64], p: Parser, start: usize, count: usize)
             if more == 0 {
                 return too_deep(at);
             }
-            if kind_at(toks, at + 1) != TokKind::IDENTIFIER {
+            if rows::kind_at(toks, at + 1) != TokKind::IDENTIFIER {
                 return unexpected(at + 1);
             }
             push(nodes, have, NodeKind::MEMBER, p.first, have - 1, at + 1, 0);
@@ -362,8 +330,8 @@ fn arg_head(toks: &[u64], at: usize) -> ArgHead
     ensures { λ r. ⌜ (r .kind ≡ argKind (isNamed (now (toks .entry)) at)) × (r .value ≡ valueFrom (isNamed (now (toks .entry)) at) at) ⌝ }
     ensures { λ r. ⌜ (at ≤ r .value) × (7 * r .value ≤ length (now (toks .entry))) ⌝ }
 {
-    if kind_at(toks, at) == TokKind::IDENTIFIER {
-        if kind_at(toks, at + 1) == TokKind::COLON {
+    if rows::kind_at(toks, at) == TokKind::IDENTIFIER {
+        if rows::kind_at(toks, at + 1) == TokKind::COLON {
             return ArgHead {
                 kind: NodeKind::NAMED_ARGUMENT,
                 value: at + 2,
@@ -417,12 +385,12 @@ fn list(toks: &[u64], nodes: &mut [u64], start: usize, count: usize, left: usize
     let mut at = start + 1;
     let mut have = count;
     let mut first: usize = 0;
-    while kind_at(toks, at) != TokKind::RPAREN {
+    while rows::kind_at(toks, at) != TokKind::RPAREN {
         match arg(toks, nodes, at, have, left - 1, first) {
             Listed::Done(next, m, f) => {
                 have = m;
                 first = f;
-                let t = kind_at(toks, next);
+                let t = rows::kind_at(toks, next);
                 if t == TokKind::COMMA {
                     at = next + 1;
                 } else if t == TokKind::RPAREN {
@@ -453,7 +421,7 @@ fn end_stmt(
     ensures { λ r. ⌜ Ahead 1 (length (now (toks .entry))) at count 0 r ⌝ }
     ensures { λ r. ⌜ After (now (toks .entry)) (now (nodes .entry)) count (λ ts ms. (ns : List Node) (s : Stmt) → ms ++ node kind tok first 0 0 ∷ [] ≡ withStmt ns s → MetStmt r (now (nodes .exit)) ns (ended ts s at)) ⌝ }
 {
-    if kind_at(toks, at) != TokKind::SEMI_COLON {
+    if rows::kind_at(toks, at) != TokKind::SEMI_COLON {
         return unexpected(at);
     }
     push(nodes, count, kind, tok, first, 0, 0);
@@ -466,7 +434,7 @@ fn import_stmt(toks: &[u64], nodes: &mut [u64], at: usize, count: usize) -> Pars
     ensures { λ r. ⌜ Ahead 1 (length (now (toks .entry))) at count 0 r ⌝ }
     ensures { λ r. ⌜ After (now (toks .entry)) (now (nodes .entry)) count (λ ts ns. MetStmt r (now (nodes .exit)) ns (importAt ts at)) ⌝ }
 {
-    if kind_at(toks, at + 1) != TokKind::IDENTIFIER {
+    if rows::kind_at(toks, at + 1) != TokKind::IDENTIFIER {
         return unexpected(at + 1);
     }
     end_stmt(toks, nodes, at + 2, count, NodeKind::IMPORT, at + 1, 0)
@@ -478,10 +446,10 @@ fn let_stmt(toks: &[u64], nodes: &mut [u64], at: usize, count: usize) -> Parsed
     ensures { λ r. ⌜ Ahead 1 (length (now (toks .entry))) at count 0 r ⌝ }
     ensures { λ r. ⌜ After (now (toks .entry)) (now (nodes .entry)) count (λ ts ns. MetStmt r (now (nodes .exit)) ns (letAt ts at)) ⌝ }
 {
-    if kind_at(toks, at + 1) != TokKind::IDENTIFIER {
+    if rows::kind_at(toks, at + 1) != TokKind::IDENTIFIER {
         return unexpected(at + 1);
     }
-    if kind_at(toks, at + 2) != TokKind::EQUALS {
+    if rows::kind_at(toks, at + 2) != TokKind::EQUALS {
         return unexpected(at + 2);
     }
     match expr(toks, nodes, at + 3, count, Parser::MOST_LISTS) {
@@ -507,7 +475,7 @@ fn stmt(toks: &[u64], nodes: &mut [u64], at: usize, count: usize) -> Parsed
     ensures { λ r. ⌜ Ahead 1 (length (now (toks .entry))) at count 0 r ⌝ }
     ensures { λ r. ⌜ After (now (toks .entry)) (now (nodes .entry)) count (λ ts ns. MetStmt r (now (nodes .exit)) ns (stmtAt ts at)) ⌝ }
 {
-    match kind_at(toks, at) {
+    match rows::kind_at(toks, at) {
         TokKind::IMPORT_KEYWORD => import_stmt(toks, nodes, at, count),
         TokKind::LET_KEYWORD => let_stmt(toks, nodes, at, count),
         _ => expr_stmt(toks, nodes, at, count),
@@ -522,7 +490,7 @@ pub fn program(toks: &[u64], nodes: &mut [u64]) -> Parsed
 {
     let mut at: usize = 0;
     let mut have: usize = 0;
-    while kind_at(toks, at) != TokKind::EOF {
+    while rows::kind_at(toks, at) != TokKind::EOF {
         match stmt(toks, nodes, at, have) {
             Parsed::Done(next, n, _) => {
                 at = next;
@@ -565,15 +533,15 @@ fn give_up(verdict: Verdict, toks: &mut [u64], nodes: &mut [u64]) -> ParseAnswer
 
 // A refusal at the token in a row.
 fn at_row(toks: &[u64], i: usize, number: u64, kind: u64) -> Verdict
-    requires { ⌜ (7 * i + 7 ≤ length (now toks)) × (i ≤ mostBytes) ⌝ }
+    requires { ⌜ tokenWidth * i + tokenWidth ≤ length (now toks) ⌝ }
     ensures { λ r. ⌜ r ≡ rowVerdict (now (toks .entry)) number kind i ⌝ }
 {
-    let row = TokenRow::WORDS * i;
+    let tok = rows::token_row(toks, i);
     Verdict {
         number: number,
         kind: kind,
-        line: toks[row + TokenRow::LINE],
-        column: toks[row + TokenRow::COLUMN],
+        line: tok.line,
+        column: tok.column,
         character: 0,
     }
 }

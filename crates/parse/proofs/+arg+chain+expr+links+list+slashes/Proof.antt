@@ -37,7 +37,7 @@ use Rattle.parse.proofs.slashes.Reads as slashes
 use Rattle.parse.proofs.slashes.Kinds as slashes-kinds
 use Rattle.parse.proofs.+arg+chain+expr+links+list+slashes.Lts-slashes as slashes-lts
 use Rattle.parse.proofs.arg_head.Reads as arg-head-reads
-use Rattle.parse.proofs.kind_at.Reads as kind-at-reads
+use Rattle.rows.proofs.kind_at.Reads as kind-at-reads
 use Rattle.parse.proofs.link.Reads as link-reads
 use Rattle.parse.proofs.primary.Reads as primary-reads
 use Rattle.parse.proofs.push.Reads as push-reads
