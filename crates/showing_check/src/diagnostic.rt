@@ -83,6 +83,14 @@ fn fields(name: &[u8], text: &[u8], what: What, out: &mut [u8], at: usize) -> us
     }
 }
 
+// The line of a finding that shows a name, or none.
+fn line(name: &[u8], text: &[u8], d: Diagnostic, out: &mut [u8], at: usize) -> usize {
+    let what = d.what;
+    let p = start(d, out, at);
+    let q = fields(name, text, what, out, p);
+    output::byte(out, q, b'\n')
+}
+
 // A name is a part of the source or of the constant table's text.
 fn line_of<'a>(
     source: &'a [u8],
@@ -92,21 +100,14 @@ fn line_of<'a>(
     at: usize,
 ) -> usize {
     let from_table = row.text == Text::TABLE;
-    let name = constants::name_text(
-        from_table,
-        source,
-        text,
-        row.start as usize,
-        row.end as usize,
-    );
-    match findings::reading::read(row) {
-        Read::Is(d) => {
-            let p = start(d, out, at);
-            let q = fields(name, text, d.what, out, p);
-            output::byte(out, q, b'\n')
-        }
-        Read::Nothing => output::text(out, at, b"- no finding has such a row\n"),
-    }
+    let start_of = row.start as usize;
+    let end_of = row.end as usize;
+    let name = constants::name_text(from_table, source, text, start_of, end_of);
+    let found = findings::reading::read(row);
+    let Read::Is(d) = found else {
+        return output::text(out, at, b"- no finding has such a row\n");
+    };
+    line(name, text, d, out, at)
 }
 
 // The first `count` rows of the table, or as many as it has.
