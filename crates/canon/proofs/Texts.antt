@@ -5,7 +5,7 @@ use mathlib.Core.List.{List, [], _∷_, _++_, append-assoc, append-nil}
 use native.Mathlib.Omega.{arith}
 use lib.ListN.{length, getD, drop, length-append}
 use lib.Seq.{drop-cons, drop-at}
-use Rattle.language.specs.Tables.{contentKind}
+use Rattle.language.specs.Tables.{contentKind, tokenWidth}
 use Rattle.language.specs.Tokens.{Token, eofToken, tokens, contents}
 use Rattle.language.specs.Canonical.{spell, canonical, text}
 use Rattle.language.specs.Numbers.{tokenOf}
@@ -72,7 +72,7 @@ module _ (s toks : List ℕ) (count : ℕ) (h : Lexes s toks count) where
       abbrev x : Token
       x = tokenOf s (i - 1)
 
-      this : row ≡ 7 * (i - 1)
+      this : row ≡ tokenWidth * (i - 1)
       this = omega (arith, f .begun)
 
       in-body : i - 1 < length (before s)

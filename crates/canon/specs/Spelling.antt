@@ -8,7 +8,7 @@ use Rattle.table.specs.Table.{padTo}
 use Rattle.language.specs.Choice.{if′}
 use Rattle.language.specs.Lexemes.{importWord, letWord, trueWord, falseWord}
 use Rattle.language.specs.Integers.{decimal, hexadecimal}
-use Rattle.language.specs.Tables.{wordLimit}
+use Rattle.language.specs.Tables.{wordLimit, tokenWidth}
 use Rattle.language.specs.Tokens.{between, bodiesIn, mostBytes}
 use Rattle.language.specs.Canonical.{spellDigits, spellQuad, quoted, spellBodies, text}
 
@@ -71,7 +71,7 @@ gapText k next = if′ (eqb k 7) (10 ∷ []) (if′ (eqb next 1) [] (32 ∷ []))
 
 -- a row that lies in the table, with a span that lies in the source
 pub record RowFits (source toks : List ℕ) (row : ℕ) : Type 0 where
-  pub room : row + 6 < length toks
+  pub room : row + tokenWidth ≤ length toks
   pub forth : getD toks (row + 3) 0 ≤ getD toks (row + 4) 0
   pub within : getD toks (row + 4) 0 ≤ length source
   pub short : length source ≤ mostBytes

@@ -4,6 +4,7 @@ use mathlib.Core.List.{List}
 use Prim.Native.Nat.{ℕ, _+_, _*_, _≤_, _<_}
 use native.Mathlib.Omega.{arith}
 use lib.ListN.{length}
+use Rattle.language.specs.Tables.{tokenWidth}
 use Rattle.language.specs.Sentences.{Expr, Args, Stmt, Out, ok, no, Node, nodesFrom}
 use Rattle.language.proofs.Tests.{never}
 use Rattle.parse.specs.Parsing.{Holds, withStmt, Stands, Lists, MetExpr, MetArgs, MetStmt, MetAll, Ahead, AheadList}
@@ -90,7 +91,7 @@ all-no q = record { met = rw q refl }
 -- ---- how far the code went
 
 module _ {r : Parsed} {d len at count steps : ℕ} where
-  pub ahead : {next n s : ℕ} → r ≡ Done next n s → Ahead d len at count steps r → (at + d ≤ next) × (7 * next ≤ len) × (count + d ≤ n) × (n + 2 * at ≤ count + 2 * next) × (s ≤ steps)
+  pub ahead : {next n s : ℕ} → r ≡ Done next n s → Ahead d len at count steps r → (at + d ≤ next) × (tokenWidth * next ≤ len) × (count + d ≤ n) × (n + 2 * at ≤ count + 2 * next) × (s ≤ steps)
   ahead e h = rw e at (h .on)
 
   pub ahead-place : {n k a : ℕ} → r ≡ Refused n k a → Ahead d len at count steps r → a ≤ len + 3
@@ -105,7 +106,7 @@ ahead-more {r = Done m k j} p q u v h = record { on = omega (arith, h .on) }
 ahead-more {r = Refused m k a} p q u v h = record { on = h .on }
 
 module _ {r : Listed} {d len at count : ℕ} where
-  pub ahead-list : {next n first : ℕ} → r ≡ listed.Done next n first → AheadList d len at count r → (at + d < next) × (7 * next ≤ len) × (count ≤ n) × (n + 2 * at + d ≤ count + 2 * next) × (first ≤ n)
+  pub ahead-list : {next n first : ℕ} → r ≡ listed.Done next n first → AheadList d len at count r → (at + d < next) × (tokenWidth * next ≤ len) × (count ≤ n) × (n + 2 * at + d ≤ count + 2 * next) × (first ≤ n)
   ahead-list e h = rw e at (h .on)
 
   pub ahead-list-place : {n k a : ℕ} → r ≡ listed.Refused n k a → AheadList d len at count r → a ≤ len + 3

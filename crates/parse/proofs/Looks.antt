@@ -9,7 +9,7 @@ use borrow.Author.Tests.{not-true, eq-eqb, ne-eqb, le-leb, lt-leb}
 use lib.Dec.{eqb}
 use lib.ListN.{length, getD}
 use Rattle.wide.specs.declared.Wide.{Wide}
-use Rattle.language.specs.Tables.{contentKind}
+use Rattle.language.specs.Tables.{contentKind, tokenWidth}
 use Rattle.language.specs.Tokens.{Content, eof}
 use Rattle.language.specs.Sentences.{Port, port, tooLarge, notPort}
 use Rattle.parse.specs.Parsing.{literalKind, portAs, portOfTok, portAt, isNamed, argKind, valueFrom, Rep}
@@ -35,14 +35,14 @@ unseen p f q = f (p ∙ q)
 
 module _ (toks : List ℕ) (at : ℕ) where
   -- a token that is not `Eof` has a row
-  pub inside : (n : ℕ) → kindAt toks at ≡ suc (suc n) → 7 * at + 7 ≤ length toks
-  inside n e = elim (decLe (7 * at + 7) (length toks)) [
+  pub inside : (n : ℕ) → kindAt toks at ≡ suc (suc n) → tokenWidth * at + tokenWidth ≤ length toks
+  inside n e = elim (decLe (tokenWidth * at + tokenWidth) (length toks)) [
     | yes h ↦ h
     | no h ↦ let one = kind-past toks at (omega arith) in absurd (omega (arith, one, e))
   ]
 
-  pub row-of : (kindAt toks at ≡ 1 → ⊥) → 7 * at + 7 ≤ length toks
-  row-of some = elim (decLe (7 * at + 7) (length toks)) [ yes h ↦ h | no h ↦ absurd (some (sym (kind-past toks at (omega arith)))) ]
+  pub row-of : (kindAt toks at ≡ 1 → ⊥) → tokenWidth * at + tokenWidth ≤ length toks
+  row-of some = elim (decLe (tokenWidth * at + tokenWidth) (length toks)) [ yes h ↦ h | no h ↦ absurd (some (sym (kind-past toks at (omega arith)))) ]
 
   module _ {ts : List Content} (rep : Rep toks ts) (n : ℕ) where
     pub kind-is : kindAt toks at ≡ n → contentKind (getD ts at eof) ≡ n
@@ -59,7 +59,7 @@ module _ (toks : List ℕ) (at : ℕ) where
 pub literal-seen : {r b : Bool} {k n : ℕ} → k ≡ n → r ≡ literalKind k → r ≡ b → literalKind n ≡ b
 literal-seen e p q = rw e at (sym p ∙ q)
 
-pub literal-inside : (toks : List ℕ) (at : ℕ) → literalKind (kindAt toks at) ≡ true → 7 * at + 7 ≤ length toks
+pub literal-inside : (toks : List ℕ) (at : ℕ) → literalKind (kindAt toks at) ≡ true → tokenWidth * at + tokenWidth ≤ length toks
 literal-inside toks at e = row-of toks at (λ one. let z : false ≡ true = rw one at e in never (cc))
 
 -- ---- ports
@@ -110,9 +110,9 @@ is-not tooLarge e = never (cc)
 is-not notPort e = refl
 
 -- a port has a row
-pub port-inside : (toks : List ℕ) (at : ℕ) → portAt toks at ≡ port → 7 * at + 7 ≤ length toks
+pub port-inside : (toks : List ℕ) (at : ℕ) → portAt toks at ≡ port → tokenWidth * at + tokenWidth ≤ length toks
 unfolding portAt portOfTok
-port-inside toks at e = elim (decLe (7 * at + 7) (length toks)) [
+port-inside toks at e = elim (decLe (tokenWidth * at + tokenWidth) (length toks)) [
   | yes h ↦ h
   | no h ↦ let z : notPort ≡ port = rw (← tok-past toks at (omega arith)) at e in never (cc)
 ]

@@ -32,18 +32,18 @@ grown {ms = ms} p l h e = rw (← e) (simp length-append (omega arith), p .one m
 
 -- a word stored in a row that has room, and nothing in one that has none: its node has another second number
 module _ (t t′ : List ℕ) (row next : ℕ) where
-  pub linked : 5 * row + 5 ≤ length t → t′ ≡ set t (5 * row + 3) next → Links t t′ row next
+  pub linked : nodeWidth * row + nodeWidth ≤ length t → t′ ≡ set t (nodeWidth * row + 3) next → Links t t′ row next
   unfolding nodeRow
   linked room e = record {
     one = λ xs ys n l h.
-        let place : 5 * row + 3 ≡ length xs * nodeWidth + 3 = omega arith in
+        let place : nodeWidth * row + 3 ≡ length xs * nodeWidth + 3 = omega arith in
         let q : t′ ≡ tabled nodeRow nodeWidth (length t) (xs ++ naming n next ∷ ys) =
-        e ∙ ap (λ (x : List ℕ). set x (5 * row + 3) next) (h .rows)
+        e ∙ ap (λ (x : List ℕ). set x (nodeWidth * row + 3) next) (h .rows)
         ∙ rw place (put-in nodeRow nodeWidth row-long (omega arith) (length t) xs ys n (naming n next) (n .kind ∷ n .tok ∷ n .first ∷ []) (n .third ∷ []) (n .second) next refl refl (omega arith)) in
         record { rows = tabled-own nodeRow nodeWidth (length t) (length t′) (xs ++ naming n next ∷ ys) q refl };
   }
 
-  pub unlinked : length t < 5 * row + 5 → t′ ≡ t → Links t t′ row next
+  pub unlinked : length t < nodeWidth * row + nodeWidth → t′ ≡ t → Links t t′ row next
   unlinked full e = record {
     one = λ xs ys n l h.
         let q : t′ ≡ tabled nodeRow nodeWidth (length t) (xs ++ naming n next ∷ ys) =

@@ -8,7 +8,7 @@ use native.Mathlib.Numerals.{sub-one}
 use lib.Dec.{eqb}
 use lib.ListN.{length, getD}
 use Rattle.language.specs.Choice.{if′}
-use Rattle.language.specs.Tables.{contentKind}
+use Rattle.language.specs.Tables.{contentKind, tokenWidth}
 use Rattle.language.specs.Tokens.{Content, eof}
 use Rattle.language.specs.Sentences.{Expr, literal, sock4, local, path, member, call, slash′, Args, none-given, given, named, Stmt, import′, let′, expr′, port, tooLarge, notPort, Out, ok, no, andThen, mostSteps, mostLists, namesFrom, address, named′, primary, links, chainOf, slashes, exprOf, argOf, argsOf, listAt, exprAt, ended, importAt, letAt, stmtAt, stmtsFrom, program}
 use Rattle.rows.specs.Tokens.{kindAt}
@@ -27,7 +27,7 @@ module _ {toks : List ℕ} {ts : List Content} (rep : Rep toks ts) where
     path-open is5 = rw (is-true toks (at + 1) rep 5 is5, named′)
 
     module _ (n next : ℕ) where
-      pub path-stop : (k : ℕ) → 7 * next ≤ length toks → length ts < next + k → (kindAt toks next ≡ 5 → ⊥) → pathFrom ts at k n next s ≡ ok (path at n) next s
+      pub path-stop : (k : ℕ) → tokenWidth * next ≤ length toks → length ts < next + k → (kindAt toks next ≡ 5 → ⊥) → pathFrom ts at k n next s ≡ ok (path at n) next s
       unfolding namesFrom
       path-stop zero le lt no5 = absurd (omega (arith, rep .long))
       path-stop (suc k) le lt no5 = rw (is-false toks next rep 5 no5, namesFrom)
@@ -168,7 +168,7 @@ module _ {toks : List ℕ} {ts : List Content} (rep : Rep toks ts) where
     args-end zero lt is3 = absurd (omega (arith, rep .long, inside toks at 1 is3))
     args-end (suc k) lt is3 = rw (is-true toks at rep 3 is3, argsOf)
 
-    module _ (k : ℕ) (le : 7 * at ≤ length toks) (lt : length ts < at + k) (no3 : kindAt toks at ≡ 3 → ⊥) where
+    module _ (k : ℕ) (le : tokenWidth * at ≤ length toks) (lt : length ts < at + k) (no3 : kindAt toks at ≡ 3 → ⊥) where
       some : (k : ℕ) → length ts < at + k → (j : ℕ) × (k ≡ suc j)
       some zero lt = absurd (omega (arith, rep .long))
       some (suc j) lt = (j, refl)
@@ -242,17 +242,17 @@ module _ {toks : List ℕ} {ts : List Content} (rep : Rep toks ts) where
 
   -- ---- programs
   module _ (ss : List Stmt) (at : ℕ) where
-    pub stmts-end : (k : ℕ) → 7 * at ≤ length toks → length ts < at + k → kindAt toks at ≡ 1 → stmtsFrom ts k ss at ≡ ok ss at 0
+    pub stmts-end : (k : ℕ) → tokenWidth * at ≤ length toks → length ts < at + k → kindAt toks at ≡ 1 → stmtsFrom ts k ss at ≡ ok ss at 0
     unfolding stmtsFrom
     stmts-end zero le lt is1 = absurd (omega (arith, rep .long))
     stmts-end (suc k) le lt is1 = rw (is-true toks at rep 1 is1, stmtsFrom)
 
-    pub stmts-no : (k n j a : ℕ) → 7 * at ≤ length toks → length ts < at + k → (kindAt toks at ≡ 1 → ⊥) → stmtAt ts at ≡ no n j a → stmtsFrom ts k ss at ≡ no n j a
+    pub stmts-no : (k n j a : ℕ) → tokenWidth * at ≤ length toks → length ts < at + k → (kindAt toks at ≡ 1 → ⊥) → stmtAt ts at ≡ no n j a → stmtsFrom ts k ss at ≡ no n j a
     unfolding stmtsFrom
     stmts-no zero n j a le lt no1 q = absurd (omega (arith, rep .long))
     stmts-no (suc k) n j a le lt no1 q = rw (is-false toks at rep 1 no1, stmtsFrom) (rw q refl)
 
-    pub stmts-more : (k next y : ℕ) (s : Stmt) → 7 * at ≤ length toks → length ts < at + k → (kindAt toks at ≡ 1 → ⊥) → stmtAt ts at ≡ ok s next y → at < next
+    pub stmts-more : (k next y : ℕ) (s : Stmt) → tokenWidth * at ≤ length toks → length ts < at + k → (kindAt toks at ≡ 1 → ⊥) → stmtAt ts at ≡ ok s next y → at < next
         → (k′ : ℕ) × (length ts < next + k′) × (stmtsFrom ts k ss at ≡ stmtsFrom ts k′ (ss ++ s ∷ []) next)
     unfolding stmtsFrom
     stmts-more zero next y s le lt no1 q up = absurd (omega (arith, rep .long))

@@ -10,7 +10,7 @@ use lib.ListN.{length, getD, take}
 use lib.Seq.{length-take-le}
 use Rattle.table.specs.Table.{tabled}
 use Rattle.table.proofs.Laws.{tabled-word, tabled-rows}
-use Rattle.language.specs.Tables.{tokenRow}
+use Rattle.language.specs.Tables.{tokenRow, tokenWidth}
 use Rattle.language.specs.Tokens.{Token, contents, items, tokensFrom, eofToken, tokens, Ordered, ordered-one}
 use Rattle.language.specs.Numbers.{tokenPlace}
 use Rattle.language.proofs.TokenClaims.{places-right, tokens-in-order}
@@ -44,15 +44,15 @@ module _ (s : List ℕ) where
       omega (arith, long-tokens s, few-from (length s) (tokensFrom none (items s)) (eofToken s ∷ []) (tokens-in-order s) each (omega arith))
 
 -- a part with no more rows than there can be tokens
-pub short-part : (toks : List ℕ) (count : ℕ) → 7 * count ≤ length toks → count ≤ 65537 → length (take (7 * count) toks) ≤ 458759
-short-part toks count h l = omega (arith, length-take-le (7 * count) toks h)
+pub short-part : (toks : List ℕ) (count : ℕ) → tokenWidth * count ≤ length toks → count ≤ 65537 → length (take (tokenWidth * count) toks) ≤ 458759
+short-part toks count h l = omega (arith, length-take-le (tokenWidth * count) toks h)
 
 -- ---- contents
 
 -- the part of a table that the rows take
-pub part-rep : (ts : List Token) (n : ℕ) {toks : List ℕ} {count : ℕ} → toks ≡ tabled tokenRow 7 n ts → count ≡ length ts → length ts ≤ n / 7
-    → Rep (take (7 * count) toks) (contents ts)
-part-rep ts n e c h = rw (e, c, tabled-rows tokenRow 7 row-width n ts h) (represented ts)
+pub part-rep : (ts : List Token) (n : ℕ) {toks : List ℕ} {count : ℕ} → toks ≡ tabled tokenRow tokenWidth n ts → count ≡ length ts → length ts ≤ n / tokenWidth
+    → Rep (take (tokenWidth * count) toks) (contents ts)
+part-rep ts n e c h = rw (e, c, tabled-rows tokenRow tokenWidth row-width n ts h) (represented ts)
 
 -- ---- places
 
@@ -72,25 +72,25 @@ module _ (toks : List ℕ) (count number kind at : ℕ) where
 abbrev placedAt : ℕ → ℕ → ℕ → ℕ → Verdict
 placedAt number kind line column = record { number = number; kind = kind; line = line; column = column; character = 0 }
 
-module _ (s : List ℕ) (n number kind : ℕ) (h : length (tokens s) ≤ n / 7) where
+module _ (s : List ℕ) (n number kind : ℕ) (h : length (tokens s) ≤ n / tokenWidth) where
   row-place : (i : ℕ) → i < length (tokens s)
-      → rowVerdict (tabled tokenRow 7 n (tokens s)) number kind i
+      → rowVerdict (tabled tokenRow tokenWidth n (tokens s)) number kind i
       ≡ placedAt number kind (getD (tokens s) i (eofToken s) .line) (getD (tokens s) i (eofToken s) .column)
   unfolding tokenRow
   row-place i l =
-      let line = tabled-word tokenRow 7 row-width n (tokens s) h i 1 l (omega arith) (eofToken s) in
-      let column = tabled-word tokenRow 7 row-width n (tokens s) h i 2 l (omega arith) (eofToken s) in
+      let line = tabled-word tokenRow tokenWidth row-width n (tokens s) h i 1 l (omega arith) (eofToken s) in
+      let column = tabled-word tokenRow tokenWidth row-width n (tokens s) h i 2 l (omega arith) (eofToken s) in
       rw (line, column)
 
   -- the place of a token, past the end that of `Eof`
-  pub place-at : {toks : List ℕ} {count : ℕ} (at : ℕ) → toks ≡ tabled tokenRow 7 n (tokens s) → count ≡ length (tokens s)
+  pub place-at : {toks : List ℕ} {count : ℕ} (at : ℕ) → toks ≡ tabled tokenRow tokenWidth n (tokens s) → count ≡ length (tokens s)
       → verdictAt toks count number kind at ≡ placedAt number kind (tokenPlace s at .line) (tokenPlace s at .column)
   place-at at e c =
       elim (decLe (suc at) (length (tokens s))) [
-        | yes l ↦ rw (e, c) (sym (near (tabled tokenRow 7 n (tokens s)) (length (tokens s)) number kind at l) ∙ row-place at l)
+        | yes l ↦ rw (e, c) (sym (near (tabled tokenRow tokenWidth n (tokens s)) (length (tokens s)) number kind at l) ∙ row-place at l)
         | no l ↦
             let past : length (tokens s) ≤ at = omega arith in
             let same = last-token s ∙ sym (past-token s at past) in
-            rw (e, c) (sym (far (tabled tokenRow 7 n (tokens s)) (length (tokens s)) number kind at past)
+            rw (e, c) (sym (far (tabled tokenRow tokenWidth n (tokens s)) (length (tokens s)) number kind at past)
             ∙ row-place (length (tokens s) - 1) (omega (arith, some-token s)) ∙ ap (λ (t : Token). placedAt number kind (t .line) (t .column)) same)
       ]

@@ -7,7 +7,7 @@ use lib.Dec.{eqb, leb, ltb}
 use lib.ListN.{length, getD}
 use Rattle.table.specs.Table.{tabled}
 use Rattle.language.specs.Choice.{if′}
-use Rattle.language.specs.Tables.{contentKind}
+use Rattle.language.specs.Tables.{contentKind, tokenWidth}
 use Rattle.language.specs.Tokens.{Content, eof, mostTokens}
 use Rattle.language.specs.Sentences.{Expr, Args, given, named, Stmt, expr′, firstOf, Port, port, tooLarge, notPort, portOf, Out, ok, no, andThen, mostLists, exprAt, ended, Node, node, exprNodes, argNodes, firstRow, stmtNodes, nodes, nodeRow, nodeWidth, largestPort}
 use Rattle.rows.specs.declared.verdict.Verdict.{Verdict}
@@ -40,7 +40,7 @@ portAt toks at = portOfTok (tokAt toks at)
 
 -- the table's rows are those of tokens with these contents
 pub record Rep (toks : List ℕ) (ts : List Content) : Type 0 where
-  pub long : length toks ≡ 7 * length ts
+  pub long : length toks ≡ tokenWidth * length ts
   pub kinds : (at : ℕ) → kindAt toks at ≡ contentKind (getD ts at eof)
   pub ports : (at : ℕ) → portAt toks at ≡ portOf (getD ts at eof)
 
@@ -149,12 +149,12 @@ pub record MetAll (r : Parsed) (t : List ℕ) (o : Out (List Stmt)) : Type 0 whe
 
 -- where a part of the grammar starts: a token, in a table of so many words, and how many nodes there are
 abbrev pub Room : ℕ → ℕ → ℕ → Type 0
-Room len at count = (7 * at ≤ len) × (len ≤ 7 * mostTokens) × (count ≤ 2 * at)
+Room len at count = (tokenWidth * at ≤ len) × (len ≤ tokenWidth * mostTokens) × (count ≤ 2 * at)
 
 -- from the token `at` with `count` nodes and some steps it went on by d tokens and d nodes at least, and by at most two
 -- nodes for each token
 abbrev pub AheadOf : ℕ → ℕ → ℕ → ℕ → ℕ → Parsed → Type 0
-AheadOf d len at count steps (Done next n left) = (at + d ≤ next) × (7 * next ≤ len) × (count + d ≤ n) × (n + 2 * at ≤ count + 2 * next) × (left ≤ steps)
+AheadOf d len at count steps (Done next n left) = (at + d ≤ next) × (tokenWidth * next ≤ len) × (count + d ≤ n) × (n + 2 * at ≤ count + 2 * next) × (left ≤ steps)
 AheadOf d len at count steps (Refused n k a) = a ≤ len + 3
 
 pub record Ahead (d len at count steps : ℕ) (r : Parsed) : Type 0 where
@@ -162,7 +162,7 @@ pub record Ahead (d len at count steps : ℕ) (r : Parsed) : Type 0 where
 
 -- the same of arguments: by d + 1 tokens at least, and by d nodes less than two for each token
 abbrev pub AheadArgs : ℕ → ℕ → ℕ → ℕ → Listed → Type 0
-AheadArgs d len at count (listed.Done next n first) = (at + d < next) × (7 * next ≤ len) × (count ≤ n) × (n + 2 * at + d ≤ count + 2 * next) × (first ≤ n)
+AheadArgs d len at count (listed.Done next n first) = (at + d < next) × (tokenWidth * next ≤ len) × (count ≤ n) × (n + 2 * at + d ≤ count + 2 * next) × (first ≤ n)
 AheadArgs d len at count (listed.Refused n k a) = a ≤ len + 3
 
 pub record AheadList (d len at count : ℕ) (r : Listed) : Type 0 where
@@ -173,7 +173,7 @@ pub record AheadList (d len at count : ℕ) (r : Listed) : Type 0 where
 -- a refusal at the token in a row of a table
 abbrev pub rowVerdict : List ℕ → ℕ → ℕ → ℕ → Verdict
 rowVerdict toks number kind i =
-    record { number = number; kind = kind; line = getD toks (7 * i + 1) 0; column = getD toks (7 * i + 2) 0; character = 0 }
+    record { number = number; kind = kind; line = getD toks (tokenWidth * i + 1) 0; column = getD toks (tokenWidth * i + 2) 0; character = 0 }
 
 -- a refusal at a token of a table with `count` of them, the last of which is `Eof`
 unfoldable pub verdictAt : List ℕ → ℕ → ℕ → ℕ → ℕ → Verdict

@@ -326,9 +326,9 @@ fn links(toks: &[u64], nodes: &mut [u64], p: Parser, start: usize, count: usize)
 
 // A bare name before `:` names its argument.
 fn arg_head(toks: &[u64], at: usize) -> ArgHead
-    requires { ⌜ (7 * at ≤ length (now toks)) × (length (now toks) ≤ 7 * mostTokens) ⌝ }
+    requires { ⌜ (tokenWidth * at ≤ length (now toks)) × (length (now toks) ≤ tokenWidth * mostTokens) ⌝ }
     ensures { λ r. ⌜ (r .kind ≡ argKind (isNamed (now (toks .entry)) at)) × (r .value ≡ valueFrom (isNamed (now (toks .entry)) at) at) ⌝ }
-    ensures { λ r. ⌜ (at ≤ r .value) × (7 * r .value ≤ length (now (toks .entry))) ⌝ }
+    ensures { λ r. ⌜ (at ≤ r .value) × (tokenWidth * r .value ≤ length (now (toks .entry))) ⌝ }
 {
     if rows::kind_at(toks, at) == TokKind::IDENTIFIER {
         if rows::kind_at(toks, at + 1) == TokKind::COLON {
@@ -484,7 +484,7 @@ fn stmt(toks: &[u64], nodes: &mut [u64], at: usize, count: usize) -> Parsed
 
 // The statements of a whole program. The node table starts out as zeros.
 pub fn program(toks: &[u64], nodes: &mut [u64]) -> Parsed
-    requires { ⌜ length (now toks) ≤ 7 * mostTokens ⌝ }
+    requires { ⌜ length (now toks) ≤ tokenWidth * mostTokens ⌝ }
     ensures { λ r. ⌜ Ahead 0 (length (now (toks .entry))) 0 0 0 r ⌝ }
     ensures { λ r. ⌜ ((ts : List Content) → Rep (now (toks .entry)) ts → Holds (now (nodes .entry)) [] → MetAll r (now (nodes .exit)) (program ts)) ⌝ }
 {
@@ -548,7 +548,7 @@ fn at_row(toks: &[u64], i: usize, number: u64, kind: u64) -> Verdict
 
 // A refusal at the token numbered `at` of `count`, the last of which is `Eof`: past the end it stands there.
 fn at_token(toks: &[u64], count: usize, number: u64, kind: u64, at: usize) -> Verdict
-    requires { ⌜ (1 ≤ count) × (7 * count ≤ length (now toks)) × (count ≤ mostTokens) ⌝ }
+    requires { ⌜ (1 ≤ count) × (tokenWidth * count ≤ length (now toks)) × (count ≤ mostTokens) ⌝ }
     ensures { λ r. ⌜ r ≡ verdictAt (now (toks .entry)) count number kind at ⌝ }
 {
     if at < count {
@@ -559,7 +559,7 @@ fn at_token(toks: &[u64], count: usize, number: u64, kind: u64, at: usize) -> Ve
 
 // Parses `count` tokens. The node table starts out as zeros.
 fn parse_tokens(toks: &mut [u64], nodes: &mut [u64], count: usize) -> ParseAnswer
-    requires { ⌜ (1 ≤ count) × (7 * count ≤ length (now toks)) × (count ≤ mostTokens) ⌝ }
+    requires { ⌜ (1 ≤ count) × (tokenWidth * count ≤ length (now toks)) × (count ≤ mostTokens) ⌝ }
     ensures { λ r. ⌜ ((s : List ℕ) → Lexes s (now (toks .entry)) count → Holds (now (nodes .entry)) [] → ParseSource s (length (now (toks .entry))) (length (now (nodes .entry))) r (now (toks .exit)) (now (nodes .exit))) ⌝ }
 {
     let room = nodes.len() / NodeRow::WORDS;

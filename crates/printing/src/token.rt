@@ -1,66 +1,26 @@
 // Tokens and lexical errors, by the numbers that tables hold for them.
-ghost use Prim.Native.Nat.{_+_, _≤_};
-ghost use lib.ListN.{length};
 use crate::output;
 use lexemes::LexErrorKind;
 use parts::part;
 use rows::TokKind;
+use rows::Token;
 use rows::TokenRow;
 use wide::Wide;
 
-// What is shown of a token: its kind, where it starts and ends in the source, and its value.
-pub struct Token {
-    pub kind: u64,
-    pub start: usize,
-    pub end: usize,
-    pub value: Wide,
-}
-
-// A token and its place, as a row of the table of tokens has them.
-pub struct Placed {
-    pub line: u64,
-    pub column: u64,
-    pub token: Token,
-}
-
-// The words of the row that starts at word `at`.
-fn row_from(tokens: &[u64], at: usize) -> Placed
-    requires { ⌜ at + 7 ≤ length (now tokens) ⌝ }
-{
-    Placed {
-        line: tokens[at + TokenRow::LINE],
-        column: tokens[at + TokenRow::COLUMN],
-        token: Token {
-            kind: tokens[at],
-            start: tokens[at + TokenRow::START] as usize,
-            end: tokens[at + TokenRow::END] as usize,
-            value: Wide {
-                hi: tokens[at + TokenRow::HIGH],
-                lo: tokens[at + TokenRow::LOW],
-            },
-        },
+// Row `i`: all zeros where the table has none.
+pub fn row_at(tokens: &[u64], i: usize) -> Token {
+    if i < tokens.len() / TokenRow::WORDS {
+        return rows::token_row(tokens, i);
     }
-}
-
-fn no_row() -> Placed {
-    Placed {
+    Token {
+        kind: 0,
         line: 0,
         column: 0,
-        token: Token {
-            kind: 0,
-            start: 0,
-            end: 0,
-            value: Wide { hi: 0, lo: 0 },
-        },
+        start: 0,
+        end: 0,
+        lo: 0,
+        hi: 0,
     }
-}
-
-// Row `i`: all zeros where the table has none.
-pub fn row_at(tokens: &[u64], i: usize) -> Placed {
-    if i < tokens.len() / TokenRow::WORDS {
-        return row_from(tokens, i * TokenRow::WORDS);
-    }
-    no_row()
 }
 
 // The name of a kind of token.
@@ -87,10 +47,17 @@ pub fn boolean(out: &mut [u8], at: usize, n: u64) -> usize {
 
 // The value that a token carries. A string's is not shown here.
 pub fn show_value(source: &[u8], token: Token, out: &mut [u8], at: usize) -> usize {
-    let value = token.value;
+    let value = Wide {
+        hi: token.hi,
+        lo: token.lo,
+    };
     let kind = token.kind;
     match kind {
-        TokKind::IDENTIFIER => output::text(out, at, part(source, token.start, token.end)),
+        TokKind::IDENTIFIER => output::text(
+            out,
+            at,
+            part(source, token.start as usize, token.end as usize),
+        ),
         TokKind::BOOLEAN_LITERAL => boolean(out, at, value.lo),
         TokKind::IPV4_LITERAL => output::quad(out, at, value.lo),
         TokKind::HEX_LITERAL | TokKind::DEC_LITERAL => output::wide(out, at, value),
@@ -115,9 +82,9 @@ fn body(source: &[u8], start: usize, end: usize, i: u64, out: &mut [u8], at: usi
 
 // The bodies of a string in hex, a blank before each.
 pub fn bodies(source: &[u8], t: Token, out: &mut [u8], at: usize) -> usize {
-    let start = t.start;
-    let end = t.end;
-    let count = t.value.lo;
+    let start = t.start as usize;
+    let end = t.end as usize;
+    let count = t.lo;
     let mut p = at;
     let mut i: u64 = 0;
     while i < count {

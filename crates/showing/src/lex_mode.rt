@@ -1,10 +1,9 @@
 // The mode `lex`: each token is a line of the answer. A string is shown as the list of its raw bodies.
 use printing::output;
 use printing::token;
-use printing::token::Placed;
-use printing::token::Token;
 use printing::verdict;
 use rows::TokKind;
+use rows::Token;
 use rows::Verdict;
 
 fn what(source: &[u8], t: Token, out: &mut [u8], at: usize) -> usize {
@@ -15,9 +14,9 @@ fn what(source: &[u8], t: Token, out: &mut [u8], at: usize) -> usize {
     p
 }
 
-fn line_of(source: &[u8], row: Placed, out: &mut [u8], at: usize) -> usize {
-    let a = output::pair(out, at, row.line, row.column);
-    let b = what(source, row.token, out, a);
+fn line_of(source: &[u8], t: Token, out: &mut [u8], at: usize) -> usize {
+    let a = output::pair(out, at, t.line, t.column);
+    let b = what(source, t, out, a);
     output::byte(out, b, b'\n')
 }
 

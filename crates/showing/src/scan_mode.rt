@@ -1,16 +1,16 @@
 // The mode `scan`: each source is one line, and each lexeme a line of the answer.
 ghost use Prim.Native.Nat.{_+_, _≤_};
 ghost use lib.ListN.{length};
+ghost use Rattle.language.specs.Tables.{lexemeWidth};
 use lexemes::LexemeKind;
 use printing::output;
 use printing::token;
-use printing::token::Token;
 use printing::verdict;
 use rows::LexemeRow;
+use rows::Token;
 use rows::Verdict;
-use wide::Wide;
 
-// A row of the table of lexemes.
+// A row of the table of lexemes. A lexeme has no line and no column, and neither is shown.
 struct Row {
     class: u64,
     token: Token,
@@ -18,31 +18,30 @@ struct Row {
 
 // The words of the row that starts at word `at`.
 fn row_at(table: &[u64], at: usize) -> Row
-    requires { ⌜ at + 6 ≤ length (now table) ⌝ }
+    requires { ⌜ at + lexemeWidth ≤ length (now table) ⌝ }
 {
     Row {
-        class: table[at + 2],
+        class: table[at + LexemeRow::CLASS],
         token: Token {
-            kind: table[at + 3],
-            start: table[at] as usize,
-            end: table[at + 1] as usize,
-            value: Wide {
-                hi: table[at + 5],
-                lo: table[at + 4],
-            },
+            kind: table[at + LexemeRow::KIND],
+            line: 0,
+            column: 0,
+            start: table[at],
+            end: table[at + LexemeRow::END],
+            lo: table[at + LexemeRow::LOW],
+            hi: table[at + LexemeRow::HIGH],
         },
     }
 }
 
 fn string(source: &[u8], t: Token, out: &mut [u8], at: usize) -> usize {
     let p = output::text(out, at, b"Str x");
-    output::hex(out, p, scan::body(source, t.start, t.end))
+    output::hex(out, p, scan::body(source, t.start as usize, t.end as usize))
 }
 
 fn error(t: Token, out: &mut [u8], at: usize) -> usize {
-    let value = t.value;
     let p = output::text(out, at, b"error ");
-    token::show_error(out, p, t.kind, value.lo)
+    token::show_error(out, p, t.kind, t.lo)
 }
 
 // What a lexeme is, after its place.
@@ -59,7 +58,7 @@ fn what(source: &[u8], row: Row, out: &mut [u8], at: usize) -> usize {
 
 fn lexeme(source: &[u8], row: Row, out: &mut [u8], at: usize) -> usize {
     let t = row.token;
-    let a = output::pair(out, at, t.start as u64, t.end as u64);
+    let a = output::pair(out, at, t.start, t.end);
     let b = what(source, row, out, a);
     output::byte(out, b, b'\n')
 }

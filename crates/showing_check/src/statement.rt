@@ -44,7 +44,7 @@ fn value(
 {
     let value = row[StatementRow::LOW];
     if row[StatementRow::TEXT] == Text::SOURCE {
-        return token::bodies(source, token::row_at(tokens, value as usize).token, out, at);
+        return token::bodies(source, token::row_at(tokens, value as usize), out, at);
     }
     let p = output::byte(out, at, b' ');
     plain(

@@ -3,10 +3,9 @@ use crate::node;
 use crate::node::Node;
 use printing::output;
 use printing::token;
-use printing::token::Placed;
-use printing::token::Token;
 use rows::NodeKind;
 use rows::TokKind;
+use rows::Token;
 use rows::TokenRow;
 
 // A bracket and the word for a node's kind: for a literal that for its token's kind, a number above every node's kind. Only
@@ -15,7 +14,7 @@ fn open(tokens: &[u64], n: Node, out: &mut [u8], at: usize) -> usize {
     let kind = n.kind;
     match kind {
         NodeKind::LITERAL => {
-            let t = token::row_at(tokens, n.token).token;
+            let t = token::row_at(tokens, n.token);
             opened(out, at, b" (", t.kind)
         }
         NodeKind::IMPORT | NodeKind::LET | NodeKind::EXPRESSION => opened(out, at, b"(", kind),
@@ -31,7 +30,7 @@ fn opened(out: &mut [u8], at: usize, bracket: &[u8], kind: u64) -> usize {
     output::word(out, p, words, kind)
 }
 
-fn place(t: Placed, out: &mut [u8], at: usize) -> usize {
+fn place(t: Token, out: &mut [u8], at: usize) -> usize {
     let p = output::field(out, at, t.line);
     output::field(out, p, t.column)
 }
@@ -45,7 +44,7 @@ fn value(source: &[u8], t: Token, out: &mut [u8], at: usize) -> usize {
 // A name and its place.
 pub fn name(source: &[u8], tokens: &[u64], i: usize, out: &mut [u8], at: usize) -> usize {
     let t = token::row_at(tokens, i);
-    let p = value(source, t.token, out, at);
+    let p = value(source, t, out, at);
     place(t, out, p)
 }
 
@@ -71,10 +70,10 @@ fn literal(source: &[u8], t: Token, out: &mut [u8], at: usize) -> usize {
 
 // An address and its port, which is two tokens later.
 fn sock4(source: &[u8], tokens: &[u64], i: usize, out: &mut [u8], at: usize) -> usize {
-    let p = value(source, token::row_at(tokens, i).token, out, at);
+    let p = value(source, token::row_at(tokens, i), out, at);
     let q = output::byte(out, p, b':');
     if i < tokens.len() / TokenRow::WORDS {
-        return token::show_value(source, token::row_at(tokens, i + 2).token, out, q);
+        return token::show_value(source, token::row_at(tokens, i + 2), out, q);
     }
     q
 }
@@ -114,9 +113,9 @@ fn contents(
 ) -> usize {
     let kind = n.kind;
     match kind {
-        NodeKind::LITERAL => literal(source, token::row_at(tokens, n.token).token, out, at),
+        NodeKind::LITERAL => literal(source, token::row_at(tokens, n.token), out, at),
         NodeKind::SOCK4 => sock4(source, tokens, n.token, out, at),
-        NodeKind::LOCAL => value(source, token::row_at(tokens, n.token).token, out, at),
+        NodeKind::LOCAL => value(source, token::row_at(tokens, n.token), out, at),
         NodeKind::PATH => names(source, tokens, nodes, i, n, out, at),
         _ => at,
     }

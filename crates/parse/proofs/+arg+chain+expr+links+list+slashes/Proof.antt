@@ -226,7 +226,7 @@ expr-returns-2 t c =
 
 abbrev links-Inv-loop : links-lts.InvT-loop
 links-Inv-loop toks nodes₀ p start count at₀ have₀ more₀ nodes at have more =
-    (start ≤ at) × (7 * at ≤ length toks) × (count ≤ have) × (have + 2 * start ≤ count + 2 * at) × (more ≤ p .steps) × (length nodes ≡ length nodes₀)
+    (start ≤ at) × (tokenWidth * at ≤ length toks) × (count ≤ have) × (have + 2 * start ≤ count + 2 * at) × (more ≤ p .steps) × (length nodes ≡ length nodes₀)
     × AfterExpr toks nodes₀ count (p .first) (λ ts ns e. (f : Expr) × Stands nodes ns f have (p .first)
     × (grammar.links ts (listAt ts (p .lists)) (p .steps) e start ≡ grammar.links ts (listAt ts (p .lists)) more f at))
 
@@ -373,7 +373,7 @@ links-returns-5 t c =
 
 abbrev list-Inv-loop : list-lts.InvT-loop
 list-Inv-loop toks nodes₀ start count left at₀ have₀ first₀ nodes at have first =
-    (start < at) × (7 * at ≤ length toks) × (count ≤ have) × (have + 2 * start + 2 ≤ count + 2 * at) × (first ≤ have) × (length nodes ≡ length nodes₀)
+    (start < at) × (tokenWidth * at ≤ length toks) × (count ≤ have) × (have + 2 * start + 2 ≤ count + 2 * at) × (first ≤ have) × (length nodes ≡ length nodes₀)
     × After toks nodes₀ count (λ ts ns. (g : Args) × (k : ℕ) × Lists nodes ns g have first × (length ts < at + k)
     × (listAt ts left start ≡ argsOf ts (exprAt ts (left - 1)) k g at))
 
@@ -506,7 +506,7 @@ list-returns-5 t c =
 
 abbrev slashes-Inv-loop : slashes-lts.InvT-loop
 slashes-Inv-loop toks nodes₀ p start count at₀ have₀ more₀ nodes at have more =
-    (start ≤ at) × (7 * at ≤ length toks) × (count ≤ have) × (have + 2 * start ≤ count + 2 * at) × (more ≤ p .steps) × (length nodes ≡ length nodes₀)
+    (start ≤ at) × (tokenWidth * at ≤ length toks) × (count ≤ have) × (have + 2 * start ≤ count + 2 * at) × (more ≤ p .steps) × (length nodes ≡ length nodes₀)
     × AfterExpr toks nodes₀ count (p .first) (λ ts ns e. (k : ℕ) → p .steps < k → (f : Expr) × (k′ : ℕ) × Stands nodes ns f have (p .first) × (more < k′)
     × (grammar.slashes ts (chainAt ts (p .lists)) k e start (p .steps) ≡ grammar.slashes ts (chainAt ts (p .lists)) k′ f at more))
 

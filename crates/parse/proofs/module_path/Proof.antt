@@ -3,6 +3,7 @@
 use Prim.Native.Nat.{ℕ, suc, _+_, _-_, _*_, _≤_, _<_}
 use mathlib.Core.Path.{_≡_, refl, _∙_}
 use lib.ListN.{length}
+use Rattle.language.specs.Tables.{tokenWidth}
 use Rattle.language.specs.Sentences.{named′}
 use Rattle.parse.specs.Parsing.{After}
 use Rattle.parse.proofs.Looks.{seen, unseen, inside}
@@ -15,7 +16,7 @@ use Rattle.parse.proofs.module_path.Tie as tie
 
 abbrev Inv-loop : tie.InvT-loop
 Inv-loop toks nodes₀ at count steps next₀ have₀ names₀ nodes next have names =
-    (next ≡ at + 1 + 2 * names) × (have ≡ count + names) × (7 * next ≤ length toks) × (length nodes ≡ length nodes₀)
+    (next ≡ at + 1 + 2 * names) × (have ≡ count + names) × (tokenWidth * next ≤ length toks) × (length nodes ≡ length nodes₀)
     × After toks nodes₀ count (λ ts ns. (k : ℕ) × (length ts < next + k) × (named′ ts at steps ≡ pathFrom ts at k names next steps) × Names nodes ns at names have)
 
 abbrev μ-loop : tie.MeasureT-loop

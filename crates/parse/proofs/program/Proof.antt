@@ -4,6 +4,7 @@ use Prim.Native.Nat.{ℕ, suc, _+_, _-_, _*_, _≤_, _<_}
 use mathlib.Core.Path.{_≡_, refl, _∙_}
 use mathlib.Core.List.{List, [], _∷_, _++_}
 use lib.ListN.{length}
+use Rattle.language.specs.Tables.{tokenWidth}
 use Rattle.language.specs.Tokens.{Content}
 use Rattle.language.specs.Sentences.{Stmt, stmtsFrom, program, nodesFrom}
 use Rattle.parse.specs.Parsing.{Rep, Holds}
@@ -18,7 +19,7 @@ use Rattle.parse.proofs.program.Tie as tie
 
 abbrev Inv-loop : tie.InvT-loop
 Inv-loop toks nodes₀ at₀ have₀ nodes at have =
-    (7 * at ≤ length toks) × (have ≤ 2 * at) × (length nodes ≡ length nodes₀)
+    (tokenWidth * at ≤ length toks) × (have ≤ 2 * at) × (length nodes ≡ length nodes₀)
     × ((ts : List Content) → Rep toks ts → Holds nodes₀ [] → (ss : List Stmt) × (k : ℕ) × (length (nodesFrom 0 ss) ≡ have) × Holds nodes (nodesFrom 0 ss) × (length ts < at + k)
     × (program ts ≡ stmtsFrom ts k ss at))
 
