@@ -16,7 +16,7 @@ use Rattle.language.specs.Tables.{tokenRow, tokenWidth}
 use Rattle.language.specs.Sentences.{Stmt, Node, program, nodeRow}
 use Rattle.language.specs.Judgements as judgements
 use Rattle.language.specs.Judgements.{Diag, Held, Outcome, errorsIn, warningsIn, judgeAll}
-use Rattle.language.specs.Findings.{diagRow, stmtRow}
+use Rattle.language.specs.Findings.{diagRow, diagWidth, stmtRow}
 use Rattle.language.specs.Numbers as numbers
 use Rattle.language.specs.Numbers.{verdict, tokenOf, placed, tokenPlace, parseAnswer, parseTokens, parseNodes, parsedNodes, statementsOf, firstCall, checked, refusedCheck, judgedWithin, checkAnswer, checkTokens, checkNodes, checkDiags, checkStmts}
 use Rattle.rows.specs.declared.verdict.Verdict.{Verdict}
@@ -59,7 +59,7 @@ gave-up s t n d k v e f q g =
       answer = g .answer ∙ rw (e, q);
       tokens = g .tokens ∙ rw (e, f) (sym (tabled-none tokenRow 7 t));
       nodes = g .nodes ∙ rw (e, f) (sym (tabled-none nodeRow 5 n));
-      diags = g .diags ∙ rw (e, f) (sym (tabled-none (diagRow (tokenOf s)) 11 d));
+      diags = g .diags ∙ rw (e, f) (sym (tabled-none (diagRow (tokenOf s)) diagWidth d));
       stmts = g .stmts ∙ rw (e, f) (sym (tabled-none (stmtRow (tokenOf s)) 7 k));
     }
 

@@ -28,19 +28,19 @@ use Rattle.findings.proofs.Texts.{diagnostic-row}
 
 module _ (c : Counts) (w : What) {k s : ℕ} (a : k ≡ kindNumber w) (b : s ≡ severityNumber k) where
   pub one-error : s ≡ 1
-      → record { used = c .used; imported = c .imported; errors = c .errors + 1; warnings = c .warnings; statements = c .statements } ≡ plusFinding c w
+      → record { used = c .used; imported = c .imported; errors = c .errors + 1; warnings = c .warnings; statements = c .statements; number = c .number } ≡ plusFinding c w
   unfolding plusFinding
   one-error h = rw (eq-eqb (severityNumber (kindNumber w)) 1 (sym (b ∙ ap severityNumber a) ∙ h))
 
   pub one-warning : (s ≡ 1 → ⊥)
-      → record { used = c .used; imported = c .imported; errors = c .errors; warnings = c .warnings + 1; statements = c .statements } ≡ plusFinding c w
+      → record { used = c .used; imported = c .imported; errors = c .errors; warnings = c .warnings + 1; statements = c .statements; number = c .number } ≡ plusFinding c w
   unfolding plusFinding
   one-warning h = rw (ne-eqb (severityNumber (kindNumber w)) 1 (λ e. h (b ∙ ap severityNumber a ∙ e)))
 
 -- ---- counts
 
 abbrev counts : Counts → ℕ → ℕ → ℕ → Counts
-counts c e w n = record { used = c .used; imported = c .imported; errors = e; warnings = w; statements = n }
+counts c e w n = record { used = c .used; imported = c .imported; errors = e; warnings = w; statements = n; number = c .number }
 
 added-is : (c : Counts) (ds : List Diag) (hs : List Held) {e w n : ℕ} → e ≡ c .errors + errorsIn ds → w ≡ c .warnings + warningsIn ds
     → n ≡ c .statements + length hs → counts c e w n ≡ added c ds hs
@@ -118,13 +118,13 @@ adds-held s {c} {x = x} {u} h p q =
       stmts = q ∙ one-row (stmtRow (tokenOf s)) u (c .statements) h;
     }
 
--- one finding that was reported
-pub adds-reported : (s : List ℕ) (n at : ℕ) (w : judgements.What) {c c′ : Counts} {x u y : List ℕ} {d : Diagnostic} → d ≡ diagnosticAs s at w
-    → Reports c d x c′ y → Adds s c x u c′ y u (diag n at w ∷ []) []
-adds-reported s n at w {c} {x = x} {u} e r =
+-- one finding of the statement n, which is judged, that was reported
+pub adds-reported : (s : List ℕ) (n at : ℕ) (w : judgements.What) {c c′ : Counts} {x u y : List ℕ} {d : Diagnostic} → n ≡ c .number
+    → d ≡ diagnosticAs s at w → Reports c d x c′ y → Adds s c x u c′ y u (diag n at w ∷ []) []
+adds-reported s n at w {c} {x = x} {u} same e r =
     record {
       counted = r .counted ∙ ap (plusFinding c) (ap (λ (d : Diagnostic). d .what) e ∙ what-at (tokenAs (tokenOf s at)) (whatAs (tokenOf s) w)) ∙ plus-is s c n at w;
-      diags = r .table ∙ ap (putRow x (c .errors + c .warnings)) (ap diagnosticRow e ∙ diagnostic-row s n at w) ∙ one-row (diagRow (tokenOf s)) x (c .errors + c .warnings) (diag n at w);
+      diags = r .table ∙ ap (putRow x (c .errors + c .warnings)) (rw (← same) (ap (diagnosticRow n) e) ∙ diagnostic-row s n at w) ∙ one-row (diagRow (tokenOf s)) x (c .errors + c .warnings) (diag n at w);
       stmts = no-rows (stmtRow (tokenOf s)) u (c .statements);
     }
 
@@ -140,7 +140,7 @@ adds-then {s} {c} {c1} {x = x} {u} {ds = ds} {es} {hs} {gs} a b =
       stmts = b .stmts ∙ rw (a .stmts, m) (more-rows (stmtRow (tokenOf s)) u (c .statements) hs gs);
     }
 
--- what was found is counted, and so is what is held
+-- what was found is counted, and so is what is held; the statement stays the same
 pub adds-count : {s : List ℕ} {c c′ : Counts} {x u y v : List ℕ} {ds : List Diag} {hs : List Held} → Adds s c x u c′ y v ds hs
     → c′ .errors + c′ .warnings ≡ c .errors + c .warnings + length ds
 adds-count {c = c} {ds = ds} {hs = hs} a = rw (a .counted) (found-more c ds hs)
@@ -148,3 +148,7 @@ adds-count {c = c} {ds = ds} {hs = hs} a = rw (a .counted) (found-more c ds hs)
 pub adds-held-count : {s : List ℕ} {c c′ : Counts} {x u y v : List ℕ} {ds : List Diag} {hs : List Held} → Adds s c x u c′ y v ds hs
     → c′ .statements ≡ c .statements + length hs
 adds-held-count {c = c} {ds = ds} {hs = hs} a = rw (a .counted) (held-more c ds hs)
+
+pub adds-number : {s : List ℕ} {c c′ : Counts} {x u y v : List ℕ} {ds : List Diag} {hs : List Held} → Adds s c x u c′ y v ds hs → c′ .number ≡ c .number
+unfolding added
+adds-number a = ap (λ (d : Counts). d .number) (a .counted)

@@ -9,7 +9,7 @@ use Rattle.findings.specs.declared.Read.the-variants.{Is, Nothing}
 use Rattle.findings.specs.Findings.{severityNumber, showsName, placed, typeText, rowOf}
 use Rattle.findings.specs.Reading.{soundType, soundDiagnostic, sameRow, typeIn, guessBy, confirmed, readOf}
 
--- a row at line 7, column 8, by its severity, its kind, its text, its type and its first number
+-- a row at line 7, column 8, of statement 9, by its severity, its kind, its text, its type and its first number
 row : ℕ → ℕ → ℕ → ℕ → ℕ → ℕ → ℕ → DiagnosticRow
 row severity kind text start end type first =
     record {
@@ -24,6 +24,7 @@ row severity kind text start end type first =
       first = first;
       second = 0;
       third = 0;
+      statement = 9;
     }
 
 -- `bench::deep::x`: the module is entry 8

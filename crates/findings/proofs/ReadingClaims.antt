@@ -17,12 +17,12 @@ use Rattle.findings.specs.declared.Diagnostic.{Diagnostic}
 use Rattle.findings.specs.declared.Read.the-variants.{Is, Nothing}
 use Rattle.findings.specs.declared.reading.Guess.{Guess}
 use Rattle.findings.specs.declared.reading.Guess.the-variants as guess-is
-use Rattle.findings.specs.Findings.{severityNumber, showsName, placed, typeText, typedRow, rowOf}
+use Rattle.findings.specs.Findings.{severityNumber, showsName, placed, typeText, typedRow, rowOf, numbered}
 use Rattle.findings.specs.Reading.{isPlain, isType, soundType, soundDiagnostic, sameRow, typeIn, operandIn, truncatedIn, guessBy, guessOf, foundIn, confirmed, readBy, readOf, ReadsBack, ReadsOnly, ReadsNothing}
 
 -- ---- rows word by word
 
-same-rows : (a b : DiagnosticRow) → sameRow a b ≡ true → a ≡ b
+same-rows : (a b : DiagnosticRow) → sameRow a b ≡ true → numbered (b .statement) a ≡ b
 unfolding sameRow
 same-rows a b h =
     let h10 = both _ _ h in
@@ -52,21 +52,21 @@ same-rows a b h =
 eqb-own : (n : ℕ) → eqb n n ≡ true
 eqb-own n = eq-eqb n n refl
 
-own-row : (a : DiagnosticRow) → sameRow a a ≡ true
+own-row : (n : ℕ) (a : DiagnosticRow) → sameRow a (numbered n a) ≡ true
 unfolding sameRow
-own-row a = simp eqb-own
+own-row n a = simp eqb-own
 
 -- ---- a row's finding
 
-confirmed-own : (d : Diagnostic) → soundDiagnostic d ≡ true → confirmed (rowOf d) d ≡ Is d
+confirmed-own : (n : ℕ) (d : Diagnostic) → soundDiagnostic d ≡ true → confirmed (numbered n (rowOf d)) d ≡ Is d
 unfolding confirmed
-confirmed-own d h = rw (h, own-row (rowOf d))
+confirmed-own n d h = rw (h, own-row n (rowOf d))
 
-confirmed-only : (r : DiagnosticRow) (c d : Diagnostic) → confirmed r c ≡ Is d → (rowOf d ≡ r) × (soundDiagnostic d ≡ true)
+confirmed-only : (r : DiagnosticRow) (c d : Diagnostic) → confirmed r c ≡ Is d → (numbered (r .statement) (rowOf d) ≡ r) × (soundDiagnostic d ≡ true)
 unfolding confirmed
 confirmed-only r c d = by (soundDiagnostic c && sameRow (rowOf c) r) refl
   where
-    by : (b : Bool) → soundDiagnostic c && sameRow (rowOf c) r ≡ b → if′ b (Is c) Nothing ≡ Is d → (rowOf d ≡ r) × (soundDiagnostic d ≡ true)
+    by : (b : Bool) → soundDiagnostic c && sameRow (rowOf c) r ≡ b → if′ b (Is c) Nothing ≡ Is d → (numbered (r .statement) (rowOf d) ≡ r) × (soundDiagnostic d ≡ true)
     by true h e =
         let z : c ≡ d = cc in
         let t = both (soundDiagnostic c) (sameRow (rowOf c) r) h in
@@ -77,7 +77,7 @@ pub reads-only : ReadsOnly
 unfolding readOf
 reads-only r d = by (guessOf r)
   where
-    by : (g : Guess) → readBy r g ≡ Is d → (rowOf d ≡ r) × (soundDiagnostic d ≡ true)
+    by : (g : Guess) → readBy r g ≡ Is d → (numbered (r .statement) (rowOf d) ≡ r) × (soundDiagnostic d ≡ true)
     by (guess-is.Is w) e = confirmed-only r (foundIn r w) d e
     by guess-is.Nothing e = never (cc)
 
@@ -92,9 +92,9 @@ entry-own t h = by (eqb (t .kind) 14) refl h
     by true e l = rw e (function-own (t .entry) l)
     by false e l = rw e (sym (eqb-true (t .entry) 0 (both (isPlain (t .kind)) (eqb (t .entry) 0) l .1)))
 
-type-own : (d : Diagnostic) (t : «Type») (a b c : ℕ) → soundType t ≡ true → typeIn (typedRow d t a b c) ≡ t
+type-own : (m : ℕ) (d : Diagnostic) (t : «Type») (a b c : ℕ) → soundType t ≡ true → typeIn (numbered m (typedRow d t a b c)) ≡ t
 unfolding typeIn
-type-own d t a b c h = rw (entry-own t h)
+type-own m d t a b c h = rw (entry-own t h)
 
 abbrev found : ℕ → ℕ → ℕ → ℕ → What → Diagnostic
 found l c a e w = record { line = l; column = c; start = a; end = e; what = w }
@@ -105,53 +105,53 @@ spanless l c a e w h =
     rw (eqb-true a 0 (t .0), eqb-true e 0 (t .1))
 
 -- the row says which finding it was
-record Own (d : Diagnostic) : Type 0 where
-  guess : guessOf (rowOf d) ≡ guess-is.Is (d .what)
-  found : foundIn (rowOf d) (d .what) ≡ d
+record Own (m : ℕ) (d : Diagnostic) : Type 0 where
+  guess : guessOf (numbered m (rowOf d)) ≡ guess-is.Is (d .what)
+  found : foundIn (numbered m (rowOf d)) (d .what) ≡ d
 
 -- a kind that shows a type
-typed-own : (l c a e : ℕ) (f : «Type» → What) (t : «Type») (x y z : ℕ) → let d = found l c a e (f t) in soundType t ≡ true → eqb a 0 && eqb e 0 ≡ true
-    → guessOf (rowOf d) ≡ guess-is.Is (f (typeIn (typedRow d t x y z))) → foundIn (rowOf d) (f t) ≡ found l c 0 0 (f t) → Own d
-typed-own l c a e f t x y z h n g p =
+typed-own : (m l c a e : ℕ) (f : «Type» → What) (t : «Type») (x y z : ℕ) → let d = found l c a e (f t) in soundType t ≡ true → eqb a 0 && eqb e 0 ≡ true
+    → guessOf (numbered m (rowOf d)) ≡ guess-is.Is (f (typeIn (numbered m (typedRow d t x y z)))) → foundIn (numbered m (rowOf d)) (f t) ≡ found l c 0 0 (f t) → Own m d
+typed-own m l c a e f t x y z h n g p =
     record {
-      guess = g ∙ ap (λ (u : «Type»). guess-is.Is (f u)) (type-own (found l c a e (f t)) t x y z h);
+      guess = g ∙ ap (λ (u : «Type»). guess-is.Is (f u)) (type-own m (found l c a e (f t)) t x y z h);
       found = p ∙ spanless l c a e (f t) n;
     }
 
-own : (l c a e : ℕ) (w : What) → soundDiagnostic (found l c a e w) ≡ true → Own (found l c a e w)
+own : (m l c a e : ℕ) (w : What) → soundDiagnostic (found l c a e w) ≡ true → Own m (found l c a e w)
 unfolding soundDiagnostic showsName placed severityNumber rowOf guessBy operandIn truncatedIn
-own l c a e what-is.UnknownName h = record { guess = refl; found = refl }
-own l c a e (what-is.UnknownItem m) h = record { guess = refl; found = refl }
-own l c a e what-is.UnknownModule h = record { guess = refl; found = refl }
-own l c a e what-is.NotImported h = record { guess = refl; found = refl }
-own l c a e what-is.NotAModule h = record { guess = refl; found = refl }
-own l c a e what-is.NotAValue h = record { guess = refl; found = refl }
-own l c a e (what-is.AlreadyBound x y) h = record { guess = refl; found = refl }
-own l c a e what-is.MultipleImports h = record { guess = refl; found = refl }
-own l c a e what-is.IntegralTooLarge h = record { guess = refl; found = spanless l c a e what-is.IntegralTooLarge h }
-own l c a e (what-is.NoMembers t) h =
+own m l c a e what-is.UnknownName h = record { guess = refl; found = refl }
+own m l c a e (what-is.UnknownItem k) h = record { guess = refl; found = refl }
+own m l c a e what-is.UnknownModule h = record { guess = refl; found = refl }
+own m l c a e what-is.NotImported h = record { guess = refl; found = refl }
+own m l c a e what-is.NotAModule h = record { guess = refl; found = refl }
+own m l c a e what-is.NotAValue h = record { guess = refl; found = refl }
+own m l c a e (what-is.AlreadyBound x y) h = record { guess = refl; found = refl }
+own m l c a e what-is.MultipleImports h = record { guess = refl; found = refl }
+own m l c a e what-is.IntegralTooLarge h = record { guess = refl; found = spanless l c a e what-is.IntegralTooLarge h }
+own m l c a e (what-is.NoMembers t) h =
     let p = both (soundType t) (eqb a 0 && eqb e 0) h in
-    typed-own l c a e what-is.NoMembers t 0 0 0 (p .0) (p .1) refl refl
-own l c a e (what-is.DiscardedValue t) h =
+    typed-own m l c a e what-is.NoMembers t 0 0 0 (p .0) (p .1) refl refl
+own m l c a e (what-is.DiscardedValue t) h =
     let p = both (soundType t) (eqb a 0 && eqb e 0) h in
-    typed-own l c a e what-is.DiscardedValue t 0 0 0 (p .0) (p .1) refl refl
-own l c a e (what-is.Truncated n t) h =
+    typed-own m l c a e what-is.DiscardedValue t 0 0 0 (p .0) (p .1) refl refl
+own m l c a e (what-is.Truncated n t) h =
     let p = both (ltb (n .hi) 9223372036854775808 && soundType t) (eqb a 0 && eqb e 0) h in
-    typed-own l c a e (what-is.Truncated n) t (n .lo) (n .hi) 0 (both (ltb (n .hi) 9223372036854775808) (soundType t) (p .0) .1) (p .1) refl refl
-own l c a e (what-is.OperandType side-is.Left k t) h =
+    typed-own m l c a e (what-is.Truncated n) t (n .lo) (n .hi) 0 (both (ltb (n .hi) 9223372036854775808) (soundType t) (p .0) .1) (p .1) refl refl
+own m l c a e (what-is.OperandType side-is.Left k t) h =
     let p = both (isType k && soundType t) (eqb a 0 && eqb e 0) h in
-    typed-own l c a e (what-is.OperandType side-is.Left k) t 1 k 1 (both (isType k) (soundType t) (p .0) .1) (p .1) refl refl
-own l c a e (what-is.OperandType side-is.Right k t) h =
+    typed-own m l c a e (what-is.OperandType side-is.Left k) t 1 k 1 (both (isType k) (soundType t) (p .0) .1) (p .1) refl refl
+own m l c a e (what-is.OperandType side-is.Right k t) h =
     let p = both (isType k && soundType t) (eqb a 0 && eqb e 0) h in
-    typed-own l c a e (what-is.OperandType side-is.Right k) t 2 k 1 (both (isType k) (soundType t) (p .0) .1) (p .1) refl refl
+    typed-own m l c a e (what-is.OperandType side-is.Right k) t 2 k 1 (both (isType k) (soundType t) (p .0) .1) (p .1) refl refl
 
 pub reads-back : ReadsBack
 unfolding readOf
-reads-back d h =
-    let o = own (d .line) (d .column) (d .start) (d .end) (d .what) h in
-    ap (readBy (rowOf d)) (o .guess) ∙ ap (confirmed (rowOf d)) (o .found) ∙ confirmed-own d h
+reads-back m d h =
+    let o = own m (d .line) (d .column) (d .start) (d .end) (d .what) h in
+    ap (readBy (numbered m (rowOf d))) (o .guess) ∙ ap (confirmed (numbered m (rowOf d))) (o .found) ∙ confirmed-own m d h
 
 pub reads-nothing : ReadsNothing
 reads-nothing r d n h e =
-    let b : readOf r ≡ Is d = rw (← e) (reads-back d h) in
+    let b : readOf r ≡ Is d = rw (← e) (reads-back (r .statement) d h) in
     never (cc)

@@ -96,7 +96,7 @@ pub at-token : (s : List ℕ) (at : ℕ) (w : judgements.What) {tok : Token} {wh
     → atToken tok what ≡ diagnosticAs s at w
 at-token s at w p q = rw (p, q)
 
-pub diagnostic-row : (s : List ℕ) (n at : ℕ) (w : judgements.What) → diagnosticRow (diagnosticAs s at w) ≡ diagRow (tokenOf s) (diag n at w)
+pub diagnostic-row : (s : List ℕ) (n at : ℕ) (w : judgements.What) → diagnosticRow n (diagnosticAs s at w) ≡ diagRow (tokenOf s) (diag n at w)
 unfolding rowOf placed showsName severityNumber diagRow
 diagnostic-row s n at unknownName = refl
 diagnostic-row s n at (unknownItem m) = refl

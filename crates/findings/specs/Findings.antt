@@ -117,6 +117,7 @@ shownRow d text ty a b c =
       first = a;
       second = b;
       third = c;
+      statement = 0;
     }
 
 abbrev pub namedRow : Diagnostic → ℕ → ℕ → DiagnosticRow
@@ -147,13 +148,33 @@ rowBy d (what-is.Truncated n t) = typedRow d t (n .lo) (n .hi) 0
 unfoldable pub rowOf : Diagnostic → DiagnosticRow
 rowOf d = rowBy d (d .what)
 
+-- a row with the number of a statement
+abbrev pub numbered : ℕ → DiagnosticRow → DiagnosticRow
+numbered n r =
+    record {
+      line = r .line;
+      column = r .column;
+      severity = r .severity;
+      kind = r .kind;
+      text = r .text;
+      start = r .start;
+      end = r .end;
+      ty = r .ty;
+      first = r .first;
+      second = r .second;
+      third = r .third;
+      statement = n;
+    }
+
 -- the words of a row, in their order
 abbrev pub rowWords : DiagnosticRow → List ℕ
 rowWords r =
-    r .line ∷ r .column ∷ r .severity ∷ r .kind ∷ r .text ∷ r .start ∷ r .end ∷ r .ty ∷ r .first ∷ r .second ∷ r .third ∷ []
+    r .line ∷ r .column ∷ r .severity ∷ r .kind ∷ r .text ∷ r .start ∷ r .end ∷ r .ty ∷ r .first ∷ r .second ∷ r .third ∷ r .statement
+    ∷ []
 
-abbrev pub diagnosticRow : Diagnostic → List ℕ
-diagnosticRow d = rowWords (rowOf d)
+-- of a finding of the statement numbered n
+abbrev pub diagnosticRow : ℕ → Diagnostic → List ℕ
+diagnosticRow n d = rowWords (numbered n (rowOf d))
 
 -- rows stored from the row k on; one that does not fit is lost
 unfoldable pub putRows : {A : Type 0} → (A → List ℕ) → List ℕ → ℕ → List A → List ℕ
@@ -172,6 +193,7 @@ plusFinding c w =
       errors = c .errors + 1;
       warnings = c .warnings;
       statements = c .statements;
+      number = c .number;
     })
     (record {
       used = c .used;
@@ -179,6 +201,7 @@ plusFinding c w =
       errors = c .errors;
       warnings = c .warnings + 1;
       statements = c .statements;
+      number = c .number;
     })
 
 -- the counts after these findings and statements
@@ -190,14 +213,15 @@ added c ds hs =
       errors = c .errors + errorsIn ds;
       warnings = c .warnings + warningsIn ds;
       statements = c .statements + length hs;
+      number = c .number;
     }
 
 -- ---- what is added
 
--- one finding: the counts from c to c′, the table from x to y
+-- one finding of the statement that is judged: the counts from c to c′, the table from x to y
 pub record Reports (c : Counts) (d : Diagnostic) (x : List ℕ) (c′ : Counts) (y : List ℕ) : Type 0 where
   pub counted : c′ ≡ plusFinding c (d .what)
-  pub table : y ≡ putRow x (c .errors + c .warnings) (diagnosticRow d)
+  pub table : y ≡ putRow x (c .errors + c .warnings) (diagnosticRow (c .number) d)
 
 -- what a step adds, from a leaf to the program: its findings and the statements that it holds, to the counts and to the
 -- two tables, of diagnostics from x to y and of statements from u to v

@@ -15,7 +15,7 @@ use Rattle.findings.specs.declared.Read.{Read}
 use Rattle.findings.specs.declared.Read.the-variants.{Is, Nothing}
 use Rattle.findings.specs.declared.reading.Guess.{Guess}
 use Rattle.findings.specs.declared.reading.Guess.the-variants as guess-is
-use Rattle.findings.specs.Findings.{kindNumber, showsName, placed, rowOf}
+use Rattle.findings.specs.Findings.{kindNumber, showsName, placed, rowOf, numbered}
 
 -- ---- which findings rows can show
 
@@ -53,6 +53,7 @@ soundDiagnostic d = soundWhat (d .what) && (showsName (kindNumber (d .what)) || 
 
 -- ---- what a row was
 
+-- the same but for the number of the statement, which can be any
 unfoldable pub sameRow : DiagnosticRow → DiagnosticRow → Bool
 sameRow a b =
     (((((((((eqb (a .line) (b .line) && eqb (a .column) (b .column)) && eqb (a .severity) (b .severity)) && eqb (a .kind) (b .kind))
@@ -108,13 +109,15 @@ readOf r = readBy r (guessOf r)
 
 -- ---- the claims
 
--- the row of a finding that rows can show is read as it
+-- the row of a finding that rows can show is read as it, whatever the number of its statement
 abbrev pub ReadsBack : Type 0
-ReadsBack = (d : Diagnostic) → soundDiagnostic d ≡ true → readOf (rowOf d) ≡ Is d
+ReadsBack = (n : ℕ) (d : Diagnostic) → soundDiagnostic d ≡ true → readOf (numbered n (rowOf d)) ≡ Is d
 
 -- what is read has that row, and rows can show it: so what is read as nothing is the row of none
 abbrev pub ReadsOnly : Type 0
-ReadsOnly = (r : DiagnosticRow) (d : Diagnostic) → readOf r ≡ Is d → (rowOf d ≡ r) × (soundDiagnostic d ≡ true)
+ReadsOnly =
+    (r : DiagnosticRow) (d : Diagnostic) → readOf r ≡ Is d → (numbered (r .statement) (rowOf d) ≡ r) × (soundDiagnostic d ≡ true)
 
 abbrev pub ReadsNothing : Type 0
-ReadsNothing = (r : DiagnosticRow) (d : Diagnostic) → readOf r ≡ Nothing → soundDiagnostic d ≡ true → rowOf d ≡ r → ⊥
+ReadsNothing =
+    (r : DiagnosticRow) (d : Diagnostic) → readOf r ≡ Nothing → soundDiagnostic d ≡ true → numbered (r .statement) (rowOf d) ≡ r → ⊥

@@ -138,13 +138,15 @@ pub enum Read {
     Nothing,
 }
 
-// How many names are bound and imported, how many errors and warnings there are, and how many statements are held.
+// How many names are bound and imported, how many errors and warnings there are, how many statements are held, and the number of
+// the statement that is judged: 1 for the first, 0 before it.
 pub struct Counts {
     pub used: usize,
     pub imported: usize,
     pub errors: usize,
     pub warnings: usize,
     pub statements: usize,
+    pub number: u64,
 }
 
 // The severity of a kind.
@@ -232,6 +234,7 @@ fn shown(d: Diagnostic, text: Text, ty: u64, first: u64, second: u64, third: u64
         first,
         second,
         third,
+        statement: 0,
     }
 }
 
@@ -266,6 +269,7 @@ fn bare(d: Diagnostic) -> DiagnosticRow
     shown(d, text, Ty::NONE, 0, 0, 0)
 }
 
+// A finding's row but for the number of its statement, which is 0 here.
 pub fn row_of(d: Diagnostic) -> DiagnosticRow
     ensures { λ r. ⌜ r ≡ rowOf d ⌝ }
 {
@@ -301,7 +305,7 @@ fn counted(counts: Counts, what: What) -> Counts
     }
 }
 
-// Counts a finding and stores its row, where the table has room for it.
+// Counts a finding of the statement that is judged and stores its row, where the table has room for it.
 pub fn report(diags: &mut [u64], counts: Counts, d: Diagnostic) -> Counts
     requires { ⌜ counts .errors + counts .warnings < 4294967296 ⌝ }
     ensures { λ r. ⌜ Reports counts d (now (diags .entry)) r (now (diags .exit)) ⌝ }
@@ -319,6 +323,7 @@ pub fn report(diags: &mut [u64], counts: Counts, d: Diagnostic) -> Counts
         row.first,
         row.second,
         row.third,
+        counts.number,
     ];
     table::put_row(diags, counts.errors + counts.warnings, &words);
     let what = d.what;

@@ -78,6 +78,7 @@ fn is_sound(d: Diagnostic) -> bool
 
 // ---- what a row was
 
+// The same row, but for the number of the statement, which can be any.
 fn same_row(a: DiagnosticRow, b: DiagnosticRow) -> bool
     ensures { λ r. ⌜ r ≡ sameRow a b ⌝ }
 {

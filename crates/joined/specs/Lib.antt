@@ -2,3 +2,4 @@ pub mod Determined
 pub mod Canonical
 pub mod Exactly
 pub mod Left
+pub mod Numbered

@@ -30,7 +30,7 @@ use Rattle.findings.specs.declared.Side.the-variants.{Left, Right}
 use Rattle.findings.specs.declared.What.the-variants.{Truncated}
 use Rattle.findings.specs.Findings.{atToken, added, Reports}
 use Rattle.findings.proofs.Texts.{at-token}
-use Rattle.findings.proofs.Adds.{adds-none, adds-then, adds-reported, adds-count}
+use Rattle.findings.proofs.Adds.{adds-none, adds-then, adds-reported, adds-count, adds-number}
 use Rattle.values.specs.declared.Value.{Value}
 use Rattle.values.specs.declared.Judged.{Judged}
 use Rattle.values.specs.declared.Judged.the-variants.{Val, Err, Poisoned}
@@ -200,7 +200,7 @@ pub not-integer : (s : List ℕ) (ip t : ℕ) {r : Judgement} {v : Value} {c : C
     → Operand s t v Right 4 c r → Narrows s ip t v c x r x
 not-integer s ip t h o =
     record {
-      is = λ n u e.
+      is = λ n u num e.
           let z = integer-not u (sym (ap (λ (w : Value). isIntegral (w .kind)) e) ∙ h) in
           rw (right-none (contents (tokens.tokens s)) n ip t u z)
           (give (err t (operandType right (tyInt u16) (typeOf u))) (o .is u right (tyInt u16) e refl refl) (o .counted));
@@ -220,7 +220,7 @@ module _ (s : List ℕ) (ip t : ℕ) (v : Value) (h : isIntegral (v .kind) ≡ t
       → r .counts ≡ c → Narrows s ip t v c x r x
   narrows-same b q k =
       record {
-        is = λ n u e.
+        is = λ n u num e.
             rw (right-some (contents (tokens.tokens s)) n ip t u (integer-of v h u e), ← b) (give (val (values.isSock4 ip (low16 (total v)))) (q ∙ port-is) k);
       }
 
@@ -228,8 +228,8 @@ module _ (s : List ℕ) (ip t : ℕ) (v : Value) (h : isIntegral (v .kind) ≡ t
       → Cuts s t (record { hi = v .hi; lo = v .lo }) c x (r .counts) y → Narrows s ip t v c x r y
   narrows-cut b q k =
       record {
-        is = λ n u e.
-            rw (right-some (contents (tokens.tokens s)) n ip t u (integer-of v h u e), ← b) (record { out = q ∙ port-is; adds = λ w. k .adds n w });
+        is = λ n u num e.
+            rw (right-some (contents (tokens.tokens s)) n ip t u (integer-of v h u e), ← b) (record { out = q ∙ port-is; adds = λ w. k .adds n w num });
       }
 
 -- the words of a number that is two words
@@ -241,13 +241,13 @@ words-of n l =
 
 module _ (s : List ℕ) (ip t : ℕ) {l : Judgement} {y : List ℕ} where
   pub integral-goes : {v : Value} {r : Judgement} {z : List ℕ} → l .out ≡ Val v → Narrows s ip t v (l .counts) y r z → Integral s ip t l y r z
-  integral-goes e h = record { on = λ n x c j a. goes j _ a e (λ u w. h .is n u w) }
+  integral-goes e h = record { on = λ n x c j num a. goes j _ a e (λ u w. h .is n u num w) }
 
   pub integral-err : {f : Diagnostic} → l .out ≡ Err f → Integral s ip t l y l y
-  integral-err e = record { on = λ n x c j a. stop-err j _ a e }
+  integral-err e = record { on = λ n x c j num a. stop-err j _ a e }
 
   pub integral-none : l .out ≡ Poisoned → Integral s ip t l y l y
-  integral-none e = record { on = λ n x c j a. stop-none j _ a e }
+  integral-none e = record { on = λ n x c j num a. stop-none j _ a e }
 
 -- ---- how many warnings
 
@@ -340,6 +340,10 @@ module _ {s : List ℕ} {L : Judgement} {x y : List ℕ} {c : Counts} {j : judge
   unfolding added
   same-statements = ap (λ (a : Counts). a .statements) (l .adds [] .counted) ∙ omega arith
 
+  -- and stays in its statement
+  pub same-number : L .counts .number ≡ c .number
+  same-number = adds-number (l .adds [])
+
   pub findings-after : L .counts .errors + L .counts .warnings ≡ c .errors + c .warnings + length (j .warns)
   findings-after = adds-count (l .adds [])
 
@@ -386,14 +390,14 @@ module _ (s : List ℕ) (n : ℕ) (k : Known) where
         (give (err (firstOf a) (operandType left tyIp4 (typeOf u)))
         (o .is u left tyIp4 g refl refl ∙ ap (λ (f : ℕ). judgedAs s (err f (operandType left tyIp4 (typeOf u)))) q) (o .counted)))
 
-    pub slash-good : {v : Value} {m r : Judgement} {z z′ : List ℕ} {t : ℕ} → l .out ≡ Val v → v .kind ≡ 7 → t ≡ firstOf b → Agrees s m y z (l .counts) (judged b)
+    pub slash-good : {v : Value} {m r : Judgement} {z z′ : List ℕ} {t : ℕ} → n ≡ l .counts .number → l .out ≡ Val v → v .kind ≡ 7 → t ≡ firstOf b → Agrees s m y z (l .counts) (judged b)
         → Integral s (v .lo) t m z r z′ → Agrees s r x z′ c (judged (slash′ a b))
     unfolding judge
-    slash-good {v = v} {r = r} {z′ = z′} e d q g o =
+    slash-good {v = v} {r = r} {z′ = z′} num e d q g o =
         goes (judged a) _ h e (λ u f.
         rw (left-some (contents (tokens.tokens s)) (firstOf a) (λ ip. andThen (judged b) (rightOf (contents (tokens.tokens s)) n ip (firstOf b))) u (ip4-is u (sym (ap (λ (w : Value). w .kind) f) ∙ d)))
         (subst (λ (p : ℕ). Agrees s r y z′ (l .counts) (andThen (judged b) (rightOf (contents (tokens.tokens s)) n p (firstOf b)))) (ap (λ (w : Value). w .lo) f)
-        (subst (λ (p : ℕ). Agrees s r y z′ (l .counts) (andThen (judged b) (rightOf (contents (tokens.tokens s)) n (v .lo) p))) q (o .on n _ _ _ g))))
+        (subst (λ (p : ℕ). Agrees s r y z′ (l .counts) (andThen (judged b) (rightOf (contents (tokens.tokens s)) n (v .lo) p))) q (o .on n _ _ _ (num ∙ sym (same-number g)) g))))
 
     pub slash-err : {f : Diagnostic} → l .out ≡ Err f → Agrees s l x y c (judged (slash′ a b))
     unfolding judge
@@ -457,4 +461,4 @@ pub cuts : (s : List ℕ) (t : ℕ) (n : Wide) {tok : Token} {d : Diagnostic} {c
 cuts s t n l e q r =
     let w : judgements.What = truncated (n .hi * tables.wordLimit + n .lo) (tyInt u16) in
     let k = ap (λ (m : Wide). Truncated m (record { kind = 4; entry = 0 })) (words-of n l) in
-    record { adds = λ m u. adds-reported s m t w (q ∙ at-token s t w e k) r }
+    record { adds = λ m u num. adds-reported s m t w num (q ∙ at-token s t w e k) r }

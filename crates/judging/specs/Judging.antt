@@ -103,13 +103,13 @@ pub record Operand (s : List ℕ) (t : ℕ) (v : Value) (side : Side) (wanted : 
 
 -- an integer that was cut
 pub record Cuts (s : List ℕ) (t : ℕ) (n : Wide) (c : Counts) (x : List ℕ) (c′ : Counts) (y : List ℕ) : Type 0 where
-  pub adds : (m : ℕ) (u : List ℕ) → Adds s c x u c′ y u (diag m t (truncated (valueOf n) (tyInt u16)) ∷ []) []
+  pub adds : (m : ℕ) (u : List ℕ) → m ≡ c .number → Adds s c x u c′ y u (diag m t (truncated (valueOf n) (tyInt u16)) ∷ []) []
 
 pub record Narrows (s : List ℕ) (ip t : ℕ) (v : Value) (c : Counts) (x : List ℕ) (r : Judgement) (y : List ℕ) : Type 0 where
-  pub is : (n : ℕ) (u : values.Value) → v ≡ valueAs u → Agrees s r x y c (rightOf (contents (tokens.tokens s)) n ip t u)
+  pub is : (n : ℕ) (u : values.Value) → n ≡ c .number → v ≡ valueAs u → Agrees s r x y c (rightOf (contents (tokens.tokens s)) n ip t u)
 
 pub record Integral (s : List ℕ) (ip t : ℕ) (l : Judgement) (y : List ℕ) (r : Judgement) (z : List ℕ) : Type 0 where
-  pub on : (n : ℕ) (x : List ℕ) (c : Counts) (j : judgements.Judgement) → Agrees s l x y c j
+  pub on : (n : ℕ) (x : List ℕ) (c : Counts) (j : judgements.Judgement) → n ≡ l .counts .number → Agrees s l x y c j
       → Agrees s r x z c (andThen j (rightOf (contents (tokens.tokens s)) n ip t))
 
 -- ---- trees: rows of the node table

@@ -236,7 +236,7 @@ fn slash(
 ) -> Judgement
     requires { ⌜ Ready (now source) (now toks) (now bindings) (now imports) (left .counts) ⌝ }
     requires { ⌜ SlashFits (now nodes) i (left .counts .errors + left .counts .warnings) ⌝ }
-    ensures { λ r. ⌜ ((n : ℕ) (k : Known) (a b : Expr) (x : List ℕ) (c : Counts) → Knows (now (source .entry)) (now (bindings .entry)) (now (imports .entry)) (left .counts) k
+    ensures { λ r. ⌜ ((n : ℕ) (k : Known) (a b : Expr) (x : List ℕ) (c : Counts) → n ≡ left .counts .number → Knows (now (source .entry)) (now (bindings .entry)) (now (imports .entry)) (left .counts) k
         → RepAt (now (nodes .entry)) i (slash′ a b)
         → Agrees (now (source .entry)) left x (now (diags .entry)) c (judge (contents (tokens (now (source .entry)))) n k a)
         → Agrees (now (source .entry)) r x (now (diags .exit)) c (judge (contents (tokens (now (source .entry)))) n k (slash′ a b))) ⌝ }
@@ -283,7 +283,7 @@ pub fn judge(
 ) -> Judgement
     requires { ⌜ Ready (now source) (now toks) (now bindings) (now imports) counts ⌝ }
     requires { ⌜ Fits (now nodes) i (counts .errors + counts .warnings) ⌝ }
-    ensures { λ r. ⌜ ((n : ℕ) (k : Known) (e : Expr) → Knows (now (source .entry)) (now (bindings .entry)) (now (imports .entry)) counts k
+    ensures { λ r. ⌜ ((n : ℕ) (k : Known) (e : Expr) → n ≡ counts .number → Knows (now (source .entry)) (now (bindings .entry)) (now (imports .entry)) counts k
         → RepAt (now (nodes .entry)) i e
         → Agrees (now (source .entry)) r (now (diags .entry)) (now (diags .exit)) counts (judge (contents (tokens (now (source .entry)))) n k e)) ⌝ }
 {

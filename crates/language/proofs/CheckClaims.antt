@@ -13,10 +13,10 @@ use Rattle.language.specs.Tables.{tokenWidth}
 use Rattle.language.specs.Sentences.{is, program, nodeWidth}
 use Rattle.language.specs.Values.{isString, Ty, tyBool, tyInt, tyIp4, tySock4, tyBytes, tyFunction, tyInteger}
 use Rattle.language.specs.Judgements.{What, unknownName, unknownItem, unknownModule, notImported, notAModule, notAValue, alreadyBound, noMembers, operandType, integralTooLarge, multipleImports, discardedValue, truncated, Diag, errorsIn, Held, Outcome, judged, refused, judgeAll, nameAt}
-use Rattle.language.specs.Findings.{tyText, whatKind, Detail, named, detail, stmtRow, stmtWidth}
+use Rattle.language.specs.Findings.{tyText, whatKind, Detail, named, detail, diagRow, stmtRow, stmtWidth}
 use Rattle.language.specs.Canonical.{text, Lexes}
 use Rattle.language.specs.Numbers.{Verdict, placed, Parsed, tokenPlace, parseAnswer, SameVerdict, SameParse, Checked, refusedCheck, firstCall, parsedNodes, statementsOf, checked, checkedWithin, judgedWithin, checkAnswer, tokenOf, checkNodes, checkDiags, checkStmts}
-use Rattle.language.specs.Checks.{TokenShown, SameCheck, SameDetail, SameHeld, bodiesAt, CheckedByContents, TextChecked}
+use Rattle.language.specs.Checks.{TokenShown, SameCheck, SameDetail, SameFinding, SameHeld, bodiesAt, CheckedByContents, TextChecked}
 use Rattle.language.proofs.Tests.{each-side, both-sides}
 use Rattle.language.proofs.Canonical.{round-trip}
 use Rattle.language.proofs.ParseClaims.{same-nowhere, same-token, parsed-by-contents}
@@ -168,20 +168,25 @@ module _ (s u : List ℕ) where
         → SameDetail s u w (named w (tokenOf s at) a b) (named w (tokenOf u at) a b)
     shows at w a b h = same-named (tokenOf s at) (tokenOf u at) (same-name at h) w a b
 
-    same-finding : (at : ℕ) (w : What) → Shown cs w at → SameDetail s u w (detail (tokenOf s) at w) (detail (tokenOf u) at w)
-    same-finding at unknownName h = shows at unknownName 0 0 h (omega arith)
-    same-finding at (unknownItem m) h = shows at (unknownItem m) m 0 (h .0) (omega arith)
-    same-finding at unknownModule h = shows at unknownModule 0 0 h (omega arith)
-    same-finding at notImported h = shows at notImported 0 0 h (omega arith)
-    same-finding at notAModule h = shows at notAModule 0 0 h (omega arith)
-    same-finding at notAValue h = shows at notAValue 0 0 h (omega arith)
-    same-finding at multipleImports h = shows at multipleImports 0 0 h (omega arith)
-    same-finding at (alreadyBound t) h = same-bound (tokenOf s at) (tokenOf u at) (same-name at (h .0)) t
-    same-finding at (noMembers t) h = same-detail _ _ (no-source t) (omega arith)
-    same-finding at (operandType x t f) h = same-detail _ _ (no-source f) (omega arith)
-    same-finding at (discardedValue t) h = same-detail _ _ (no-source t) (omega arith)
-    same-finding at (truncated n t) h = same-detail _ _ (no-source t) (omega arith)
-    same-finding at integralTooLarge h = same-detail _ _ (omega arith) (omega arith)
+    same-what : (at : ℕ) (w : What) → Shown cs w at → SameDetail s u w (detail (tokenOf s) at w) (detail (tokenOf u) at w)
+    same-what at unknownName h = shows at unknownName 0 0 h (omega arith)
+    same-what at (unknownItem m) h = shows at (unknownItem m) m 0 (h .0) (omega arith)
+    same-what at unknownModule h = shows at unknownModule 0 0 h (omega arith)
+    same-what at notImported h = shows at notImported 0 0 h (omega arith)
+    same-what at notAModule h = shows at notAModule 0 0 h (omega arith)
+    same-what at notAValue h = shows at notAValue 0 0 h (omega arith)
+    same-what at multipleImports h = shows at multipleImports 0 0 h (omega arith)
+    same-what at (alreadyBound t) h = same-bound (tokenOf s at) (tokenOf u at) (same-name at (h .0)) t
+    same-what at (noMembers t) h = same-detail _ _ (no-source t) (omega arith)
+    same-what at (operandType x t f) h = same-detail _ _ (no-source f) (omega arith)
+    same-what at (discardedValue t) h = same-detail _ _ (no-source t) (omega arith)
+    same-what at (truncated n t) h = same-detail _ _ (no-source t) (omega arith)
+    same-what at integralTooLarge h = same-detail _ _ (omega arith) (omega arith)
+
+    -- a finding has its statement's number in both
+    same-finding : (d : Diag) → Shown cs (d .what) (d .at) → SameFinding s u d
+    unfolding diagRow
+    same-finding d h = record { detail = same-what (d .at) (d .what) h; statement = refl }
 
     -- ---- statements
 
@@ -204,8 +209,8 @@ checked-by-contents s u h l e =
       outcome = rw e;
       diags = λ t n k m. (refl, rw (same-number s u h l e t n k, e));
       stmts = λ t n k. (refl, rw (same-number s u h l e t n k, e));
-      finding = λ d m. same-finding s u e (d .at) (d .what) (g .found .holds d m .0);
-      statement = λ d m. same-held s u e d (g .kept .holds d m .0);
+      finding = λ d m. same-finding s u e d (g .found .holds d m .shown);
+      statement = λ d m. same-held s u e d (g .kept .holds d m .right);
     }
 
 pub text-checked : TextChecked

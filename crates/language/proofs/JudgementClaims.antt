@@ -13,7 +13,7 @@ use Rattle.language.specs.Tokens.{Content}
 use Rattle.language.specs.Tables.{bit}
 use Rattle.language.specs.Sentences.{Expr, literal, sock4, local, path, member, call, slash′, Stmt, import′, let′, expr′, firstOf}
 use Rattle.language.specs.Values.{Value, isInteger, isBool, isSized, isIp4, isSock4, isString, isText, isFunction, tyInt, lookup}
-use Rattle.language.specs.Judgements.{truncated, Diag, diag, isError, errorsIn, warningsIn, Judged, val, err, poisoned, Judgement, andThen, goesOn, Known, known, Import, Binding, Held, Turn, goes, refuses, Outcome, judged, refused, find, findImport, mostImports, mostNames, nameAt, leftOf, rightOf, cut, narrowed, judge, imported, importStmt, bound, letStmt, discarded, told, stmt, onward, run, OneError, StatementsFew, AllCounted, BoundFirst}
+use Rattle.language.specs.Judgements.{truncated, Diag, diag, isError, errorsIn, warningsIn, Judged, val, err, poisoned, Judgement, andThen, goesOn, Known, known, Import, Binding, Held, Turn, goes, refuses, Outcome, judged, refused, find, findImport, mostImports, mostNames, nameAt, leftOf, rightOf, cut, narrowed, judge, imported, importStmt, bound, letStmt, discarded, told, stmt, onward, run, judgeAll, OneError, StatementsFew, AllCounted, BoundFirst}
 use Rattle.language.proofs.Tests.{each-side}
 
 pub all-counted : AllCounted
@@ -198,14 +198,13 @@ module _ (ts : List Content) where
   unfolding run Fewer
   run-fewer [] n k ds hs = omega arith
   run-fewer (s ∷ ss) n k ds hs =
-      onward-fewer (length ss) (stmt ts n k s) ds hs (λ k′ es gs. run ts ss (suc n) k′ es gs) (few ts n k s)
-      (λ k′ es gs. run-fewer ss (suc n) k′ es gs)
+      onward-fewer (length ss) (stmt ts n k s) ds hs _ (few ts n k s) (λ k′ es gs. run-fewer ss _ k′ es gs)
 
 pub statements-few : StatementsFew
 unfolding Fewer
 statements-few ts ss ds hs e =
     let l : 0 + length ss ≤ length ss = omega arith in
-    subst (Fewer (length ss)) e (at-most (0 + length ss) (length ss) (run ts ss 1 (known [] []) [] []) l (run-fewer ts ss 1 (known [] []) [] []))
+    subst (Fewer (length ss)) e (at-most (0 + length ss) (length ss) (judgeAll ts ss) l (run-fewer ts ss _ (known [] []) [] []))
 
 pub bound-first : BoundFirst
 unfolding stmt

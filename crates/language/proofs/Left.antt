@@ -9,8 +9,8 @@ use native.Mathlib.Nat.{add-zero, div-one}
 use native.Mathlib.Omega.{arith}
 use borrow.Author.Tests.{eqb-true, eqb-false, eq-eqb, ne-eqb}
 use lib.Dec.{ltb, eqb}
-use lib.ListN.{length, getD, take, length-take, length-append, List·getD-eq-default}
-use lib.Seq.{take-all, getD-take, getD-append-add}
+use lib.ListN.{length, getD, take, drop, length-take, length-append, List·getD-eq-default}
+use lib.Seq.{length-take-le, take-all, split-at, getD-take, getD-append-add}
 use Rattle.table.specs.Table.{padTo, flat, tabled}
 use Rattle.table.proofs.Laws.{length-tabled, tabled-none, tabled-word, tabled-past, pad-word}
 use Rattle.language.specs.Choice.{if′}
@@ -35,6 +35,14 @@ use Rattle.language.proofs.SentenceRefusals.{refused-number}
 -- a count that is zero on refusal and else m
 abbrev pub Counts : ℕ → ℕ → ℕ → Type 0
 Counts number count m = ((number ≡ 0 → ⊥) → count ≡ 0) × (number ≡ 0 → count ≡ m)
+
+-- where something is counted nothing is refused
+counted-done : {number count m : ℕ} → Counts number count m → (count ≡ 0 → ⊥) → number ≡ 0
+counted-done {number} c h = by (eqb number 0) refl
+  where
+    by : (b : Bool) → eqb number 0 ≡ b → number ≡ 0
+    by true e = eqb-true number 0 e
+    by false e = absurd (h (c .0 (eqb-false number 0 e)))
 
 -- ---- one table
 
@@ -81,6 +89,16 @@ module _ {A : Type 0} (row : A → List ℕ) (width : ℕ) (each : (x : A) → l
               past = λ i j h. rw f (rows-past row width each n xs i j h);
             };
       }
+
+-- a row that is counted, and that fits, is the one at its place in the list
+pub counted-row : {A : Type 0} {row : A → List ℕ} {width n : ℕ} {xs : List A} {number count : ℕ} {t : List ℕ}
+    → Leaves row width n xs number count t → (i : ℕ) → i < count → i < n / width → (z : A)
+    → (i < length xs) × ((j : ℕ) → j < width → getD t (width * i + j) 0 ≡ getD (row (getD xs i z)) j 0)
+counted-row {xs = xs} c i h l z =
+    let done = counted-done (λ z. c .refused z .0, c .counted) (λ q. omega (arith, q)) in
+    let inside : i < length xs = omega (arith, c .counted done) in
+    let long : length (take i xs) ≡ i = length-take-le i xs (omega arith) in
+    (inside, λ j m. rw long at (c .rows done .word (take i xs) (drop (suc i) xs) (getD xs i z) (split-at xs i z inside) (rw long l) j m))
 
 -- ---- the counts of answers
 
@@ -164,7 +182,7 @@ module _ (s : List ℕ) where
 
 -- errors and warnings, by the severities of their rows
 module _ (s : List ℕ) where
-  row-severity : (at : ℕ) (w : What) → detail (tokenOf s) at w .severity ≡ severityOf w
+  pub row-severity : (at : ℕ) (w : What) → detail (tokenOf s) at w .severity ≡ severityOf w
   row-severity at unknownName = refl
   row-severity at (unknownItem m) = refl
   row-severity at unknownModule = refl
@@ -301,14 +319,6 @@ canon-left s t n =
     let c = canon-counts s (t / tokenWidth) n in
     record { tokens = leaves tokenRow tokenWidth row-width refl (c .0); text = leaves byteRow 1 (λ _. refl) (text-table n _) (c .1) }
 
--- of check, where no error was counted, or one was
-counted-done : {number count m : ℕ} → Counts number count m → (count ≡ 0 → ⊥) → number ≡ 0
-counted-done {number} c h = by (eqb number 0) refl
-  where
-    by : (b : Bool) → eqb number 0 ≡ b → number ≡ 0
-    by true e = eqb-true number 0 e
-    by false e = absurd (h (c .0 (eqb-false number 0 e)))
-
 module _ (s : List ℕ) where
   diag-long : (d : Diag) → length (diagRow (tokenOf s) d) ≡ diagWidth
   unfolding diagRow
@@ -318,6 +328,7 @@ module _ (s : List ℕ) where
   unfolding stmtRow
   stmt-long h = refl
 
+-- of check, where no error was counted, or one was
 module _ {A : Type 0} (xs : List A) (errors : ℕ) where
   clean : (number : ℕ) → (number ≡ 0 → errors ≡ 0) → if′ (eqb number 0) (if′ (eqb errors 0) xs []) [] ≡ if′ (eqb number 0) xs []
   clean number h = both-sides (λ a b. a ≡ b) (eqb number 0) (λ e. rw (eq-eqb errors 0 (h (eqb-true number 0 e)))) (λ _. refl)

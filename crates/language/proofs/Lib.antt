@@ -45,6 +45,7 @@ pub mod GrammarPlaces
 pub mod SentenceUnfolds
 pub mod GrammarMet
 pub mod GrammarRows
+pub mod StatementEnds
 pub mod Sound
 pub mod TokenTexts
 pub mod NodeClaims
@@ -75,5 +76,6 @@ pub mod CheckClaims
 pub mod ShownNames
 pub mod PlacesInside
 pub mod Left
+pub mod Numbered
 pub mod Told
 pub mod TokensApart

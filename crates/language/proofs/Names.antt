@@ -1,5 +1,5 @@
 -- Statements are refused at a name exactly when it is the first that is one too many.
-use Prim.Native.Nat.{ℕ, suc, _<_}
+use Prim.Native.Nat.{ℕ, _<_}
 use mathlib.Core.Path.{_≡_, refl, sym, ap, _∙_}
 use mathlib.Core.Bool.{Bool, true, false, _||_}
 use mathlib.Core.List.{List, [], _∷_, _++_, map, append-assoc, append-nil}
@@ -13,7 +13,7 @@ use Rattle.language.specs.Lexemes.{same}
 use Rattle.language.specs.Tokens.{Content}
 use Rattle.language.specs.Sentences.{Expr, Stmt, import′, let′, expr′, firstOf}
 use Rattle.language.specs.Values.{Value, lookup}
-use Rattle.language.specs.Judgements.{Diag, Judged, val, err, poisoned, Known, known, Import, Binding, Held, Turn, goes, refuses, refused, namesNumber, firstNamed, find, findImport, mostImports, mostNames, nameAt, narrowed, judge, imported, importStmt, bind, bound, letStmt, discarded, told, stmt, onward, run}
+use Rattle.language.specs.Judgements.{Diag, Judged, val, err, poisoned, Known, known, Import, Binding, Held, Turn, goes, refuses, Outcome, refused, namesNumber, firstNamed, find, findImport, mostImports, mostNames, nameAt, narrowed, judge, imported, importStmt, bind, bound, letStmt, discarded, told, stmt, onward, run}
 use Rattle.language.specs.Names.{letNames, importNames, TooMany, NamesRefused}
 use Rattle.language.proofs.Tests.{never, by-cases}
 use Rattle.language.proofs.DistinctNames.{among, Kept, none-kept, repeated, added, filled}
@@ -227,17 +227,17 @@ module _ (ts : List Content) where
   unfolding run After
   refused-reached [] us n k ds hs h e = never (cc)
   refused-reached {m} {t} (s ∷ ss) us n k ds hs h e =
-      by (stmt ts n k s) (stmt-after us k h n s) e (λ k′ es gs. refused-reached ss (us ++ s ∷ []) (suc n) k′ es gs)
+      by (stmt ts n k s) _ (stmt-after us k h n s) e (λ k′ es gs. refused-reached ss (us ++ s ∷ []) _ k′ es gs)
     where
-      by : (o : Turn) → After us s o → onward ts o ds hs (λ k′ es gs. run ts ss (suc n) k′ es gs) ≡ refused m t
-          → ((k′ : Known) (es : List Diag) (gs : List Held) → Knows (us ++ s ∷ []) k′ → run ts ss (suc n) k′ es gs ≡ refused m t
+      by : (o : Turn) (on : Known → List Diag → List Held → Outcome) → After us s o → onward ts o ds hs on ≡ refused m t
+          → ((k′ : Known) (es : List Diag) (gs : List Held) → Knows (us ++ s ∷ []) k′ → on k′ es gs ≡ refused m t
           → (m ≡ namesNumber) × Reached (us ++ s ∷ []) ss t)
           → (m ≡ namesNumber) × Reached us (s ∷ ss) t
-      by (refuses v u) a f rest =
+      by (refuses v u) on a f rest =
           let p : v ≡ m = cc in
           let q : u ≡ t = cc in
           (sym p ∙ a .0, reached-here us s ss (rw q at (a .1)))
-      by (goes k′ es gs) a f rest =
+      by (goes k′ es gs) on a f rest =
           let r = rest k′ (ds ++ es) (hs ++ gs) (a .0) f in
           (r .0, reached-later us s ss (a .1) (r .1))
 
@@ -251,21 +251,22 @@ module _ (ts : List Content) where
   reached-refused : {t : ℕ} (bs us : List Stmt) (s : Stmt) (ss : List Stmt) (n : ℕ) (k : Known) (ds : List Diag) (hs : List Held)
       → Knows us k → Clear us bs → TooMany ts (us ++ bs) s t → run ts (bs ++ s ∷ ss) n k ds hs ≡ refused namesNumber t
   unfolding run After
-  reached-refused {t} [] us s ss n k ds hs h c m = by (stmt ts n k s) (stmt-after us k h n s) (rw append-nil at m)
+  reached-refused {t} [] us s ss n k ds hs h c m = by (stmt ts n k s) _ (stmt-after us k h n s) (rw append-nil at m)
     where
-      by : (o : Turn) → After us s o → TooMany ts us s t → onward ts o ds hs (λ k′ es gs. run ts ss (suc n) k′ es gs) ≡ refused namesNumber t
-      by (refuses v u) a x = rw (a .0, one-token us s (a .1) x)
-      by (goes k′ es gs) a x = absurd (a .1 t x)
+      by : (o : Turn) (on : Known → List Diag → List Held → Outcome) → After us s o → TooMany ts us s t
+          → onward ts o ds hs on ≡ refused namesNumber t
+      by (refuses v u) on a x = rw (a .0, one-token us s (a .1) x)
+      by (goes k′ es gs) on a x = absurd (a .1 t x)
   reached-refused {t} (b ∷ bs) us s ss n k ds hs h c m =
       let l = clear-less us b bs c in
-      by (stmt ts n k b) (stmt-after us k h n b) (l .0)
-      (λ k′ es gs i. reached-refused bs (us ++ b ∷ []) s ss (suc n) k′ es gs i (l .1) (rw append-assoc m))
+      by (stmt ts n k b) _ (stmt-after us k h n b) (l .0)
+      (λ k′ es gs i. reached-refused bs (us ++ b ∷ []) s ss _ k′ es gs i (l .1) (rw append-assoc m))
     where
-      by : (o : Turn) → After us b o → ((u : ℕ) → ¬ TooMany ts us b u)
-          → ((k′ : Known) (es : List Diag) (gs : List Held) → Knows (us ++ b ∷ []) k′ → run ts (bs ++ s ∷ ss) (suc n) k′ es gs ≡ refused namesNumber t)
-          → onward ts o ds hs (λ k′ es gs. run ts (bs ++ s ∷ ss) (suc n) k′ es gs) ≡ refused namesNumber t
-      by (refuses v u) a x rest = absurd (x u (a .1))
-      by (goes k′ es gs) a x rest = rest k′ (ds ++ es) (hs ++ gs) (a .0)
+      by : (o : Turn) (on : Known → List Diag → List Held → Outcome) → After us b o → ((u : ℕ) → ¬ TooMany ts us b u)
+          → ((k′ : Known) (es : List Diag) (gs : List Held) → Knows (us ++ b ∷ []) k′ → on k′ es gs ≡ refused namesNumber t)
+          → onward ts o ds hs on ≡ refused namesNumber t
+      by (refuses v u) on a x rest = absurd (x u (a .1))
+      by (goes k′ es gs) on a x rest = rest k′ (ds ++ es) (hs ++ gs) (a .0)
 
   none-known : Knows [] (known [] [])
   unfolding letNames importNames
@@ -273,10 +274,10 @@ module _ (ts : List Content) where
 
 pub names-refused : NamesRefused
 names-refused ts ss m t = (
-  λ e. let g = refused-reached ts ss [] 1 (known [] []) [] [] (none-known ts) e in
+  λ e. let g = refused-reached ts ss [] _ (known [] []) [] [] (none-known ts) e in
       let r = g .1 in
       (g .0, record { before = r .before; here = r .here; after = r .after; order = r .order; tooMany = r .tooMany; first = r .first }),
   λ h. let f = h .1 in
       rw (h .0, f .order)
-      (reached-refused ts (f .before) [] (f .here) (f .after) 1 (known [] []) [] [] (none-known ts) (f .first) (f .tooMany)),
+      (reached-refused ts (f .before) [] (f .here) (f .after) _ (known [] []) [] [] (none-known ts) (f .first) (f .tooMany)),
 )

@@ -36,8 +36,8 @@ places-inside s t =
     let cs = contents (tokens s) in
     let g = outcome-grounded cs in
     rw (as-many (tokens s)) (
-      λ d m. let h = g .found .holds d m in (h .1, λ e. bound-there cs t (d .at) (d .what) e (h .0)),
-      λ h m. g .kept .holds h m .1,
+      λ d m. let h = g .found .holds d m in (h .there, λ e. bound-there cs t (d .at) (d .what) e (h .shown)),
+      λ h m. g .kept .holds h m .there,
       λ m e. g .stopped m t e,
       λ e. call-there cs t (program cs) refl e,
     )

@@ -115,6 +115,6 @@ pub names-shown : NamesShown
 unfolding checked
 names-shown s =
     let g = outcome-grounded (contents (tokens s)) in (
-      λ d m. finding-shown s (d .statement) (d .at) (d .what) (g .found .holds d m .0),
-      λ h m. held-shown s (h .value) (g .kept .holds h m .0),
+      λ d m. finding-shown s (d .statement) (d .at) (d .what) (g .found .holds d m .shown),
+      λ h m. held-shown s (h .value) (g .kept .holds h m .right),
     )

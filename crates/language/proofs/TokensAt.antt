@@ -1,7 +1,7 @@
 -- The tokens of a source by their index, with `Eof` last and past the last.
-use Prim.Native.Nat.{ℕ, zero, suc, _+_, _-_, _≤_, _<_}
+use Prim.Native.Nat.{ℕ, _+_, _-_, _≤_, _<_}
 use mathlib.Core.Path.{_≡_, refl}
-use mathlib.Core.List.{List, [], _∷_, List·Memᴰ, List·Memᴰ·head, List·Memᴰ·tail}
+use mathlib.Core.List.{List, [], _∷_, List·Memᴰ}
 use mathlib.Core.Option.{none}
 use native.Mathlib.Omega.{arith}
 use lib.ListN.{length, getD, length-append, List·getD-append, List·getD-map, List·getD-eq-default}
@@ -9,11 +9,7 @@ use lib.Seq.{getD-at}
 use Rattle.language.specs.Tokens.{eof, Token, items, tokensFrom, eofToken, tokens, contents}
 use Rattle.language.specs.Tables.{tokenRow, tokenWidth}
 use Rattle.language.specs.Numbers.{tokenOf}
-
-pub mem-at : (ts : List Token) (i : ℕ) (d : Token) → i < length ts → List·Memᴰ (getD ts i d) ts
-mem-at [] i d h = absurd (omega arith)
-mem-at (t ∷ ts) zero d h = List·Memᴰ·head refl
-mem-at (t ∷ ts) (suc i) d h = List·Memᴰ·tail (mem-at ts i d (omega arith))
+pub use Rattle.language.proofs.Each.{mem-at}
 
 pub row-width : (t : Token) → length (tokenRow t) ≡ tokenWidth
 unfolding tokenRow

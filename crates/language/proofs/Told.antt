@@ -231,7 +231,10 @@ module _ (tokenAt : ℕ → Token) (n : ℕ) where
 
 pub findings-determine : FindingsDetermine
 unfolding diagRow
-findings-determine tokenAt n apart d e h g r q eq = (apart (d .at) (e .at) h g (word 0) (word 1), by (eqb (x .kind) 8) refl)
+findings-determine tokenAt n apart d e h g r q eq =
+    let at = apart (d .at) (e .at) h g (word 0) (word 1) in
+    let what = by (eqb (x .kind) 8) refl in
+    rw (word 11, at, what)
   where
     x : Detail
     x = detail tokenAt (d .at) (d .what)

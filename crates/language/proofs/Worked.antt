@@ -16,7 +16,7 @@ use Rattle.language.specs.Worked.{RowsWorked, BlanksWorked}
 
 pub rows-worked : RowsWorked
 unfolding bytes encode charAt leadOf follow badFrom smallest lexeme scanFrom isBlank isDigit isWordStart isWord isBody notNewline blankRun word digitOf readDigits startsHex startsZero integer octet quadFrom number string punctuation ascii linesFrom itemsFrom items tokensFrom tokens firstWrong placeFrom program stmtsFrom stmtAt letAt importAt exprOf chainOf listAt argsOf argOf slashes links primary address named′ namesFrom nodesFrom entries lookupFrom tableText run stmt judge andThen walk firstNamed errorsIn warningsIn lexAnswer parseAnswer firstCall checked checkAnswer padTo tabled lexemeRow tokenRow nodeRow diagRow stmtRow scanAnswer scanTable lexTable checkNodes checkDiags checkStmts
-rows-worked = (refl, refl, (refl, refl, refl), refl)
+rows-worked = (refl, refl, (refl, refl, refl), refl, refl)
 
 pub blanks-worked : BlanksWorked
 unfolding isBlank

@@ -7,7 +7,7 @@ use mathlib.Core.Path.{_≡_}
 use mathlib.Core.List.{List, [], _∷_, List·Memᴰ}
 use mathlib.Core.Option.{none}
 use lib.Dec.{eqb}
-use lib.ListN.{length, drop}
+use lib.ListN.{length, getD, drop}
 use Rattle.table.specs.Table.{tabled}
 use Rattle.language.specs.Choice.{if′}
 use Rattle.language.specs.Tokens.{string, tokens, contents, between, bodiesIn}
@@ -50,9 +50,11 @@ pub record SameDetail (s u : List ℕ) (w : What) (a b : Detail) : Type 0 where
   pub second : ((t : ℕ) → w ≡ alreadyBound t → ⊥) → a .second ≡ b .second
   pub third : a .third ≡ b .third
 
--- a finding, by its rows for both sources
-abbrev pub SameFinding : List ℕ → List ℕ → Diag → Type 0
-SameFinding s u d = SameDetail s u (d .what) (detail (tokenOf s) (d .at) (d .what)) (detail (tokenOf u) (d .at) (d .what))
+-- a finding, by its rows for both sources. The last word is compared too (02, E7): "Demand 3's 'places aside' does not remove it:
+-- canonical text must give the same statement numbers."
+pub record SameFinding (s u : List ℕ) (d : Diag) : Type 0 where
+  pub detail : SameDetail s u (d .what) (detail (tokenOf s) (d .at) (d .what)) (detail (tokenOf u) (d .at) (d .what))
+  pub statement : getD (diagRow (tokenOf s) d) 11 0 ≡ getD (diagRow (tokenOf u) d) 11 0
 
 -- ---- statements
 

@@ -85,10 +85,11 @@ abbrev pub valueHigh : Value → ℕ
 valueHigh v = high (λ _. 0) v
 
 -- ---- a diagnostic's row: line, column, severity (1 error, 2 warning), kind, where its text is (0 none, 1 the source, 2 the
--- table's text), the text's start and end, a type, and three numbers
+-- table's text), the text's start and end, a type, three numbers, and last the number of its statement (02, E7: "Each diagnostic row
+-- gets the number of its statement, from 1")
 
 abbrev pub diagWidth : ℕ
-diagWidth = 11
+diagWidth = 12
 
 -- the numbers of the kinds, in the order of check.rs, errors first
 abbrev pub whatKind : What → ℕ
@@ -160,9 +161,9 @@ typed w ty a b c = showsType (severityOf w) (whatKind w) ty a b c
 abbrev pub bare : What → Detail
 bare w = showsNothing (severityOf w) (whatKind w)
 
-abbrev pub detailRow : Token → Detail → List ℕ
-detailRow t d =
-    t .line ∷ t .column ∷ d .severity ∷ d .kind ∷ d .text ∷ d .start ∷ d .end ∷ d .type ∷ d .first ∷ d .second ∷ d .third ∷ []
+abbrev pub detailRow : Token → Detail → ℕ → List ℕ
+detailRow t d n =
+    t .line ∷ t .column ∷ d .severity ∷ d .kind ∷ d .text ∷ d .start ∷ d .end ∷ d .type ∷ d .first ∷ d .second ∷ d .third ∷ n ∷ []
 
 module _ (tokenAt : ℕ → Token) where
   -- of a kind that stands at a token: an unknown item shows the number of its module's entry in the constant table, a name
@@ -183,7 +184,7 @@ module _ (tokenAt : ℕ → Token) where
   detail at (truncated n ty) = typed (truncated n ty) ty (n % wordLimit) (n / wordLimit) 0
 
   unfoldable pub diagRow : Diag → List ℕ
-  diagRow d = detailRow (tokenAt (d .at)) (detail (d .at) (d .what))
+  diagRow d = detailRow (tokenAt (d .at)) (detail (d .at) (d .what)) (d .statement)
 
 -- ---- a statement's row: line, column, kind (1 `Discard`), type, where its text is (as above), and two words of value: of a
 -- string of the source its token, of bytes of the table and of a function the start and end in the table's text

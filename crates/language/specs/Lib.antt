@@ -22,6 +22,7 @@ pub mod Counted
 pub mod Rows
 pub mod Names
 pub mod Checks
+pub mod Numbered
 pub mod Determined
 pub mod Exactly
 pub mod Left

@@ -77,11 +77,10 @@ RealWhat n multipleImports = Unit
 RealWhat n (discardedValue t) = RealTy t
 RealWhat n (truncated m t) = RealTy t
 
--- all of a finding but the number of its statement, which no row shows
 abbrev pub FindingsDetermine : Type 0
 FindingsDetermine =
     (tokenAt : ℕ → Token) (n : ℕ) → Apart tokenAt n → (d e : Diag) → d .at < n → e .at < n → RealWhat n (d .what) → RealWhat n (e .what)
-    → diagRow tokenAt d ≡ diagRow tokenAt e → (d .at ≡ e .at) × (d .what ≡ e .what)
+    → diagRow tokenAt d ≡ diagRow tokenAt e → d ≡ e
 
 abbrev pub StatementsDetermine : Type 0
 StatementsDetermine =

@@ -86,16 +86,16 @@ workedStatements =
     ∷ (2 ∷ 27 ∷ 0 ∷ 0 ∷ 0 ∷ []) ∷ (13 ∷ 27 ∷ 21 ∷ 0 ∷ 0 ∷ [])
     ∷ []
     ) (
-    (2 ∷ 1 ∷ 2 ∷ 24 ∷ 2 ∷ 26 ∷ 30 ∷ 14 ∷ 0 ∷ 0 ∷ 0 ∷ [])
-    ∷ (3 ∷ 9 ∷ 2 ∷ 25 ∷ 0 ∷ 0 ∷ 0 ∷ 4 ∷ 65616 ∷ 1 ∷ 0 ∷ [])
-    ∷ (3 ∷ 1 ∷ 2 ∷ 24 ∷ 0 ∷ 0 ∷ 0 ∷ 8 ∷ 0 ∷ 0 ∷ 0 ∷ [])
-    ∷ (4 ∷ 1 ∷ 2 ∷ 24 ∷ 0 ∷ 0 ∷ 0 ∷ 2 ∷ 0 ∷ 0 ∷ 0 ∷ [])
-    ∷ (5 ∷ 1 ∷ 2 ∷ 24 ∷ 0 ∷ 0 ∷ 0 ∷ 9 ∷ 0 ∷ 0 ∷ 0 ∷ [])
-    ∷ (6 ∷ 1 ∷ 2 ∷ 24 ∷ 0 ∷ 0 ∷ 0 ∷ 9 ∷ 0 ∷ 0 ∷ 0 ∷ [])
-    ∷ (7 ∷ 1 ∷ 2 ∷ 24 ∷ 0 ∷ 0 ∷ 0 ∷ 8 ∷ 0 ∷ 0 ∷ 0 ∷ [])
-    ∷ (8 ∷ 1 ∷ 2 ∷ 24 ∷ 0 ∷ 0 ∷ 0 ∷ 7 ∷ 0 ∷ 0 ∷ 0 ∷ [])
-    ∷ (9 ∷ 1 ∷ 2 ∷ 24 ∷ 0 ∷ 0 ∷ 0 ∷ 6 ∷ 0 ∷ 0 ∷ 0 ∷ [])
-    ∷ (10 ∷ 1 ∷ 2 ∷ 24 ∷ 0 ∷ 0 ∷ 0 ∷ 4 ∷ 0 ∷ 0 ∷ 0 ∷ [])
+    (2 ∷ 1 ∷ 2 ∷ 24 ∷ 2 ∷ 26 ∷ 30 ∷ 14 ∷ 0 ∷ 0 ∷ 0 ∷ 2 ∷ [])
+    ∷ (3 ∷ 9 ∷ 2 ∷ 25 ∷ 0 ∷ 0 ∷ 0 ∷ 4 ∷ 65616 ∷ 1 ∷ 0 ∷ 3 ∷ [])
+    ∷ (3 ∷ 1 ∷ 2 ∷ 24 ∷ 0 ∷ 0 ∷ 0 ∷ 8 ∷ 0 ∷ 0 ∷ 0 ∷ 3 ∷ [])
+    ∷ (4 ∷ 1 ∷ 2 ∷ 24 ∷ 0 ∷ 0 ∷ 0 ∷ 2 ∷ 0 ∷ 0 ∷ 0 ∷ 4 ∷ [])
+    ∷ (5 ∷ 1 ∷ 2 ∷ 24 ∷ 0 ∷ 0 ∷ 0 ∷ 9 ∷ 0 ∷ 0 ∷ 0 ∷ 5 ∷ [])
+    ∷ (6 ∷ 1 ∷ 2 ∷ 24 ∷ 0 ∷ 0 ∷ 0 ∷ 9 ∷ 0 ∷ 0 ∷ 0 ∷ 6 ∷ [])
+    ∷ (7 ∷ 1 ∷ 2 ∷ 24 ∷ 0 ∷ 0 ∷ 0 ∷ 8 ∷ 0 ∷ 0 ∷ 0 ∷ 7 ∷ [])
+    ∷ (8 ∷ 1 ∷ 2 ∷ 24 ∷ 0 ∷ 0 ∷ 0 ∷ 7 ∷ 0 ∷ 0 ∷ 0 ∷ 8 ∷ [])
+    ∷ (9 ∷ 1 ∷ 2 ∷ 24 ∷ 0 ∷ 0 ∷ 0 ∷ 6 ∷ 0 ∷ 0 ∷ 0 ∷ 9 ∷ [])
+    ∷ (10 ∷ 1 ∷ 2 ∷ 24 ∷ 0 ∷ 0 ∷ 0 ∷ 4 ∷ 0 ∷ 0 ∷ 0 ∷ 10 ∷ [])
     ∷ []
     ) (
     (2 ∷ 1 ∷ 1 ∷ 14 ∷ 2 ∷ 26 ∷ 30 ∷ [])
@@ -110,32 +110,45 @@ workedStatements =
     ∷ []
     )
 
--- findings: line, column, severity, kind, where the text is, its start and end, type, three fields
+-- findings: line, column, severity, kind, where the text is, its start and end, type, three fields, statement. Each line has one
+-- statement
 abbrev pub workedFindings : Work
 workedFindings =
     finds "x;\nlet a=1;\nlet a=2;\ntrue/a;\n9.9.9.9/\"s\";\nimport m;\ny::z;\na.z;\nimport bench;\nbench::q;\nbench::HTTP::q;\nbench::deep;\n18446744073709551616;\nimport bench;\nbench::ping.x;\n" (
     -- `UnknownName`
-    (1 ∷ 1 ∷ 1 ∷ 1 ∷ 1 ∷ 0 ∷ 1 ∷ 0 ∷ 0 ∷ 0 ∷ 0 ∷ [])
+    (1 ∷ 1 ∷ 1 ∷ 1 ∷ 1 ∷ 0 ∷ 1 ∷ 0 ∷ 0 ∷ 0 ∷ 0 ∷ 1 ∷ [])
     -- `AlreadyBound`, first in line 2, column 5
-    ∷ (3 ∷ 5 ∷ 1 ∷ 8 ∷ 1 ∷ 16 ∷ 17 ∷ 0 ∷ 2 ∷ 5 ∷ 0 ∷ [])
+    ∷ (3 ∷ 5 ∷ 1 ∷ 8 ∷ 1 ∷ 16 ∷ 17 ∷ 0 ∷ 2 ∷ 5 ∷ 0 ∷ 3 ∷ [])
     -- `OperandType`, left and right
-    ∷ (4 ∷ 1 ∷ 1 ∷ 10 ∷ 0 ∷ 0 ∷ 0 ∷ 2 ∷ 1 ∷ 7 ∷ 1 ∷ [])
-    ∷ (5 ∷ 9 ∷ 1 ∷ 10 ∷ 0 ∷ 0 ∷ 0 ∷ 9 ∷ 2 ∷ 4 ∷ 1 ∷ [])
+    ∷ (4 ∷ 1 ∷ 1 ∷ 10 ∷ 0 ∷ 0 ∷ 0 ∷ 2 ∷ 1 ∷ 7 ∷ 1 ∷ 4 ∷ [])
+    ∷ (5 ∷ 9 ∷ 1 ∷ 10 ∷ 0 ∷ 0 ∷ 0 ∷ 9 ∷ 2 ∷ 4 ∷ 1 ∷ 5 ∷ [])
     -- `UnknownModule`, `NotImported`
-    ∷ (6 ∷ 8 ∷ 1 ∷ 4 ∷ 1 ∷ 49 ∷ 50 ∷ 0 ∷ 0 ∷ 0 ∷ 0 ∷ [])
-    ∷ (7 ∷ 1 ∷ 1 ∷ 5 ∷ 1 ∷ 52 ∷ 53 ∷ 0 ∷ 0 ∷ 0 ∷ 0 ∷ [])
+    ∷ (6 ∷ 8 ∷ 1 ∷ 4 ∷ 1 ∷ 49 ∷ 50 ∷ 0 ∷ 0 ∷ 0 ∷ 0 ∷ 6 ∷ [])
+    ∷ (7 ∷ 1 ∷ 1 ∷ 5 ∷ 1 ∷ 52 ∷ 53 ∷ 0 ∷ 0 ∷ 0 ∷ 0 ∷ 7 ∷ [])
     -- `NoMembers` of an integer
-    ∷ (8 ∷ 3 ∷ 1 ∷ 9 ∷ 0 ∷ 0 ∷ 0 ∷ 16 ∷ 0 ∷ 0 ∷ 0 ∷ [])
+    ∷ (8 ∷ 3 ∷ 1 ∷ 9 ∷ 0 ∷ 0 ∷ 0 ∷ 16 ∷ 0 ∷ 0 ∷ 0 ∷ 8 ∷ [])
     -- `UnknownItem` of `bench`, `NotAModule`, `NotAValue`
-    ∷ (10 ∷ 8 ∷ 1 ∷ 2 ∷ 1 ∷ 84 ∷ 85 ∷ 0 ∷ 1 ∷ 0 ∷ 0 ∷ [])
-    ∷ (11 ∷ 8 ∷ 1 ∷ 6 ∷ 1 ∷ 94 ∷ 98 ∷ 0 ∷ 0 ∷ 0 ∷ 0 ∷ [])
-    ∷ (12 ∷ 8 ∷ 1 ∷ 7 ∷ 1 ∷ 110 ∷ 114 ∷ 0 ∷ 0 ∷ 0 ∷ 0 ∷ [])
+    ∷ (10 ∷ 8 ∷ 1 ∷ 2 ∷ 1 ∷ 84 ∷ 85 ∷ 0 ∷ 1 ∷ 0 ∷ 0 ∷ 10 ∷ [])
+    ∷ (11 ∷ 8 ∷ 1 ∷ 6 ∷ 1 ∷ 94 ∷ 98 ∷ 0 ∷ 0 ∷ 0 ∷ 0 ∷ 11 ∷ [])
+    ∷ (12 ∷ 8 ∷ 1 ∷ 7 ∷ 1 ∷ 110 ∷ 114 ∷ 0 ∷ 0 ∷ 0 ∷ 0 ∷ 12 ∷ [])
     -- `IntegralTooLarge`
-    ∷ (13 ∷ 1 ∷ 1 ∷ 22 ∷ 0 ∷ 0 ∷ 0 ∷ 0 ∷ 0 ∷ 0 ∷ 0 ∷ [])
+    ∷ (13 ∷ 1 ∷ 1 ∷ 22 ∷ 0 ∷ 0 ∷ 0 ∷ 0 ∷ 0 ∷ 0 ∷ 0 ∷ 13 ∷ [])
     -- `MultipleImports`, a warning
-    ∷ (14 ∷ 8 ∷ 2 ∷ 23 ∷ 1 ∷ 145 ∷ 150 ∷ 0 ∷ 0 ∷ 0 ∷ 0 ∷ [])
+    ∷ (14 ∷ 8 ∷ 2 ∷ 23 ∷ 1 ∷ 145 ∷ 150 ∷ 0 ∷ 0 ∷ 0 ∷ 0 ∷ 14 ∷ [])
     -- `NoMembers` of the function `ping`
-    ∷ (15 ∷ 13 ∷ 1 ∷ 9 ∷ 2 ∷ 26 ∷ 30 ∷ 14 ∷ 0 ∷ 0 ∷ 0 ∷ [])
+    ∷ (15 ∷ 13 ∷ 1 ∷ 9 ∷ 2 ∷ 26 ∷ 30 ∷ 14 ∷ 0 ∷ 0 ∷ 0 ∷ 15 ∷ [])
+    ∷ []
+    )
+
+-- the number of a statement is not that of its line: five statements, of which the second has no finding and the fourth has two
+abbrev pub workedNumbers : Work
+workedNumbers =
+    finds "x; let a = 1;\n\nimport m; 1.2.3.4/70000; y;" (
+    (1 ∷ 1 ∷ 1 ∷ 1 ∷ 1 ∷ 0 ∷ 1 ∷ 0 ∷ 0 ∷ 0 ∷ 0 ∷ 1 ∷ [])
+    ∷ (3 ∷ 8 ∷ 1 ∷ 4 ∷ 1 ∷ 22 ∷ 23 ∷ 0 ∷ 0 ∷ 0 ∷ 0 ∷ 3 ∷ [])
+    ∷ (3 ∷ 19 ∷ 2 ∷ 25 ∷ 0 ∷ 0 ∷ 0 ∷ 4 ∷ 70000 ∷ 0 ∷ 0 ∷ 4 ∷ [])
+    ∷ (3 ∷ 11 ∷ 2 ∷ 24 ∷ 0 ∷ 0 ∷ 0 ∷ 8 ∷ 0 ∷ 0 ∷ 0 ∷ 4 ∷ [])
+    ∷ (3 ∷ 26 ∷ 1 ∷ 1 ∷ 1 ∷ 40 ∷ 41 ∷ 0 ∷ 0 ∷ 0 ∷ 0 ∷ 5 ∷ [])
     ∷ []
     )
 
@@ -155,7 +168,7 @@ notBlank =
 -- ---- the claims
 
 abbrev pub RowsWorked : Type 0
-RowsWorked = Comes workedLine × Comes workedTokens × Comes workedStatements × Comes workedFindings
+RowsWorked = Comes workedLine × Comes workedTokens × Comes workedStatements × Comes workedFindings × Comes workedNumbers
 
 abbrev pub BlanksWorked : Type 0
 BlanksWorked = (map isBlank blank ≡ map (λ _. true) blank) × (map isBlank notBlank ≡ map (λ _. false) notBlank)

@@ -30,4 +30,5 @@ rowDiagnostic ws i =
       first = getD ws (diagWidth * i + 8) 0;
       second = getD ws (diagWidth * i + 9) 0;
       third = getD ws (diagWidth * i + 10) 0;
+      statement = getD ws (diagWidth * i + 11) 0;
     }

@@ -61,8 +61,8 @@ impl NodeRow {
     pub const THIRD: usize = 4;
 }
 
-// What a check finds. What `text`, `start` and `end` name is which text its name is in, and where; what the last three mean
-// depends on the kind.
+// What a check finds. What `text`, `start` and `end` name is which text its name is in, and where; what `first`, `second` and
+// `third` mean depends on the kind. `statement` is the number of its statement, from 1.
 pub struct DiagnosticRow {
     pub line: u64,
     pub column: u64,
@@ -75,10 +75,11 @@ pub struct DiagnosticRow {
     pub first: u64,
     pub second: u64,
     pub third: u64,
+    pub statement: u64,
 }
 
 impl DiagnosticRow {
-    pub const WORDS: usize = 11;
+    pub const WORDS: usize = 12;
 }
 
 // Row i of the table of findings.
@@ -99,6 +100,7 @@ pub fn diagnostic_row(diags: &[u64], i: usize) -> DiagnosticRow
         first: diags[at + 8],
         second: diags[at + 9],
         third: diags[at + 10],
+        statement: diags[at + 11],
     }
 }
 

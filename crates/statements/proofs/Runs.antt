@@ -21,7 +21,7 @@ use Rattle.names.proofs.Stores.{stored-long, old-word, new-token, new-kind, new
 use Rattle.findings.specs.declared.Counts.{Counts}
 use Rattle.findings.specs.Findings as findings
 use Rattle.findings.specs.Findings.{added}
-use Rattle.findings.proofs.Adds.{adds-none, adds-then, adds-count, adds-held-count}
+use Rattle.findings.proofs.Adds.{adds-none, adds-then, adds-count, adds-held-count, adds-number}
 use Rattle.values.specs.Values.{Canon}
 use Rattle.values.proofs.Values.{opened-as, canon-of}
 use Rattle.paths.specs.Paths.{orNone}
@@ -30,8 +30,9 @@ use Rattle.judging.proofs.Judging as judging
 use Rattle.statements.specs.declared.Turn.{Turn}
 use Rattle.statements.specs.declared.Turn.the-variants.{Went, Binds, Imports, Refused}
 use Rattle.statements.specs.declared.Outcome.the-variants as outcome
-use Rattle.statements.specs.Checking.{noCounts, plusName, plusImport, unnamed, BindsName, ImportsName, TurnOf, StmtsAt, at-end, no-stmt, an-import, a-let, an-expr, RowFits, RowTurns, passes, takes, ComesTo, Comes}
+use Rattle.statements.specs.Checking.{noCounts, plusNumber, plusName, plusImport, unnamed, BindsName, ImportsName, TurnOf, StmtsAt, at-end, no-stmt, an-import, a-let, an-expr, RowFits, RowTurns, passes, takes, ComesTo, Comes}
 use Rattle.statements.proofs.Turns.{bindings-are, imports-are}
+use Rattle.statements.proofs.StmtRows.{begun-knows, begun-ready}
 
 -- ---- a statement finds as much as it has rows at the most, and holds one statement at the most
 
@@ -77,6 +78,7 @@ record Kept (s toks : List ℕ) (c : Counts) (x u y v b m : List ℕ) (c′ : Co
   knows : Knows s b m c′ k
   ready : Ready s toks b m c′
   grows : findings.Adds s (unnamed c) x u (unnamed c′) y v ds hs
+  number : c′ .number ≡ c .number
 
 module _ (s toks b m : List ℕ) (k : Known) (c : Counts) (kn : Knows s b m c k) (rd : Ready s toks b m c) where
   same-kept : {c′ : Counts} → c′ .used ≡ c .used → c′ .imported ≡ c .imported → Knows s b m c′ k × Ready s toks b m c′
@@ -181,7 +183,7 @@ module _ (s toks b m : List ℕ) (k : Known) (c : Counts) (kn : Knows s b m c k)
       → (k′ : Known) × (ds : List Diag) × (hs : List Held) × (t ≡ goes k′ ds hs) × Kept s toks c x u y v b2 m2 c2 k′ ds hs
   after-turn stores-none (goes k′ ds hs) a =
       let g = same-kept s toks b m k c kn rd (used-same (a .1)) (imported-same (a .1)) in
-      (k′, ds, hs, refl, record { knows = rw (a .0) (g .0); ready = g .1; grows = adds-unnamed (a .1) })
+      (k′, ds, hs, refl, record { knows = rw (a .0) (g .0); ready = g .1; grows = adds-unnamed (a .1); number = adds-number (a .1) })
   after-turn stores-none (refuses o t) a = absurd a
   after-turn (stores-name {c = c1}) (goes k′ ds hs) a =
       let g = same-kept s toks b m k c kn rd (used-same (a .1)) (imported-same (a .1)) in
@@ -197,14 +199,14 @@ module _ (s toks b m : List ℕ) (k : Known) (c : Counts) (kn : Knows s b m c k)
         room = rw (used-same (a .1)) (h .room);
       } in
       let n = name-kept s toks b m k c1 (g .0) (g .1) names f in
-      (k′, ds, hs, refl, record { knows = n .0; ready = n .1; grows = adds-unnamed (a .1) })
+      (k′, ds, hs, refl, record { knows = n .0; ready = n .1; grows = adds-unnamed (a .1); number = adds-number (a .1) })
   after-turn stores-name (refuses o t) a = absurd a
   after-turn (stores-import {c = c1}) (goes k′ ds hs) a =
       let g = same-kept s toks b m k c kn rd (used-same (a .1)) (imported-same (a .1)) in
       let h = a .0 in
       let f : ImportsName s k c1 _ k′ = record { token = h .token; named = h .named; known = h .known; room = rw (imported-same (a .1)) (h .room) } in
       let n = import-kept s toks b m k c1 (g .0) (g .1) modules f in
-      (k′, ds, hs, refl, record { knows = n .0; ready = n .1; grows = adds-unnamed (a .1) })
+      (k′, ds, hs, refl, record { knows = n .0; ready = n .1; grows = adds-unnamed (a .1); number = adds-number (a .1) })
   after-turn stores-import (refuses o t) a = absurd a
 
 -- ---- the loop
@@ -213,6 +215,7 @@ module _ (s toks b m : List ℕ) (k : Known) (c : Counts) (kn : Knows s b m c k)
 pub record Running (s ws x0 u0 x u b m : List ℕ) (c : Counts) (i : ℕ) (ss : List Stmt) : Type 0 where
   pub rest : List Stmt
   pub number : ℕ
+  pub numbered : number ≡ c .number + 1
   pub known : Known
   pub found : List Diag
   pub held : List Held
@@ -252,6 +255,7 @@ start {s} {toks} {ws} {x} {u} {b} {m} l f p q e = subst (λ (z : Counts). Looped
       runs = λ ss a. record {
         rest = ss;
         number = 1;
+        numbered = refl;
         known = judgements.known [] [];
         found = [];
         held = [];
@@ -274,7 +278,7 @@ module _ (ts : List Content) (st : Stmt) (ss : List Stmt) (n : ℕ) (k : Known) 
 
 -- what the function of one row ensures
 abbrev pub Turned : List ℕ → List ℕ → ℕ → List ℕ → List ℕ → List ℕ → List ℕ → Counts → List ℕ → List ℕ → Turn → Type 0
-Turned s ws i b m x u c y v r = (n : ℕ) (k : Known) (ss : List Stmt) → Knows s b m c k → StmtsAt ws i ss → RowTurns s ws i n k c x u r y v ss
+Turned s ws i b m x u c y v r = (n : ℕ) (k : Known) (ss : List Stmt) → n ≡ c .number + 1 → Knows s b m c k → StmtsAt ws i ss → RowTurns s ws i n k c x u r y v ss
 
 module _ {s toks ws : List ℕ} {i : ℕ} {x0 u0 x u b m : List ℕ} {c : Counts} (l : Looped s toks ws x0 u0 x u b m c i) (y v : List ℕ) where
   abbrev ts : List Content
@@ -287,20 +291,21 @@ module _ {s toks ws : List ℕ} {i : ℕ} {x0 u0 x u b m : List ℕ} {c : Counts
     none-stored stores-name e = never (cc)
     none-stored stores-import e = never (cc)
 
-    taken : (n : ℕ) (k : Known) (st′ : Stmt) → Knows s b m c k → TurnOf s k c x u r y v (stmt ts n k st′)
-        → (k′ : Known) × (ds : List Diag) × (hs : List Held) × (stmt ts n k st′ ≡ goes k′ ds hs) × Kept s toks c x u y v b2 m2 c2 k′ ds hs
-    taken n k st′ kn a = after-turn s toks b m k c kn (l .ready) (l .names) (l .modules) x u y v st (stmt ts n k st′) a
+    taken : (n : ℕ) (k : Known) (st′ : Stmt) → Knows s b m c k → TurnOf s k (plusNumber c) x u r y v (stmt ts n k st′)
+        → (k′ : Known) × (ds : List Diag) × (hs : List Held) × (stmt ts n k st′ ≡ goes k′ ds hs) × Kept s toks (plusNumber c) x u y v b2 m2 c2 k′ ds hs
+    taken n k st′ kn a = after-turn s toks b m k (plusNumber c) (begun-knows c refl kn) (begun-ready c refl (l .ready)) (l .names) (l .modules) x u y v st (stmt ts n k st′) a
 
     ready-on : (n : ℕ) (k : Known) (ss : List Stmt) → Knows s b m c k → RowTurns s ws i n k c x u r y v ss → Ready s toks b2 m2 c2
     ready-on n k ss kn (passes a e f g) = let z = none-stored st e in rw (z .0, z .1, z .2) (l .ready)
     ready-on n k (st′ ∷ ss) kn (takes a t) = taken n k st′ kn (t .turn) .4 .ready
 
-    fits-on : (n : ℕ) (k : Known) (ss : List Stmt) → c .errors + c .warnings + programSize ss ≤ mostFindings → c .statements + programSize ss ≤ mostFindings → Knows s b m c k
+    fits-on : (n : ℕ) (k : Known) (ss : List Stmt) → c .errors + c .warnings + programSize ss ≤ mostFindings → c .statements + programSize ss ≤ mostFindings
+        → c .number + programSize ss ≤ mostFindings → Knows s b m c k
         → RowTurns s ws i n k c x u r y v ss → RowFits ws (i + 1) c2
-    fits-on n k ss h g kn (passes a e p q) =
+    fits-on n k ss h g o kn (passes a e p q) =
         let z = none-stored st e in
-        rw (z .2) (record { list = ss; stands = a; room = h; held = g })
-    fits-on n k (st′ ∷ ss) h g kn (takes a t) =
+        rw (z .2) (record { list = ss; stands = a; room = h; held = g; begun = o })
+    fits-on n k (st′ ∷ ss) h g o kn (takes a t) =
         let w = taken n k st′ kn (t .turn) in
         let f = few-findings ts n k st′ (w .3) in
         record {
@@ -308,19 +313,21 @@ module _ {s toks ws : List ℕ} {i : ℕ} {x0 u0 x u b m : List ℕ} {c : Counts
           stands = a;
           room = omega (arith, h, adds-count (w .4 .grows), f .0);
           held = omega (arith, g, adds-held-count (w .4 .grows), f .1, some-stmt-node st′);
+          begun = omega (arith, o, w .4 .number, some-stmt-node st′);
         }
 
     runs-on : (all : List Stmt) → (w : Running s ws x0 u0 x u b m c i all) → RowTurns s ws i (w .number) (w .known) c x u r y v (w .rest)
         → Running s ws x0 u0 y v b2 m2 c2 (i + 1) all
-    runs-on all w = by (w .rest) (w .number) (w .known) (w .found) (w .held) (w .knows) (w .grows) (w .comes)
+    runs-on all w = by (w .rest) (w .number) (w .numbered) (w .known) (w .found) (w .held) (w .knows) (w .grows) (w .comes)
       where
-        by : (ss : List Stmt) (n : ℕ) (k : Known) (ds : List Diag) (hs : List Held) → Knows s b m c k → findings.Adds s noCounts x0 u0 (unnamed c) x u ds hs
+        by : (ss : List Stmt) (n : ℕ) → n ≡ c .number + 1 → (k : Known) (ds : List Diag) (hs : List Held) → Knows s b m c k → findings.Adds s noCounts x0 u0 (unnamed c) x u ds hs
             → judgeAll ts all ≡ run ts ss n k ds hs → RowTurns s ws i n k c x u r y v ss → Running s ws x0 u0 y v b2 m2 c2 (i + 1) all
-        by ss n k ds hs kn gr o (passes a e f g) =
+        by ss n num k ds hs kn gr o (passes a e f g) =
             let z = none-stored st e in
             record {
               rest = ss;
               number = n;
+              numbered = rw (z .2) num;
               known = k;
               found = ds;
               held = hs;
@@ -329,11 +336,12 @@ module _ {s toks ws : List ℕ} {i : ℕ} {x0 u0 x u b m : List ℕ} {c : Counts
               grows = rw (z .2, f, g) gr;
               comes = o;
             }
-        by (st′ ∷ ss) n k ds hs kn gr o (takes a t) =
+        by (st′ ∷ ss) n num k ds hs kn gr o (takes a t) =
             let w = taken n k st′ kn (t .turn) in
             record {
               rest = ss;
               number = suc n;
+              numbered = omega (arith, num, w .4 .number);
               known = w .0;
               found = ds ++ w .1;
               held = hs ++ w .2;
@@ -359,17 +367,17 @@ module _ {s toks ws : List ℕ} {i : ℕ} {x0 u0 x u b m : List ℕ} {c : Counts
         let fs = l .fits in
         let k = knownIn s b m c in
         let kn : Knows s b m c k = record { is = refl } in
-        let t0 = h 0 k (fs .list) kn (fs .stands) in
-        let rd = ready-on 0 k (fs .list) kn t0 in
+        let t0 = h (c .number + 1) k (fs .list) refl kn (fs .stands) in
+        let rd = ready-on (c .number + 1) k (fs .list) kn t0 in
         let size = stored-size st rd in
         record {
           names = size .0 ∙ l .names;
           modules = size .1 ∙ l .modules;
           ready = rd;
-          fits = fits-on 0 k (fs .list) (fs .room) (fs .held) kn t0;
+          fits = fits-on (c .number + 1) k (fs .list) (fs .room) (fs .held) (fs .begun) kn t0;
           diags = f ∙ l .diags;
           stmts = g ∙ l .stmts;
-          runs = λ all a. let w = l .runs all a in runs-on all w (h (w .number) (w .known) (w .rest) (w .knows) (w .stands));
+          runs = λ all a. let w = l .runs all a in runs-on all w (h (w .number) (w .known) (w .rest) (w .numbered) (w .knows) (w .stands));
         }
 
   module _ {r : Turn} (h : Turned s ws i b m x u c y v r) (f : length y ≡ length x) (g : length v ≡ length u) where
@@ -387,36 +395,36 @@ module _ {s toks ws : List ℕ} {i : ℕ} {x0 u0 x u b m : List ℕ} {c : Counts
   refused-by number at n k ds hs ss (passes a e f g) = never (cc)
   refused-by number at n k ds hs (st ∷ ss) (takes a t) = by (stmt ts n k st) refl (t .turn)
     where
-      by : (z : judgements.Turn) → stmt ts n k st ≡ z → TurnOf s k c x u (Refused number at) y v z → ComesTo s x0 u0 (outcome.Refused number at) y v (run ts (st ∷ ss) n k ds hs)
+      by : (z : judgements.Turn) → stmt ts n k st ≡ z → TurnOf s k (plusNumber c) x u (Refused number at) y v z → ComesTo s x0 u0 (outcome.Refused number at) y v (run ts (st ∷ ss) n k ds hs)
       by (goes k′ es gs) e w = absurd w
       by (refuses o p) e w = subst (ComesTo s x0 u0 (outcome.Refused number at) y v) (sym (run-refuses ts st ss n k ds hs e)) w
 
   -- there is room for what a turn binds or imports
   module _ {r : Turn} (h : Turned s ws i b m x u c y v r) where
-    turned : RowTurns s ws i 0 (knownIn s b m c) c x u r y v (l .fits .list)
-    turned = h 0 (knownIn s b m c) (l .fits .list) (record { is = refl }) (l .fits .stands)
+    turned : RowTurns s ws i (c .number + 1) (knownIn s b m c) c x u r y v (l .fits .list)
+    turned = h (c .number + 1) (knownIn s b m c) (l .fits .list) refl (record { is = refl }) (l .fits .stands)
 
     pub room-name : {d : Counts} {e : Entry} → r ≡ Binds d e → d .used < mostNames
-    room-name {d} {e} q = by (l .fits .list) (subst (λ (z : Turn). RowTurns s ws i 0 (knownIn s b m c) c x u z y v (l .fits .list)) q turned)
+    room-name {d} {e} q = by (l .fits .list) (subst (λ (z : Turn). RowTurns s ws i (c .number + 1) (knownIn s b m c) c x u z y v (l .fits .list)) q turned)
       where
-        of : (t : judgements.Turn) → TurnOf s (knownIn s b m c) c x u (Binds d e) y v t → d .used < mostNames
+        of : (t : judgements.Turn) → TurnOf s (knownIn s b m c) (plusNumber c) x u (Binds d e) y v t → d .used < mostNames
         of (goes k′ ds hs) a = rw (used-same (a .1)) (a .0 .room)
         of (refuses o t) a = absurd a
 
-        by : (ss : List Stmt) → RowTurns s ws i 0 (knownIn s b m c) c x u (Binds d e) y v ss → d .used < mostNames
+        by : (ss : List Stmt) → RowTurns s ws i (c .number + 1) (knownIn s b m c) c x u (Binds d e) y v ss → d .used < mostNames
         by ss (passes a f g z) = never (cc)
-        by (st ∷ ss) (takes a t) = of (stmt ts 0 (knownIn s b m c) st) (t .turn)
+        by (st ∷ ss) (takes a t) = of (stmt ts (c .number + 1) (knownIn s b m c) st) (t .turn)
 
     pub room-import : {d : Counts} {e : Entry} → r ≡ Imports d e → d .imported < mostImports
-    room-import {d} {e} q = by (l .fits .list) (subst (λ (z : Turn). RowTurns s ws i 0 (knownIn s b m c) c x u z y v (l .fits .list)) q turned)
+    room-import {d} {e} q = by (l .fits .list) (subst (λ (z : Turn). RowTurns s ws i (c .number + 1) (knownIn s b m c) c x u z y v (l .fits .list)) q turned)
       where
-        of : (t : judgements.Turn) → TurnOf s (knownIn s b m c) c x u (Imports d e) y v t → d .imported < mostImports
+        of : (t : judgements.Turn) → TurnOf s (knownIn s b m c) (plusNumber c) x u (Imports d e) y v t → d .imported < mostImports
         of (goes k′ ds hs) a = rw (imported-same (a .1)) (a .0 .room)
         of (refuses o t) a = absurd a
 
-        by : (ss : List Stmt) → RowTurns s ws i 0 (knownIn s b m c) c x u (Imports d e) y v ss → d .imported < mostImports
+        by : (ss : List Stmt) → RowTurns s ws i (c .number + 1) (knownIn s b m c) c x u (Imports d e) y v ss → d .imported < mostImports
         by ss (passes a f g z) = never (cc)
-        by (st ∷ ss) (takes a t) = of (stmt ts 0 (knownIn s b m c) st) (t .turn)
+        by (st ∷ ss) (takes a t) = of (stmt ts (c .number + 1) (knownIn s b m c) st) (t .turn)
 
   pub stopped : {r : Turn} {number at : ℕ} → Turned s ws i b m x u c y v r → r ≡ Refused number at → (all : List Stmt) → StmtsAt ws 0 all
       → Comes s x0 u0 (outcome.Refused number at) y v (judgeAll ts all)
@@ -425,7 +433,7 @@ module _ {s toks ws : List ℕ} {i : ℕ} {x0 u0 x u b m : List ℕ} {c : Counts
       let t = subst (Turned s ws i b m x u c y v) e h in
       record {
         come = subst (ComesTo s x0 u0 (outcome.Refused number at) y v) (sym (w .comes))
-            (refused-by number at (w .number) (w .known) (w .found) (w .held) (w .rest) (t (w .number) (w .known) (w .rest) (w .knows) (w .stands)));
+            (refused-by number at (w .number) (w .known) (w .found) (w .held) (w .rest) (t (w .number) (w .known) (w .rest) (w .numbered) (w .knows) (w .stands)));
       }
 
 -- past the last row no statement is left

@@ -28,7 +28,7 @@ use Rattle.findings.specs.declared.Diagnostic.{Diagnostic}
 use Rattle.findings.specs.declared.What.{What}
 use Rattle.findings.specs.declared.What.the-variants.{DiscardedValue, IntegralTooLarge}
 use Rattle.findings.specs.Findings.{typeAs, atToken, diagnosticAs, kindNumber, severityNumber, plusFinding, added, Reports, Adds}
-use Rattle.findings.proofs.Adds.{adds-none, adds-then, adds-reported, adds-held, adds-count, adds-held-count}
+use Rattle.findings.proofs.Adds.{adds-none, adds-then, adds-reported, adds-held, adds-count, adds-held-count, adds-number}
 use Rattle.findings.proofs.Texts.{at-token}
 use Rattle.values.specs.declared.Value.{Value}
 use Rattle.values.specs.declared.Judged.the-variants.{Val, Err, Poisoned}
@@ -70,11 +70,11 @@ module _ (s : List ℕ) (t : ℕ) {tok : Token} (e : tok ≡ tokenAs (tokenOf s 
       → d ≡ atToken tok (DiscardedValue ty) → Reports c d x c1 y → c2 ≡ plusStatement c1 → Tells s t v c x u c2 y z
   tells-held {w = w} {ty} {c2} {z} na q sh row at rep st =
       record {
-        is = λ n k f g.
+        is = λ n k f num g.
             let o = as-fits (narrowed f) (sym q ∙ na .is f g) in
             let a = o .0 in
             let what = discardedValue (typeOf a) in
-            let found = adds-reported s n t what {u = u} (at ∙ at-token s t what e (ap DiscardedValue (sh .is a (o .2)))) rep in
+            let found = adds-reported s n t what {u = u} num (at ∙ at-token s t what e (ap DiscardedValue (sh .is a (o .2)))) rep in
             let same : c1 .statements ≡ c .statements = adds-held-count found ∙ omega arith in
             let more = adds-held s {c = c1} {x = y} {u = u} {v = z} (held t a) (st ∙ plus-held c1 (held t a)) (rw same (row .is a (o .2) ∙ ap (putRow u (c .statements)) (row-as s t e a))) in
             subst (λ (b : Option values.Value). GoesOf s k c x u c2 y z (discarded (contents (tokens.tokens s)) n k t b [])) (sym (o .1)) (refl, adds-then found more);
@@ -83,10 +83,10 @@ module _ (s : List ℕ) (t : ℕ) {tok : Token} (e : tok ≡ tokenAs (tokenOf s 
   pub tells-large : {r : Narrowed} → Narrow v r → r ≡ narrow.TooLarge → d ≡ atToken tok IntegralTooLarge → Reports c d x c1 y → Tells s t v c x u c1 y u
   tells-large na q at rep =
       record {
-        is = λ n k f g.
+        is = λ n k f num g.
             let o = as-large (narrowed f) (sym q ∙ na .is f g) in
             subst (λ (b : Option values.Value). GoesOf s k c x u c1 y u (discarded (contents (tokens.tokens s)) n k t b [])) (sym o)
-            (refl, adds-reported s n t integralTooLarge (at ∙ at-token s t integralTooLarge e refl) rep);
+            (refl, adds-reported s n t integralTooLarge num (at ∙ at-token s t integralTooLarge e refl) rep);
       }
 
 -- ---- an expression as a statement
@@ -97,17 +97,20 @@ after-warnings : (s : List ℕ) (n t : ℕ) (k : Known) {c c1 : Counts} (c′ : 
 after-warnings s n t k c′ u z w (some v) a g = (g .0, adds-then (a u) (g .1))
 after-warnings s n t k c′ u z w none a g = (g .0, adds-then (a u) (g .1))
 
-module _ (s : List ℕ) (n : ℕ) (k : Known) {c c1 : Counts} {x y : List ℕ} (u : List ℕ) {ws : List Diag} (a : (v : List ℕ) → Adds s c x v c1 y v ws []) where
+module _ (s : List ℕ) (n : ℕ) (k : Known) {c c1 : Counts} {x y : List ℕ} (u : List ℕ) {ws : List Diag} (a : (v : List ℕ) → Adds s c x v c1 y v ws []) (num : n ≡ c .number) where
+  still : n ≡ c1 .number
+  still = num ∙ sym (adds-number (a []))
+
   told-val : (o : judgements.Judged) {v : Value} {t : ℕ} {c′ : Counts} {z w : List ℕ} → Val v ≡ judgedAs s o → Tells s t v c1 y u c′ z w
       → GoesOf s k c x u c′ z w (told (contents (tokens.tokens s)) n k t o ws)
-  told-val (val d) {t = t} {c′} {z} {w} q h = after-warnings s n t k c′ u z w (narrowed d) a (h .is n k d (cc))
+  told-val (val d) {t = t} {c′} {z} {w} q h = after-warnings s n t k c′ u z w (narrowed d) a (h .is n k d still (cc))
   told-val (err at m) q h = never (cc)
   told-val poisoned q h = never (cc)
 
   pub told-err : (o : judgements.Judged) (t : ℕ) {f : Diagnostic} {c′ : Counts} {z : List ℕ} → Err f ≡ judgedAs s o → Reports c1 f y c′ z
       → GoesOf s k c x u c′ z u (told (contents (tokens.tokens s)) n k t o ws)
   told-err (val d) t q r = never (cc)
-  told-err (err at m) t {f} q r = let e : f ≡ diagnosticAs s at m = cc in (refl, adds-then (a u) (adds-reported s n at m e r))
+  told-err (err at m) t {f} q r = let e : f ≡ diagnosticAs s at m = cc in (refl, adds-then (a u) (adds-reported s n at m still e r))
   told-err poisoned t q r = never (cc)
 
   pub told-none : (o : judgements.Judged) (t : ℕ) → Poisoned ≡ judgedAs s o → GoesOf s k c x u c1 y u (told (contents (tokens.tokens s)) n k t o ws)
@@ -115,20 +118,20 @@ module _ (s : List ℕ) (n : ℕ) (k : Known) {c c1 : Counts} {x y : List ℕ} (
   told-none (err at m) t q = never (cc)
   told-none poisoned t q = (refl, a u)
 
-module _ (s : List ℕ) (n : ℕ) (k : Known) (e : Expr) {j : Judgement} {c : Counts} {x y u : List ℕ} (h : Agrees s j x y c (judge (contents (tokens.tokens s)) n k e)) where
+module _ (s : List ℕ) (n : ℕ) (k : Known) (e : Expr) {j : Judgement} {c : Counts} {x y u : List ℕ} (h : Agrees s j x y c (judge (contents (tokens.tokens s)) n k e)) (num : n ≡ c .number) where
   pub expr-val : {v : Value} {t : ℕ} {c′ : Counts} {z w : List ℕ} → j .out ≡ Val v → t ≡ firstOf e → Tells s t v (j .counts) y u c′ z w
       → Exprs s n k e c x u c′ z w
   expr-val {c′ = c′} {z = z} {w = w} q at g =
       record {
         is = subst (λ (t : ℕ). GoesOf s k c x u c′ z w (told (contents (tokens.tokens s)) n k t (judge (contents (tokens.tokens s)) n k e .out) (judge (contents (tokens.tokens s)) n k e .warns))) at
-            (told-val s n k u (h .adds) (judge (contents (tokens.tokens s)) n k e .out) (sym q ∙ h .out) g);
+            (told-val s n k u (h .adds) num (judge (contents (tokens.tokens s)) n k e .out) (sym q ∙ h .out) g);
       }
 
   pub expr-err : {f : Diagnostic} {c′ : Counts} {z : List ℕ} → j .out ≡ Err f → Reports (j .counts) f y c′ z → Exprs s n k e c x u c′ z u
-  expr-err q r = record { is = told-err s n k u (h .adds) (judge (contents (tokens.tokens s)) n k e .out) (firstOf e) (sym q ∙ h .out) r }
+  expr-err q r = record { is = told-err s n k u (h .adds) num (judge (contents (tokens.tokens s)) n k e .out) (firstOf e) (sym q ∙ h .out) r }
 
   pub expr-none : j .out ≡ Poisoned → Exprs s n k e c x u (j .counts) y u
-  expr-none q = record { is = told-none s n k u (h .adds) (judge (contents (tokens.tokens s)) n k e .out) (firstOf e) (sym q ∙ h .out) }
+  expr-none q = record { is = told-none s n k u (h .adds) num (judge (contents (tokens.tokens s)) n k e .out) (firstOf e) (sym q ∙ h .out) }
 
 -- ---- room
 

@@ -1,5 +1,5 @@
 -- A row of the node table as the run meets it: which statement stands there, by its kind, and what its turn needs and gives.
-use mathlib.Core.Path.{_≡_, refl, subst}
+use mathlib.Core.Path.{_≡_, refl, sym, ap, subst, _∙_}
 use mathlib.Core.List.{List}
 use Prim.Native.Nat.{ℕ, _+_, _*_, _≤_, _<_}
 use native.Mathlib.Omega.{arith}
@@ -11,10 +11,10 @@ use Rattle.language.specs.Judgements as judgements
 use Rattle.language.specs.Judgements.{Known, goes, refuses, stmt}
 use Rattle.rows.specs.Rows.{nodeWord}
 use Rattle.findings.specs.declared.Counts.{Counts}
-use Rattle.judging.specs.Judging.{mostFindings, RepAt}
+use Rattle.judging.specs.Judging.{mostFindings, Knows, Ready, RepAt}
 use Rattle.statements.specs.declared.Turn.{Turn}
 use Rattle.statements.specs.declared.Turn.the-variants.{Went}
-use Rattle.statements.specs.Checking.{Room, StmtFits, StmtsAt, at-end, no-stmt, an-import, a-let, an-expr, RowFits, RowTurns, passes, takes, GoesOf, Exprs, TurnOf, Turns}
+use Rattle.statements.specs.Checking.{plusNumber, Room, StmtFits, StmtsAt, at-end, no-stmt, an-import, a-let, an-expr, RowFits, RowTurns, passes, takes, GoesOf, Exprs, TurnOf, Turns}
 
 abbrev ts : List ℕ → List Content
 ts s = contents (tokens.tokens s)
@@ -30,6 +30,32 @@ module _ (s : List ℕ) (k : Known) (c c′ : Counts) (x u y v : List ℕ) where
   unfolding stmt
   expr-turn n e g = record { turn = went (stmt (ts s) n k (expr′ e)) (g .is) }
 
+-- ---- a statement is begun: what was known stays so
+
+module _ (c : Counts) {d : Counts} (b : d ≡ plusNumber c) where
+  pub begun-number : {n : ℕ} → n ≡ c .number + 1 → n ≡ d .number
+  begun-number e = e ∙ sym (ap (λ (z : Counts). z .number) b)
+
+  module _ {s bindings imports : List ℕ} where
+    pub begun-knows : {k : Known} → Knows s bindings imports c k → Knows s bindings imports d k
+    begun-knows kn = rw b (record { is = kn .is })
+
+    pub begun-ready : {toks : List ℕ} → Ready s toks bindings imports c → Ready s toks bindings imports d
+    begun-ready r =
+        rw b
+        (record {
+          lexed = r .lexed;
+          bound = r .bound;
+          modules = r .modules;
+          sound = r .sound;
+          keyed = r .keyed;
+          keyed-modules = r .keyed-modules;
+        })
+
+  -- a turn that was taken from there
+  from-there : {s : List ℕ} {k : Known} {x u y v : List ℕ} {r : Turn} {t : judgements.Turn} → Turns s k d x u r y v t → Turns s k (plusNumber c) x u r y v t
+  from-there {s} {k} {x} {u} {y} {v} {r} {t} g = subst (λ (z : Counts). Turns s k z x u r y v t) b g
+
 -- ---- rows
 
 module _ {ws : List ℕ} {i : ℕ} (inside : nodeWidth * i + nodeWidth ≤ length ws) where
@@ -42,10 +68,10 @@ module _ {ws : List ℕ} {i : ℕ} (inside : nodeWidth * i + nodeWidth ≤ lengt
   import-size (a-let f h r on) q = absurd (omega (arith, q))
   import-size (an-expr f h r on) q = absurd (omega (arith, q))
 
-  pub import-room : {c : Counts} → RowFits ws i c → nodeWord ws i 0 ≡ 11 → Room c
-  import-room f q =
+  pub import-room : {c d : Counts} → d ≡ plusNumber c → RowFits ws i c → nodeWord ws i 0 ≡ 11 → Room d
+  import-room b f q =
       let one = import-size (f .stands) q in
-      record { findings = omega (arith, f .room, one); held = omega (arith, f .held, one) }
+      rw b (record { findings = omega (arith, f .room, one); held = omega (arith, f .held, one) })
 
   tree-fits : {c : Counts} {ss : List Stmt} → StmtsAt ws i ss → 11 < nodeWord ws i 0 → c .errors + c .warnings + programSize ss ≤ mostFindings
       → c .statements + programSize ss ≤ mostFindings → StmtFits ws i c
@@ -56,38 +82,39 @@ module _ {ws : List ℕ} {i : ℕ} (inside : nodeWidth * i + nodeWidth ≤ lengt
   tree-fits (an-expr {e = e} f h r on) q room held = record { tree = e; rep = r; room = omega (arith, room); held = omega (arith, held) }
 
   -- of a `let` and of an expression
-  pub stmt-fits : {c : Counts} → RowFits ws i c → 11 < nodeWord ws i 0 → StmtFits ws i c
-  stmt-fits f q = tree-fits (f .stands) q (f .room) (f .held)
+  pub stmt-fits : {c d : Counts} → d ≡ plusNumber c → RowFits ws i c → 11 < nodeWord ws i 0 → StmtFits ws i d
+  stmt-fits {c} b f q = rw b (tree-fits {c = plusNumber c} (f .stands) q (f .room) (f .held))
 
   -- what it gives
 
-  module _ (s : List ℕ) (n : ℕ) (k : Known) (c : Counts) (x u : List ℕ) where
+  module _ (s : List ℕ) (n : ℕ) (k : Known) (c : Counts) (x u : List ℕ) {d : Counts} (b : d ≡ plusNumber c) where
     pub row-import : {r : Turn} {y : List ℕ} {t : ℕ} {ss : List Stmt} → nodeWord ws i 0 ≡ 11 → t ≡ nodeWord ws i 1 → StmtsAt ws i ss
-        → Turns s k c x u r y u (stmt (ts s) n k (import′ t)) → RowTurns s ws i n k c x u r y u ss
+        → Turns s k d x u r y u (stmt (ts s) n k (import′ t)) → RowTurns s ws i n k c x u r y u ss
     row-import q e (at-end l) g = absurd (omega (arith, inside))
     row-import q e (no-stmt f h on) g = absurd (omega (arith, q))
-    row-import {r} {y} q e (an-import f h on) g = takes on (subst (λ (z : ℕ). Turns s k c x u r y u (stmt (ts s) n k (import′ z))) e g)
+    row-import {r} {y} q e (an-import f h on) g = takes on (from-there c b (subst (λ (z : ℕ). Turns s k d x u r y u (stmt (ts s) n k (import′ z))) e g))
     row-import q e (a-let f h z on) g = absurd (omega (arith, q))
     row-import q e (an-expr f h z on) g = absurd (omega (arith, q))
 
     pub row-let : {r : Turn} {y : List ℕ} {ss : List Stmt} → nodeWord ws i 0 ≡ 12 → StmtsAt ws i ss
-        → ((e : Expr) → RepAt ws (nodeWord ws i 2) e → Turns s k c x u r y u (stmt (ts s) n k (let′ (nodeWord ws i 1) e)))
+        → ((e : Expr) → RepAt ws (nodeWord ws i 2) e → Turns s k d x u r y u (stmt (ts s) n k (let′ (nodeWord ws i 1) e)))
         → RowTurns s ws i n k c x u r y u ss
     row-let q (at-end l) g = absurd (omega (arith, inside))
     row-let q (no-stmt f h on) g = absurd (omega (arith, q))
     row-let q (an-import f h on) g = absurd (omega (arith, q))
-    row-let q (a-let {e = e} f h z on) g = takes on (g e z)
+    row-let q (a-let {e = e} f h z on) g = takes on (from-there c b (g e z))
     row-let q (an-expr f h z on) g = absurd (omega (arith, q))
 
     pub row-expr : {c′ : Counts} {y v : List ℕ} {ss : List Stmt} → nodeWord ws i 0 ≡ 13 → StmtsAt ws i ss
-        → ((e : Expr) → RepAt ws (nodeWord ws i 2) e → Exprs s n k e c x u c′ y v) → RowTurns s ws i n k c x u (Went c′) y v ss
+        → ((e : Expr) → RepAt ws (nodeWord ws i 2) e → Exprs s n k e d x u c′ y v) → RowTurns s ws i n k c x u (Went c′) y v ss
     row-expr q (at-end l) g = absurd (omega (arith, inside))
     row-expr q (no-stmt f h on) g = absurd (omega (arith, q))
     row-expr q (an-import f h on) g = absurd (omega (arith, q))
     row-expr q (a-let f h z on) g = absurd (omega (arith, q))
-    row-expr {c′} {y} {v} q (an-expr {e = e} f h z on) g = takes on (expr-turn s k c c′ x u y v n e (g e z))
+    row-expr {c′} {y} {v} q (an-expr {e = e} f h z on) g = takes on (from-there c b (expr-turn s k d c′ x u y v n e (g e z)))
 
-    -- a row of an expression is passed
+  -- a row of an expression is passed
+  module _ (s : List ℕ) (n : ℕ) (k : Known) (c : Counts) (x u : List ℕ) where
     pub row-passed : {ss : List Stmt} → (nodeWord ws i 0 ≡ 11 → ⊥) → (nodeWord ws i 0 ≡ 12 → ⊥) → (nodeWord ws i 0 ≡ 13 → ⊥) → StmtsAt ws i ss
         → RowTurns s ws i n k c x u (Went c) x u ss
     row-passed p q r (at-end l) = absurd (omega (arith, inside))

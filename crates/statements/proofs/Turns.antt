@@ -29,7 +29,7 @@ use Rattle.findings.specs.declared.Counts.{Counts}
 use Rattle.findings.specs.declared.Diagnostic.{Diagnostic}
 use Rattle.findings.specs.declared.What.the-variants.{MultipleImports, UnknownModule, AlreadyBound}
 use Rattle.findings.specs.Findings.{atToken, diagnosticAs, Reports, Adds}
-use Rattle.findings.proofs.Adds.{adds-none, adds-then, adds-reported}
+use Rattle.findings.proofs.Adds.{adds-none, adds-then, adds-reported, adds-number}
 use Rattle.findings.proofs.Texts.{at-token}
 use Rattle.values.specs.declared.Value.{Value}
 use Rattle.values.specs.declared.Judged.the-variants.{Val, Err, Poisoned}
@@ -72,7 +72,7 @@ module _ (ts : List Content) (n : ℕ) (k : Known) (t : ℕ) where
   unfolding stmt
   import-new e = ap (judgements.importStmt ts n k t) e
 
-module _ (s : List ℕ) (n t : ℕ) (k : Known) (b is u x : List ℕ) (c : Counts) (kn : Knows s b is c k) {w : List ℕ} {i : ℕ}
+module _ (s : List ℕ) (n t : ℕ) (k : Known) (b is u x : List ℕ) (c : Counts) (kn : Knows s b is c k) (num : n ≡ c .number) {w : List ℕ} {i : ℕ}
     (p : i ≡ place (namesIn s is (c .imported) 0) w) (o : w ≡ nameAt (contents (tokens.tokens s)) t) {tok : Token} (at : tok ≡ tokenAs (tokenOf s t)) where
   abbrev ts : List Content
   ts = contents (tokens.tokens s)
@@ -86,7 +86,7 @@ module _ (s : List ℕ) (n t : ℕ) (k : Known) (b is u x : List ℕ) (c : Count
       let e = ap (λ (l : List Import). findImport l (nameAt ts t)) (imports-are kn) ∙ import-found s is (nameAt ts t) (c .imported) i place-is h in
       record {
         turn = subst (λ (z : judgements.Turn). TurnOf s k c x u (turn.Went c′) y u z) (sym (import-again ts n k t e))
-            (refl, adds-reported s n t multipleImports (q ∙ at-token s t multipleImports at refl) r);
+            (refl, adds-reported s n t multipleImports num (q ∙ at-token s t multipleImports at refl) r);
       }
 
   module _ (h : c .imported ≤ i) where
@@ -120,7 +120,7 @@ module _ (s : List ℕ) (n t : ℕ) (k : Known) (b is u x : List ℕ) (c : Count
       failed-by : (o : Option ℕ) → lookup 0 (nameAt ts t) ≡ o → kind ≡ 0 → {d : Diagnostic} {c′ : Counts} {y : List ℕ} → d ≡ atToken tok UnknownModule
           → Reports c d x c′ y → TurnOf s k c x u (turn.Imports c′ e) y u (imported ts n k t o)
       failed-by none q z g r =
-          (record { token = t; named = en .named s at made; known = by none q; room = l }, adds-reported s n t unknownModule (g ∙ at-token s t unknownModule at refl) r)
+          (record { token = t; named = en .named s at made; known = by none q; room = l }, adds-reported s n t unknownModule num (g ∙ at-token s t unknownModule at refl) r)
       failed-by (some j) q z g r =
           let none-there : j ≡ 0 = sym (m ∙ ap orZero q) ∙ z in
           let round : orNone j ≡ some j = ap (λ (d : Option ℕ). orNone (orZero d)) (sym q) ∙ found-module 0 (nameAt ts t) ∙ q in
@@ -138,7 +138,7 @@ module _ (s : List ℕ) (n t : ℕ) (k : Known) (b is u x : List ℕ) (c : Count
 
 -- ---- a name that is bound
 
-module _ (s : List ℕ) (n t : ℕ) (k : Known) {c c1 : Counts} {x y : List ℕ} (u : List ℕ) {ws : List Diag} (a : (v : List ℕ) → Adds s c x v c1 y v ws []) (l : c .used < mostNames)
+module _ (s : List ℕ) (n t : ℕ) (k : Known) {c c1 : Counts} {x y : List ℕ} (u : List ℕ) {ws : List Diag} (a : (v : List ℕ) → Adds s c x v c1 y v ws []) (num : n ≡ c .number) (l : c .used < mostNames)
     {tok : Token} (at : tok ≡ tokenAs (tokenOf s t)) {key : ℕ} (made : key ≡ keyOf (nameAt (contents (tokens.tokens s)) t)) {v : Value} {e : Entry} (en : Enters tok t key v e) where
   named-as : (o : Option values.Value) → v .kind ≡ kindOf o → v .lo ≡ lowOf o → v .hi ≡ highOf o
       → BindsName s k c e (known (k .imports) (k .bindings ++ record { name = nameAt (contents (tokens.tokens s)) t; tok = t; value = o } ∷ []))
@@ -171,27 +171,27 @@ module _ (s : List ℕ) (n t : ℕ) (k : Known) {c c1 : Counts} {x y : List ℕ}
     bound-err : (o : judgements.Judged) {f : Diagnostic} {c′ : Counts} {z : List ℕ} → Err f ≡ judgedAs s o → Reports c1 f y c′ z
         → TurnOf s k c x u (turn.Binds c′ e) z u (bound (contents (tokens.tokens s)) n k t o ws)
     bound-err (val d) q r = never (cc)
-    bound-err (err p m) {f} q r = let w : f ≡ diagnosticAs s p m = cc in (failed, adds-then (a u) (adds-reported s n p m w r))
+    bound-err (err p m) {f} q r = let w : f ≡ diagnosticAs s p m = cc in (failed, adds-then (a u) (adds-reported s n p m (num ∙ sym (adds-number (a []))) w r))
     bound-err poisoned q r = never (cc)
 
 module _ {tok : Token} {t key : ℕ} {j : Judgement} {x′ : List ℕ} {e : Entry} where
   pub binds-val : {v : Value} → j .out ≡ Val v → Enters tok t key v e → Binds tok t key j x′ (turn.Binds (j .counts) e) x′
   binds-val q en =
-      record { is = λ s x u n k c d l at made h. bound-val s n t k u (h .adds) l at made en (judge (contents (tokens.tokens s)) n k d .out) (sym q ∙ h .out) }
+      record { is = λ s x u n k c d num l at made h. bound-val s n t k u (h .adds) num l at made en (judge (contents (tokens.tokens s)) n k d .out) (sym q ∙ h .out) }
 
   pub binds-none : j .out ≡ Poisoned → Enters tok t key noValue e → Binds tok t key j x′ (turn.Binds (j .counts) e) x′
   binds-none q en =
-      record { is = λ s x u n k c d l at made h. bound-none s n t k u (h .adds) l at made en refl (judge (contents (tokens.tokens s)) n k d .out) (sym q ∙ h .out) }
+      record { is = λ s x u n k c d num l at made h. bound-none s n t k u (h .adds) num l at made en refl (judge (contents (tokens.tokens s)) n k d .out) (sym q ∙ h .out) }
 
   pub binds-err : {f : Diagnostic} {c′ : Counts} {y : List ℕ} → j .out ≡ Err f → Reports (j .counts) f x′ c′ y → Enters tok t key noValue e → Binds tok t key j x′ (turn.Binds c′ e) y
   binds-err q r en =
-      record { is = λ s x u n k c d l at made h. bound-err s n t k u (h .adds) l at made en refl (judge (contents (tokens.tokens s)) n k d .out) (sym q ∙ h .out) r }
+      record { is = λ s x u n k c d num l at made h. bound-err s n t k u (h .adds) num l at made en refl (judge (contents (tokens.tokens s)) n k d .out) (sym q ∙ h .out) r }
 
 -- ---- lets
 
 pub twice : (s : List ℕ) (first : ℕ) {tok then : Token} {d : Diagnostic} {c c′ : Counts} {x y : List ℕ} → then ≡ tokenAs (tokenOf s first)
     → d ≡ atToken tok (AlreadyBound (then .line) (then .column)) → Reports c d x c′ y → BoundTwice s tok first c x c′ y
-twice s first p q r = record { adds = λ n t u at. adds-reported s n t (alreadyBound first) (q ∙ at-token s t (alreadyBound first) at (rw p)) r }
+twice s first p q r = record { adds = λ n t u num at. adds-reported s n t (alreadyBound first) num (q ∙ at-token s t (alreadyBound first) at (rw p)) r }
 
 module _ (ts : List Content) (n : ℕ) (k : Known) (t : ℕ) (e : Expr) where
   let-again : {b : Binding} → find (k .bindings) (nameAt ts t) ≡ some b → stmt ts n k (let′ t e) ≡ goes k (diag n t (alreadyBound (b .tok)) ∷ []) []
@@ -203,7 +203,7 @@ module _ (ts : List Content) (n : ℕ) (k : Known) (t : ℕ) (e : Expr) where
   unfolding stmt
   let-new q = ap (judgements.letStmt ts n k t e) q
 
-module _ (s : List ℕ) (n t t′ : ℕ) (q : t ≡ t′) (k : Known) (e : Expr) (b m u x : List ℕ) (c : Counts) (kn : Knows s b m c k) {w : List ℕ} {i : ℕ}
+module _ (s : List ℕ) (n t t′ : ℕ) (q : t ≡ t′) (k : Known) (e : Expr) (b m u x : List ℕ) (c : Counts) (kn : Knows s b m c k) (num : n ≡ c .number) {w : List ℕ} {i : ℕ}
     (p : i ≡ place (namesIn s b (c .used) 0) w) (o : w ≡ nameAt (contents (tokens.tokens s)) t) where
   abbrev cs : List Content
   cs = contents (tokens.tokens s)
@@ -219,7 +219,7 @@ module _ (s : List ℕ) (n t t′ : ℕ) (q : t ≡ t′) (k : Known) (e : Expr)
   lets-again {first = first} {c′ = c′} {y = y} h f at r =
       let hit = ap (λ (l : List Binding). find l (nameAt cs t)) (bindings-are kn) ∙ bound-found s b (nameAt cs t) (c .used) i at-place h in
       let step : stmt cs n k (let′ t′ e) ≡ goes k (diag n t (alreadyBound first) ∷ []) [] = moved ∙ let-again cs n k t e hit ∙ rw (← f) in
-      record { turn = subst (λ (z : judgements.Turn). TurnOf s k c x u (turn.Went c′) y u z) (sym step) (refl, r .adds n t u at) }
+      record { turn = subst (λ (z : judgements.Turn). TurnOf s k c x u (turn.Went c′) y u z) (sym step) (refl, r .adds n t u num at) }
 
   module _ (h : c .used ≤ i) where
     unbound : find (k .bindings) (nameAt cs t) ≡ none

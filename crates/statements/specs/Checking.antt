@@ -35,20 +35,25 @@ use Rattle.statements.specs.declared.Outcome.the-variants as outcome
 -- ---- counts
 
 abbrev pub noCounts : Counts
-noCounts = record { used = 0; imported = 0; errors = 0; warnings = 0; statements = 0 }
+noCounts = record { used = 0; imported = 0; errors = 0; warnings = 0; statements = 0; number = 0 }
+
+-- the next statement
+abbrev pub plusNumber : Counts → Counts
+plusNumber c =
+    record { used = c .used; imported = c .imported; errors = c .errors; warnings = c .warnings; statements = c .statements; number = c .number + 1 }
 
 abbrev pub plusStatement : Counts → Counts
-plusStatement c = record { used = c .used; imported = c .imported; errors = c .errors; warnings = c .warnings; statements = c .statements + 1 }
+plusStatement c = record { used = c .used; imported = c .imported; errors = c .errors; warnings = c .warnings; statements = c .statements + 1; number = c .number }
 
 abbrev pub plusName : Counts → Counts
-plusName c = record { used = c .used + 1; imported = c .imported; errors = c .errors; warnings = c .warnings; statements = c .statements }
+plusName c = record { used = c .used + 1; imported = c .imported; errors = c .errors; warnings = c .warnings; statements = c .statements; number = c .number }
 
 abbrev pub plusImport : Counts → Counts
-plusImport c = record { used = c .used; imported = c .imported + 1; errors = c .errors; warnings = c .warnings; statements = c .statements }
+plusImport c = record { used = c .used; imported = c .imported + 1; errors = c .errors; warnings = c .warnings; statements = c .statements; number = c .number }
 
 -- the counts of findings and statements alone
 abbrev pub unnamed : Counts → Counts
-unnamed c = record { used = 0; imported = 0; errors = c .errors; warnings = c .warnings; statements = c .statements }
+unnamed c = record { used = 0; imported = 0; errors = c .errors; warnings = c .warnings; statements = c .statements; number = 0 }
 
 -- one finding and one statement more can be counted
 pub record Room (c : Counts) : Type 0 where
@@ -91,7 +96,7 @@ GoesOf s k c x u c′ y v (refuses m t) = ⊥
 
 -- a value that is told of
 pub record Tells (s : List ℕ) (t : ℕ) (v : Value) (c : Counts) (x u : List ℕ) (c′ : Counts) (y w : List ℕ) : Type 0 where
-  pub is : (n : ℕ) (k : Known) (d : values.Value) → v ≡ valueAs d → GoesOf s k c x u c′ y w (discarded (contents (tokens.tokens s)) n k t (narrowed d) [])
+  pub is : (n : ℕ) (k : Known) (d : values.Value) → n ≡ c .number → v ≡ valueAs d → GoesOf s k c x u c′ y w (discarded (contents (tokens.tokens s)) n k t (narrowed d) [])
 
 -- an expression as a statement
 pub record Exprs (s : List ℕ) (n : ℕ) (k : Known) (e : Expr) (c : Counts) (x u : List ℕ) (c′ : Counts) (y v : List ℕ) : Type 0 where
@@ -138,14 +143,14 @@ pub record Turns (s : List ℕ) (k : Known) (c : Counts) (x u : List ℕ) (r : T
 
 -- a `let` after its value was judged
 pub record Binds (tok : Token) (t key : ℕ) (j : Judgement) (x′ : List ℕ) (r : Turn) (y : List ℕ) : Type 0 where
-  pub is : (s x u : List ℕ) (n : ℕ) (k : Known) (c : Counts) (e : Expr) → c .used < mostNames → tok ≡ tokenAs (tokenOf s t)
+  pub is : (s x u : List ℕ) (n : ℕ) (k : Known) (c : Counts) (e : Expr) → n ≡ c .number → c .used < mostNames → tok ≡ tokenAs (tokenOf s t)
       → key ≡ keyOf (nameAt (contents (tokens.tokens s)) t) → Agrees s j x x′ c (judge (contents (tokens.tokens s)) n k e)
       → TurnOf s k c x u r y u
       (bound (contents (tokens.tokens s)) n k t (judge (contents (tokens.tokens s)) n k e .out) (judge (contents (tokens.tokens s)) n k e .warns))
 
 -- a name that was bound before, at the token `first`
 pub record BoundTwice (s : List ℕ) (tok : Token) (first : ℕ) (c : Counts) (x : List ℕ) (c′ : Counts) (y : List ℕ) : Type 0 where
-  pub adds : (n t : ℕ) (u : List ℕ) → tok ≡ tokenAs (tokenOf s t) → Adds s c x u c′ y u (diag n t (alreadyBound first) ∷ []) []
+  pub adds : (n t : ℕ) (u : List ℕ) → n ≡ c .number → tok ≡ tokenAs (tokenOf s t) → Adds s c x u c′ y u (diag n t (alreadyBound first) ∷ []) []
 
 -- ---- statements in the node table: the loop goes over all rows
 
@@ -167,12 +172,13 @@ pub record RowFits (ws : List ℕ) (i : ℕ) (c : Counts) : Type 0 where
   pub stands : StmtsAt ws i list
   pub room : c .errors + c .warnings + programSize list ≤ mostFindings
   pub held : c .statements + programSize list ≤ mostFindings
+  pub begun : c .number + programSize list ≤ mostFindings
 
 -- row i of the statements ss that are left: it passes a row of an expression, or takes a turn with the first. Before, the
 -- tables were x and u.
 pub data RowTurns (s ws : List ℕ) (i n : ℕ) (k : Known) (c : Counts) (x u : List ℕ) (r : Turn) (y v : List ℕ) : List Stmt → Type 0 where
   passes : {ss : List Stmt} → StmtsAt ws (i + 1) ss → r ≡ turn.Went c → y ≡ x → v ≡ u → RowTurns s ws i n k c x u r y v ss
-  takes : {st : Stmt} {ss : List Stmt} → StmtsAt ws (i + 1) ss → Turns s k c x u r y v (judgements.stmt (contents (tokens.tokens s)) n k st)
+  takes : {st : Stmt} {ss : List Stmt} → StmtsAt ws (i + 1) ss → Turns s k (plusNumber c) x u r y v (judgements.stmt (contents (tokens.tokens s)) n k st)
       → RowTurns s ws i n k c x u r y v (st ∷ ss)
 
 -- ---- the run

@@ -15,7 +15,7 @@ ghost use Rattle.rows.specs.Rows.{nodeWord};
 ghost use Rattle.rows.specs.Tokens.{TokenTable};
 ghost use Rattle.names.specs.Names.{nameWidth, Keyed, stored};
 ghost use Rattle.judging.specs.Judging.{mostFindings, Ready, Knows, RepAt};
-ghost use Rattle.statements.specs.Checking.{noCounts, plusName, plusImport, plusStatement, Enters, HeldRow, Room, StmtFits, Tells, Exprs, Binds, BoundTwice, Turns, RowFits, StmtsAt, RowTurns, Comes};
+ghost use Rattle.statements.specs.Checking.{noCounts, plusNumber, plusName, plusImport, plusStatement, Enters, HeldRow, Room, StmtFits, Tells, Exprs, Binds, BoundTwice, Turns, RowFits, StmtsAt, RowTurns, Comes};
 use constants::Constants;
 use findings::Counts;
 use findings::Diagnostic;
@@ -56,7 +56,7 @@ impl Checker {
         }
     }
 
-    // Nothing is bound, imported, found or held.
+    // Nothing is bound, imported, found or held, and no statement was begun.
     pub fn start() -> Counts
         ensures { λ r. ⌜ r ≡ noCounts ⌝ }
     {
@@ -66,6 +66,7 @@ impl Checker {
             errors: 0,
             warnings: 0,
             statements: 0,
+            number: 0,
         }
     }
 }
@@ -165,6 +166,17 @@ fn put_stmt(stmts: &mut [u64], row: usize, tok: Token, v: Value)
     table::put_row(stmts, row, &words);
 }
 
+// The next statement: imports, lets and expressions alike are numbered from 1.
+fn begun(counts: Counts) -> Counts
+    requires { ⌜ counts .number ≤ mostFindings ⌝ }
+    ensures { λ r. ⌜ r ≡ plusNumber counts ⌝ }
+{
+    Counts {
+        number: counts.number + 1,
+        ..counts
+    }
+}
+
 fn held_one(counts: Counts) -> Counts
     requires { ⌜ counts .statements < mostFindings ⌝ }
     ensures { λ r. ⌜ r ≡ plusStatement counts ⌝ }
@@ -218,7 +230,7 @@ fn expr_stmt(
 ) -> Counts
     requires { ⌜ Ready (now source) (now toks) (now bindings) (now imports) counts ⌝ }
     requires { ⌜ StmtFits (now nodes) i counts × (nodeWidth * i + nodeWidth ≤ length (now nodes)) ⌝ }
-    ensures { λ r. ⌜ ((n : ℕ) (k : Known) (e : Expr) → Knows (now (source .entry)) (now (bindings .entry)) (now (imports .entry)) counts k
+    ensures { λ r. ⌜ ((n : ℕ) (k : Known) (e : Expr) → n ≡ counts .number → Knows (now (source .entry)) (now (bindings .entry)) (now (imports .entry)) counts k
         → RepAt (now (nodes .entry)) (nodeWord (now (nodes .entry)) i 2) e
         → Exprs (now (source .entry)) n k e counts (now (diags .entry)) (now (stmts .entry)) r (now (diags .exit)) (now (stmts .exit))) ⌝ }
 {
@@ -261,7 +273,7 @@ fn import(
 ) -> Turn
     requires { ⌜ TokenTable (now source) (now toks) × (counts .imported ≤ length (now imports) / nameWidth) × Keyed (now source) (now imports) (counts .imported) ⌝ }
     requires { ⌜ Room counts ⌝ }
-    ensures { λ r. ⌜ ((n : ℕ) (k : Known) (b u : List ℕ) → Knows (now (source .entry)) b (now (imports .entry)) counts k
+    ensures { λ r. ⌜ ((n : ℕ) (k : Known) (b u : List ℕ) → n ≡ counts .number → Knows (now (source .entry)) b (now (imports .entry)) counts k
         → Turns (now (source .entry)) k counts (now (diags .entry)) u r (now (diags .exit)) u (stmt (contents (tokens (now (source .entry)))) n k (import′ t))) ⌝ }
 {
     let tok = rows::token_at(toks, t);
@@ -331,7 +343,7 @@ fn let_stmt(
 ) -> Turn
     requires { ⌜ Ready (now source) (now toks) (now bindings) (now imports) counts ⌝ }
     requires { ⌜ StmtFits (now nodes) i counts × (nodeWidth * i + nodeWidth ≤ length (now nodes)) ⌝ }
-    ensures { λ r. ⌜ ((n : ℕ) (k : Known) (e : Expr) (u : List ℕ) → Knows (now (source .entry)) (now (bindings .entry)) (now (imports .entry)) counts k
+    ensures { λ r. ⌜ ((n : ℕ) (k : Known) (e : Expr) (u : List ℕ) → n ≡ counts .number → Knows (now (source .entry)) (now (bindings .entry)) (now (imports .entry)) counts k
         → RepAt (now (nodes .entry)) (nodeWord (now (nodes .entry)) i 2) e
         → Turns (now (source .entry)) k counts (now (diags .entry)) u r (now (diags .exit)) u
         (stmt (contents (tokens (now (source .entry)))) n k (let′ (nodeWord (now (nodes .entry)) i 1) e))) ⌝ }
@@ -368,10 +380,11 @@ fn stmt<'a>(
 ) -> Turn
     requires { ⌜ Ready (now source) (now toks) (now bindings) (now imports) counts ⌝ }
     requires { ⌜ RowFits (now nodes) i counts × (nodeWidth * i + nodeWidth ≤ length (now nodes)) ⌝ }
-    ensures { λ r. ⌜ ((n : ℕ) (k : Known) (ss : List Stmt) → Knows (now (source .entry)) (now (bindings .entry)) (now (imports .entry)) counts k
+    ensures { λ r. ⌜ ((n : ℕ) (k : Known) (ss : List Stmt) → n ≡ counts .number + 1 → Knows (now (source .entry)) (now (bindings .entry)) (now (imports .entry)) counts k
         → StmtsAt (now (nodes .entry)) i ss
         → RowTurns (now (source .entry)) (now (nodes .entry)) i n k counts (now (diags .entry)) (now (stmts .entry)) r (now (diags .exit)) (now (stmts .exit)) ss) ⌝ }
 {
+    let then = begun(counts);
     match rows::node_word(nodes, i, NodeRow::KIND) {
         NodeKind::IMPORT => import(
             source,
@@ -379,9 +392,9 @@ fn stmt<'a>(
             imports,
             diags,
             rows::node_word(nodes, i, NodeRow::TOKEN),
-            counts,
+            then,
         ),
-        NodeKind::LET => let_stmt(source, toks, nodes, bindings, imports, diags, i, counts),
+        NodeKind::LET => let_stmt(source, toks, nodes, bindings, imports, diags, i, then),
         NodeKind::EXPRESSION => Turn::Went(expr_stmt(
             source,
             toks,
@@ -391,7 +404,7 @@ fn stmt<'a>(
             diags,
             stmts,
             i,
-            counts,
+            then,
         )),
         _ => Turn::Went(counts),
     }

@@ -18,19 +18,19 @@ node-word-requires-2 : tie.Need-node-word-requires-2
 node-word-requires-2 c κs = (row-in (at-row (c .before .before .before .before .before .before .before .before .before .before .node-word .ensures) (c .before .before .before .before .before .before .before .before .before .before .before .before .before .before .before .before .before .before .pre .1 .0 .rep)), omega arith)
 
 tell-requires : tie.Need-tell-requires
-tell-requires c κs = (some-row (c .before .before .before .before .before .before .before .before .before .before .before .before .before .before .before .before .before .before .before .pre .0 .lexed), room-after (c .before .before .before .before .before .before .before .before .before .before .before .before .before .before .before .before .before .before .before .pre .1 .0) (c .before .before .before .before .before .before .before .before .before .before .before .before .before .before .before .before .before .before .before .args .source .now) 0 (knownIn (c .before .before .before .before .before .before .before .before .before .before .before .before .before .before .before .before .before .before .before .args .source .now) (c .before .before .before .before .before .before .before .before .before .before .before .before .before .before .before .before .before .before .before .args .bindings .now) (c .before .before .before .before .before .before .before .before .before .before .before .before .before .before .before .before .before .before .before .args .imports .now) (c .before .before .before .before .before .before .before .before .before .before .before .before .before .before .before .before .before .before .before .args .counts)) (c .before .before .before .before .before .before .before .before .before .judge .ensures 0 (knownIn (c .before .before .before .before .before .before .before .before .before .before .before .before .before .before .before .before .before .before .before .args .source .now) (c .before .before .before .before .before .before .before .before .before .before .before .before .before .before .before .before .before .before .before .args .bindings .now) (c .before .before .before .before .before .before .before .before .before .before .before .before .before .before .before .before .before .before .before .args .imports .now) (c .before .before .before .before .before .before .before .before .before .before .before .before .before .before .before .before .before .before .before .args .counts)) (c .before .before .before .before .before .before .before .before .before .before .before .before .before .before .before .before .before .before .before .pre .1 .0 .tree) (record { is = refl }) (at-row (c .before .before .before .before .before .before .before .before .before .before .before .node-word .ensures) (c .before .before .before .before .before .before .before .before .before .before .before .before .before .before .before .before .before .before .before .pre .1 .0 .rep))))
+tell-requires c κs = (some-row (c .before .before .before .before .before .before .before .before .before .before .before .before .before .before .before .before .before .before .before .pre .0 .lexed), room-after (c .before .before .before .before .before .before .before .before .before .before .before .before .before .before .before .before .before .before .before .pre .1 .0) (c .before .before .before .before .before .before .before .before .before .before .before .before .before .before .before .before .before .before .before .args .source .now) (c .before .before .before .before .before .before .before .before .before .before .before .before .before .before .before .before .before .before .before .args .counts .number) (knownIn (c .before .before .before .before .before .before .before .before .before .before .before .before .before .before .before .before .before .before .before .args .source .now) (c .before .before .before .before .before .before .before .before .before .before .before .before .before .before .before .before .before .before .before .args .bindings .now) (c .before .before .before .before .before .before .before .before .before .before .before .before .before .before .before .before .before .before .before .args .imports .now) (c .before .before .before .before .before .before .before .before .before .before .before .before .before .before .before .before .before .before .before .args .counts)) (c .before .before .before .before .before .before .before .before .before .judge .ensures (c .before .before .before .before .before .before .before .before .before .before .before .before .before .before .before .before .before .before .before .args .counts .number) (knownIn (c .before .before .before .before .before .before .before .before .before .before .before .before .before .before .before .before .before .before .before .args .source .now) (c .before .before .before .before .before .before .before .before .before .before .before .before .before .before .before .before .before .before .before .args .bindings .now) (c .before .before .before .before .before .before .before .before .before .before .before .before .before .before .before .before .before .before .before .args .imports .now) (c .before .before .before .before .before .before .before .before .before .before .before .before .before .before .before .before .before .before .before .args .counts)) (c .before .before .before .before .before .before .before .before .before .before .before .before .before .before .before .before .before .before .before .pre .1 .0 .tree) refl (record { is = refl }) (at-row (c .before .before .before .before .before .before .before .before .before .before .before .node-word .ensures) (c .before .before .before .before .before .before .before .before .before .before .before .before .before .before .before .before .before .before .before .pre .1 .0 .rep))))
 
 report-requires : tie.Need-report-requires
-report-requires c κs = room-after (c .before .before .before .before .before .before .before .before .before .before .before .before .before .before .before .before .before .pre .1 .0) (c .before .before .before .before .before .before .before .before .before .before .before .before .before .before .before .before .before .args .source .now) 0 (knownIn (c .before .before .before .before .before .before .before .before .before .before .before .before .before .before .before .before .before .args .source .now) (c .before .before .before .before .before .before .before .before .before .before .before .before .before .before .before .before .before .args .bindings .now) (c .before .before .before .before .before .before .before .before .before .before .before .before .before .before .before .before .before .args .imports .now) (c .before .before .before .before .before .before .before .before .before .before .before .before .before .before .before .before .before .args .counts)) (c .before .before .before .before .before .before .before .judge .ensures 0 (knownIn (c .before .before .before .before .before .before .before .before .before .before .before .before .before .before .before .before .before .args .source .now) (c .before .before .before .before .before .before .before .before .before .before .before .before .before .before .before .before .before .args .bindings .now) (c .before .before .before .before .before .before .before .before .before .before .before .before .before .before .before .before .before .args .imports .now) (c .before .before .before .before .before .before .before .before .before .before .before .before .before .before .before .before .before .args .counts)) (c .before .before .before .before .before .before .before .before .before .before .before .before .before .before .before .before .before .pre .1 .0 .tree) (record { is = refl }) (at-row (c .before .before .before .before .before .before .before .before .before .node-word .ensures) (c .before .before .before .before .before .before .before .before .before .before .before .before .before .before .before .before .before .pre .1 .0 .rep))) .findings
+report-requires c κs = room-after (c .before .before .before .before .before .before .before .before .before .before .before .before .before .before .before .before .before .pre .1 .0) (c .before .before .before .before .before .before .before .before .before .before .before .before .before .before .before .before .before .args .source .now) (c .before .before .before .before .before .before .before .before .before .before .before .before .before .before .before .before .before .args .counts .number) (knownIn (c .before .before .before .before .before .before .before .before .before .before .before .before .before .before .before .before .before .args .source .now) (c .before .before .before .before .before .before .before .before .before .before .before .before .before .before .before .before .before .args .bindings .now) (c .before .before .before .before .before .before .before .before .before .before .before .before .before .before .before .before .before .args .imports .now) (c .before .before .before .before .before .before .before .before .before .before .before .before .before .before .before .before .before .args .counts)) (c .before .before .before .before .before .before .before .judge .ensures (c .before .before .before .before .before .before .before .before .before .before .before .before .before .before .before .before .before .args .counts .number) (knownIn (c .before .before .before .before .before .before .before .before .before .before .before .before .before .before .before .before .before .args .source .now) (c .before .before .before .before .before .before .before .before .before .before .before .before .before .before .before .before .before .args .bindings .now) (c .before .before .before .before .before .before .before .before .before .before .before .before .before .before .before .before .before .args .imports .now) (c .before .before .before .before .before .before .before .before .before .before .before .before .before .before .before .before .before .args .counts)) (c .before .before .before .before .before .before .before .before .before .before .before .before .before .before .before .before .before .pre .1 .0 .tree) refl (record { is = refl }) (at-row (c .before .before .before .before .before .before .before .before .before .node-word .ensures) (c .before .before .before .before .before .before .before .before .before .before .before .before .before .before .before .before .before .pre .1 .0 .rep))) .findings
 
 returns : tie.Need-returns
-returns c = λ n k e kn rep. let r = at-row (c .before .before .before .before .before .before .before .before .before .before .before .before .before .before .before .before .node-word .ensures) rep in expr-val (c .before .before .before .before .before .before .before .before .before .before .before .before .before .before .before .before .before .before .before .before .before .before .before .before .args .source .now) n k e (c .before .before .before .before .before .before .before .before .before .before .before .before .before .before .judge .ensures n k e kn r) (c .before .before .before .before .before .before .before .before .before .out .given .1) (c .before .before .before .before .before .node-word2 .ensures ∙ first-at r) (c .before .before .before .before .tell .ensures _ (c .before .before .before .before .before .before .before .before .before .before .before .before .before .before .before .before .before .before .before .before .before .before .before .before .pre .0 .lexed))
+returns c = λ n k e num kn rep. let r = at-row (c .before .before .before .before .before .before .before .before .before .before .before .before .before .before .before .before .node-word .ensures) rep in expr-val (c .before .before .before .before .before .before .before .before .before .before .before .before .before .before .before .before .before .before .before .before .before .before .before .before .args .source .now) n k e (c .before .before .before .before .before .before .before .before .before .before .before .before .before .before .judge .ensures n k e num kn r) num (c .before .before .before .before .before .before .before .before .before .out .given .1) (c .before .before .before .before .before .node-word2 .ensures ∙ first-at r) (c .before .before .before .before .tell .ensures _ (c .before .before .before .before .before .before .before .before .before .before .before .before .before .before .before .before .before .before .before .before .before .before .before .before .pre .0 .lexed))
 
 returns-2 : tie.Need-returns-2
-returns-2 c = λ n k e kn rep. expr-err (c .before .before .before .before .before .before .before .before .before .before .before .before .before .before .before .before .before .before .before .before .args .source .now) n k e (c .before .before .before .before .before .before .before .before .before .before .judge .ensures n k e kn (at-row (c .before .before .before .before .before .before .before .before .before .before .before .before .node-word .ensures) rep)) (c .before .before .before .before .before .out2 .given .1) (c .before .before .report .ensures)
+returns-2 c = λ n k e num kn rep. expr-err (c .before .before .before .before .before .before .before .before .before .before .before .before .before .before .before .before .before .before .before .before .args .source .now) n k e (c .before .before .before .before .before .before .before .before .before .before .judge .ensures n k e num kn (at-row (c .before .before .before .before .before .before .before .before .before .before .before .before .node-word .ensures) rep)) num (c .before .before .before .before .before .out2 .given .1) (c .before .before .report .ensures)
 
 returns-3 : tie.Need-returns-3
-returns-3 c = λ n k e kn rep. expr-none (c .before .before .before .before .before .before .before .before .before .before .before .before .before .before .before .args .source .now) n k e (c .before .before .before .before .before .judge .ensures n k e kn (at-row (c .before .before .before .before .before .before .before .node-word .ensures) rep)) (c .enum-told .given .1)
+returns-3 c = λ n k e num kn rep. expr-none (c .before .before .before .before .before .before .before .before .before .before .before .before .before .before .before .args .source .now) n k e (c .before .before .before .before .before .judge .ensures n k e num kn (at-row (c .before .before .before .before .before .before .before .node-word .ensures) rep)) num (c .enum-told .given .1)
 
 pub expr-stmt-spec : {M : Type 1} → statement M
 expr-stmt-spec =

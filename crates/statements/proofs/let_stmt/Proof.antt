@@ -26,10 +26,10 @@ bound-twice-requires : tie.Need-bound-twice-requires
 bound-twice-requires c κs = (some-row (c .before .before .before .before .before .before .before .before .before .before .before .before .before .before .before .pre .0 .lexed), omega (arith, c .before .before .before .before .before .before .before .before .before .before .before .before .before .before .before .pre .1 .0 .room))
 
 returns : tie.Need-returns
-returns c = λ n k e u kn rep. lets-again (c .before .before .before .before .before .before .before .before .before .before .before .before .before .before .before .before .before .before .args .source .now) n _ _ (c .before .before .before .before .before .before .before .before .before .before .before .node-word .ensures) k e (c .before .before .before .before .before .before .before .before .before .before .before .before .before .before .before .before .before .before .args .bindings .now) (c .before .before .before .before .before .before .before .before .before .before .before .before .before .before .before .before .before .before .args .imports .now) u (c .before .before .before .before .before .before .before .before .before .before .before .before .before .before .before .before .before .before .args .diags .now) (c .before .before .before .before .before .before .before .before .before .before .before .before .before .before .before .before .before .before .args .counts) kn (c .before .before .before .before .before .before .before .find .ensures) (c .before .before .before .before .before .before .before .before .before .name-at .ensures _ (c .before .before .before .before .before .before .before .before .before .before .token-at .ensures _ (c .before .before .before .before .before .before .before .before .before .before .before .before .before .before .before .before .before .before .pre .0 .lexed))) (c .before .before .before .before .before .if1 .taken) (c .before .before .before .before .word .ensures) (c .before .before .before .before .before .before .before .before .before .before .token-at .ensures _ (c .before .before .before .before .before .before .before .before .before .before .before .before .before .before .before .before .before .before .pre .0 .lexed)) (c .before .before .bound-twice .ensures _ (c .before .before .before .before .before .before .before .before .before .before .before .before .before .before .before .before .before .before .pre .0 .lexed))
+returns c = λ n k e u num kn rep. lets-again (c .before .before .before .before .before .before .before .before .before .before .before .before .before .before .before .before .before .before .args .source .now) n _ _ (c .before .before .before .before .before .before .before .before .before .before .before .node-word .ensures) k e (c .before .before .before .before .before .before .before .before .before .before .before .before .before .before .before .before .before .before .args .bindings .now) (c .before .before .before .before .before .before .before .before .before .before .before .before .before .before .before .before .before .before .args .imports .now) u (c .before .before .before .before .before .before .before .before .before .before .before .before .before .before .before .before .before .before .args .diags .now) (c .before .before .before .before .before .before .before .before .before .before .before .before .before .before .before .before .before .before .args .counts) kn num (c .before .before .before .before .before .before .before .find .ensures) (c .before .before .before .before .before .before .before .before .before .name-at .ensures _ (c .before .before .before .before .before .before .before .before .before .before .token-at .ensures _ (c .before .before .before .before .before .before .before .before .before .before .before .before .before .before .before .before .before .before .pre .0 .lexed))) (c .before .before .before .before .before .if1 .taken) (c .before .before .before .before .word .ensures) (c .before .before .before .before .before .before .before .before .before .before .token-at .ensures _ (c .before .before .before .before .before .before .before .before .before .before .before .before .before .before .before .before .before .before .pre .0 .lexed)) (c .before .before .bound-twice .ensures _ (c .before .before .before .before .before .before .before .before .before .before .before .before .before .before .before .before .before .before .pre .0 .lexed))
 
 returns-2 : tie.Need-returns-2
-returns-2 c = λ n k e u kn rep. lets-full (c .before .before .before .before .before .before .before .before .before .before .before .before .before .before .before .args .source .now) n _ _ (c .before .before .before .before .before .before .before .before .node-word .ensures) k e (c .before .before .before .before .before .before .before .before .before .before .before .before .before .before .before .args .bindings .now) (c .before .before .before .before .before .before .before .before .before .before .before .before .before .before .before .args .imports .now) u (c .before .before .before .before .before .before .before .before .before .before .before .before .before .before .before .args .diags .now) (c .before .before .before .before .before .before .before .before .before .before .before .before .before .before .before .args .counts) kn (c .before .before .before .before .find .ensures) (c .before .before .before .before .before .before .name-at .ensures _ (c .before .before .before .before .before .before .before .token-at .ensures _ (c .before .before .before .before .before .before .before .before .before .before .before .before .before .before .before .pre .0 .lexed))) (c .before .before .if1 .left) (c .if2 .taken)
+returns-2 c = λ n k e u num kn rep. lets-full (c .before .before .before .before .before .before .before .before .before .before .before .before .before .before .before .args .source .now) n _ _ (c .before .before .before .before .before .before .before .before .node-word .ensures) k e (c .before .before .before .before .before .before .before .before .before .before .before .before .before .before .before .args .bindings .now) (c .before .before .before .before .before .before .before .before .before .before .before .before .before .before .before .args .imports .now) u (c .before .before .before .before .before .before .before .before .before .before .before .before .before .before .before .args .diags .now) (c .before .before .before .before .before .before .before .before .before .before .before .before .before .before .before .args .counts) kn num (c .before .before .before .before .find .ensures) (c .before .before .before .before .before .before .name-at .ensures _ (c .before .before .before .before .before .before .before .token-at .ensures _ (c .before .before .before .before .before .before .before .before .before .before .before .before .before .before .before .pre .0 .lexed))) (c .before .before .if1 .left) (c .if2 .taken)
 
 node-word-requires-2 : tie.Need-node-word-requires-2
 node-word-requires-2 c κs = (c .before .before .before .before .before .before .before .before .before .before .before .before .before .before .before .pre .1 .1, omega arith)
@@ -38,10 +38,10 @@ judge-requires : tie.Need-judge-requires
 judge-requires c κs = ((c .before .before .before .before .before .before .before .before .before .before .before .before .before .before .before .before .before .pre .0), fits-expr (c .before .before .before .before .before .before .before .before .before .before .before .before .before .before .before .before .before .pre .1 .0) (c .before .node-word2 .ensures))
 
 bind-requires : tie.Need-bind-requires
-bind-requires c κs = room-after (c .before .before .before .before .before .before .before .before .before .before .before .before .before .before .before .before .before .before .before .before .before .pre .1 .0) (c .before .before .before .before .before .before .before .before .before .before .before .before .before .before .before .before .before .before .before .before .before .args .source .now) 0 (knownIn (c .before .before .before .before .before .before .before .before .before .before .before .before .before .before .before .before .before .before .before .before .before .args .source .now) (c .before .before .before .before .before .before .before .before .before .before .before .before .before .before .before .before .before .before .before .before .before .args .bindings .now) (c .before .before .before .before .before .before .before .before .before .before .before .before .before .before .before .before .before .before .before .before .before .args .imports .now) (c .before .before .before .before .before .before .before .before .before .before .before .before .before .before .before .before .before .before .before .before .before .args .counts)) (c .before .before .before .judge .ensures 0 (knownIn (c .before .before .before .before .before .before .before .before .before .before .before .before .before .before .before .before .before .before .before .before .before .args .source .now) (c .before .before .before .before .before .before .before .before .before .before .before .before .before .before .before .before .before .before .before .before .before .args .bindings .now) (c .before .before .before .before .before .before .before .before .before .before .before .before .before .before .before .before .before .before .before .before .before .args .imports .now) (c .before .before .before .before .before .before .before .before .before .before .before .before .before .before .before .before .before .before .before .before .before .args .counts)) (c .before .before .before .before .before .before .before .before .before .before .before .before .before .before .before .before .before .before .before .before .before .pre .1 .0 .tree) (record { is = refl }) (at-row (c .before .before .before .before .before .node-word2 .ensures) (c .before .before .before .before .before .before .before .before .before .before .before .before .before .before .before .before .before .before .before .before .before .pre .1 .0 .rep))) .findings
+bind-requires c κs = room-after (c .before .before .before .before .before .before .before .before .before .before .before .before .before .before .before .before .before .before .before .before .before .pre .1 .0) (c .before .before .before .before .before .before .before .before .before .before .before .before .before .before .before .before .before .before .before .before .before .args .source .now) (c .before .before .before .before .before .before .before .before .before .before .before .before .before .before .before .before .before .before .before .before .before .args .counts .number) (knownIn (c .before .before .before .before .before .before .before .before .before .before .before .before .before .before .before .before .before .before .before .before .before .args .source .now) (c .before .before .before .before .before .before .before .before .before .before .before .before .before .before .before .before .before .before .before .before .before .args .bindings .now) (c .before .before .before .before .before .before .before .before .before .before .before .before .before .before .before .before .before .before .before .before .before .args .imports .now) (c .before .before .before .before .before .before .before .before .before .before .before .before .before .before .before .before .before .before .before .before .before .args .counts)) (c .before .before .before .judge .ensures (c .before .before .before .before .before .before .before .before .before .before .before .before .before .before .before .before .before .before .before .before .before .args .counts .number) (knownIn (c .before .before .before .before .before .before .before .before .before .before .before .before .before .before .before .before .before .before .before .before .before .args .source .now) (c .before .before .before .before .before .before .before .before .before .before .before .before .before .before .before .before .before .before .before .before .before .args .bindings .now) (c .before .before .before .before .before .before .before .before .before .before .before .before .before .before .before .before .before .before .before .before .before .args .imports .now) (c .before .before .before .before .before .before .before .before .before .before .before .before .before .before .before .before .before .before .before .before .before .args .counts)) (c .before .before .before .before .before .before .before .before .before .before .before .before .before .before .before .before .before .before .before .before .before .pre .1 .0 .tree) refl (record { is = refl }) (at-row (c .before .before .before .before .before .node-word2 .ensures) (c .before .before .before .before .before .before .before .before .before .before .before .before .before .before .before .before .before .before .before .before .before .pre .1 .0 .rep))) .findings
 
 returns-3 : tie.Need-returns-3
-returns-3 c = λ n k e u kn rep. lets-bound (c .before .before .before .before .before .before .before .before .before .before .before .before .before .before .before .before .before .before .before .before .before .before .before .before .args .source .now) n _ _ (c .before .before .before .before .before .before .before .before .before .before .before .before .before .before .before .before .before .node-word .ensures) k e (c .before .before .before .before .before .before .before .before .before .before .before .before .before .before .before .before .before .before .before .before .before .before .before .before .args .bindings .now) (c .before .before .before .before .before .before .before .before .before .before .before .before .before .before .before .before .before .before .before .before .before .before .before .before .args .imports .now) u (c .before .before .before .before .before .before .before .before .before .before .before .before .before .before .before .before .before .before .before .before .before .before .before .before .args .diags .now) (c .before .before .before .before .before .before .before .before .before .before .before .before .before .before .before .before .before .before .before .before .before .before .before .before .args .counts) kn (c .before .before .before .before .before .before .before .before .before .before .before .before .before .find .ensures) (c .before .before .before .before .before .before .before .before .before .before .before .before .before .before .before .name-at .ensures _ (c .before .before .before .before .before .before .before .before .before .before .before .before .before .before .before .before .token-at .ensures _ (c .before .before .before .before .before .before .before .before .before .before .before .before .before .before .before .before .before .before .before .before .before .before .before .before .pre .0 .lexed))) (c .before .before .before .before .before .before .before .before .before .before .before .if1 .left) (c .before .before .before .before .before .before .before .before .before .if2 .left) (c .before .before .bind .ensures .is _ _ u n k _ e (c .before .before .before .before .before .before .before .before .before .if2 .left) (c .before .before .before .before .before .before .before .before .before .before .before .before .before .before .before .before .token-at .ensures _ (c .before .before .before .before .before .before .before .before .before .before .before .before .before .before .before .before .before .before .before .before .before .before .before .before .pre .0 .lexed)) (c .before .before .before .before .before .before .before .before .before .before .before .before .before .before .key-of .ensures ∙ ap keyOf (c .before .before .before .before .before .before .before .before .before .before .before .before .before .before .before .name-at .ensures _ (c .before .before .before .before .before .before .before .before .before .before .before .before .before .before .before .before .token-at .ensures _ (c .before .before .before .before .before .before .before .before .before .before .before .before .before .before .before .before .before .before .before .before .before .before .before .before .pre .0 .lexed)))) (c .before .before .before .before .before .before .judge .ensures n k e kn (at-row (c .before .before .before .before .before .before .before .before .node-word2 .ensures) rep)))
+returns-3 c = λ n k e u num kn rep. lets-bound (c .before .before .before .before .before .before .before .before .before .before .before .before .before .before .before .before .before .before .before .before .before .before .before .before .args .source .now) n _ _ (c .before .before .before .before .before .before .before .before .before .before .before .before .before .before .before .before .before .node-word .ensures) k e (c .before .before .before .before .before .before .before .before .before .before .before .before .before .before .before .before .before .before .before .before .before .before .before .before .args .bindings .now) (c .before .before .before .before .before .before .before .before .before .before .before .before .before .before .before .before .before .before .before .before .before .before .before .before .args .imports .now) u (c .before .before .before .before .before .before .before .before .before .before .before .before .before .before .before .before .before .before .before .before .before .before .before .before .args .diags .now) (c .before .before .before .before .before .before .before .before .before .before .before .before .before .before .before .before .before .before .before .before .before .before .before .before .args .counts) kn num (c .before .before .before .before .before .before .before .before .before .before .before .before .before .find .ensures) (c .before .before .before .before .before .before .before .before .before .before .before .before .before .before .before .name-at .ensures _ (c .before .before .before .before .before .before .before .before .before .before .before .before .before .before .before .before .token-at .ensures _ (c .before .before .before .before .before .before .before .before .before .before .before .before .before .before .before .before .before .before .before .before .before .before .before .before .pre .0 .lexed))) (c .before .before .before .before .before .before .before .before .before .before .before .if1 .left) (c .before .before .before .before .before .before .before .before .before .if2 .left) (c .before .before .bind .ensures .is _ _ u n k _ e num (c .before .before .before .before .before .before .before .before .before .if2 .left) (c .before .before .before .before .before .before .before .before .before .before .before .before .before .before .before .before .token-at .ensures _ (c .before .before .before .before .before .before .before .before .before .before .before .before .before .before .before .before .before .before .before .before .before .before .before .before .pre .0 .lexed)) (c .before .before .before .before .before .before .before .before .before .before .before .before .before .before .key-of .ensures ∙ ap keyOf (c .before .before .before .before .before .before .before .before .before .before .before .before .before .before .before .name-at .ensures _ (c .before .before .before .before .before .before .before .before .before .before .before .before .before .before .before .before .token-at .ensures _ (c .before .before .before .before .before .before .before .before .before .before .before .before .before .before .before .before .before .before .before .before .before .before .before .before .pre .0 .lexed)))) (c .before .before .before .before .before .before .judge .ensures n k e num kn (at-row (c .before .before .before .before .before .before .before .before .node-word2 .ensures) rep)))
 
 pub let-stmt-spec : {M : Type 1} → statement M
 let-stmt-spec =
