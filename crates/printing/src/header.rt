@@ -16,6 +16,8 @@ pub enum Mode {
     Parse,
     // rows of tokens, nodes, diagnostics and statements
     Check,
+    // the same
+    Grouped,
     // the line is not understood, or has not as many numbers as the mode has tables
     Unknown,
 }
@@ -53,6 +55,9 @@ fn mode_of(name: &[u8]) -> Mode {
     }
     if same(name, b"check") {
         return Mode::Check;
+    }
+    if same(name, b"grouped") {
+        return Mode::Grouped;
     }
     Mode::Unknown
 }
@@ -130,6 +135,7 @@ fn tables(mode: Mode) -> usize {
         Mode::Canon => 2,
         Mode::Parse => 2,
         Mode::Check => 4,
+        Mode::Grouped => 4,
         Mode::Unknown => 0,
     }
 }

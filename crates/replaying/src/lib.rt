@@ -1,10 +1,11 @@
 // Runs a proved library on the sources of standard input and prints its answers in the oracle's format.
 //
 // The input has parts. The first line of a part says what to run and the room of each lent table: `scan ROWS`, `lex ROWS`,
-// `canon TOKENS BYTES`, `parse TOKENS NODES` or `check TOKENS NODES DIAGNOSTICS STATEMENTS`. Each line after it is a source in
-// hex, up to one that starts with `+`: what stands after that is the first line of a further part. An answer ends with a line
-// `--`. Where the input is none of this, one line says `bad input` and nothing follows. Where a read or a write fails, a line on
-// standard error says so and nothing follows: what was answered before are whole answers to sources that were read whole.
+// `canon TOKENS BYTES`, `parse TOKENS NODES`, `check TOKENS NODES DIAGNOSTICS STATEMENTS`, or `grouped` with the same four. Each
+// line after it is a source in hex, up to one that starts with `+`: what stands after that is the first line of a further part.
+// An answer ends with a line `--`. Where the input is none of this, one line says `bad input` and nothing follows. Where a read or
+// a write fails, a line on standard error says so and nothing follows: what was answered before are whole answers to sources that
+// were read whole.
 mod lent;
 mod sources;
 

@@ -26,6 +26,7 @@ fn answer(
         Mode::Canon => canon_mode::answer(source, tokens, text, out, at),
         Mode::Parse => showing_tree::answer(source, tokens, nodes, out, at),
         Mode::Check => showing_check::answer(source, tokens, nodes, diags, stmts, out, at),
+        Mode::Grouped => showing_check::grouped(source, tokens, nodes, diags, stmts, out, at),
         Mode::Unknown => at,
     }
 }

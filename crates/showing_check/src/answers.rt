@@ -1,4 +1,4 @@
-// Whole answers: what was found, what the check program prints, and what the mode `check` does.
+// Whole answers: what was found, what the check program prints, and what the modes `check` and `grouped` do.
 use crate::diagnostic;
 use crate::statement;
 use checker::CheckAnswer;
@@ -28,7 +28,8 @@ fn findings<'a>(
     out: &mut [u8],
     at: usize,
 ) -> usize {
-    let p = diagnostic::diagnostics(source, text, diags, sum(errors, warnings), out, at);
+    let found = sum(errors, warnings);
+    let p = diagnostic::diagnostics(source, text, diags, found, false, out, at);
     diagnostic::counts(errors, warnings, out, p)
 }
 
@@ -127,4 +128,37 @@ pub fn answer(
 ) -> usize {
     let checked = checker::check_source(source, tokens, nodes, diags, stmts);
     judged(source, tokens, diags, stmts, checked, out, at)
+}
+
+// The findings, each after the number of its statement, and the counts.
+fn numbered(
+    source: &[u8],
+    diags: &[u64],
+    checked: CheckAnswer,
+    out: &mut [u8],
+    at: usize,
+) -> usize {
+    let v = checked.verdict;
+    if v.number != Verdict::DONE {
+        return verdict::refused(v, out, at);
+    }
+    let table = Constants::new();
+    let text = table.text;
+    let found = sum(checked.errors, checked.warnings);
+    let p = diagnostic::diagnostics(source, &text, diags, found, true, out, at);
+    diagnostic::counts(checked.errors, checked.warnings, out, p)
+}
+
+// The mode `grouped`.
+pub fn grouped(
+    source: &[u8],
+    tokens: &mut [u64],
+    nodes: &mut [u64],
+    diags: &mut [u64],
+    stmts: &mut [u64],
+    out: &mut [u8],
+    at: usize,
+) -> usize {
+    let checked = checker::check_source(source, tokens, nodes, diags, stmts);
+    numbered(source, diags, checked, out, at)
 }

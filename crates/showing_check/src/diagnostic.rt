@@ -110,12 +110,35 @@ fn line_of<'a>(
     line(name, text, d, out, at)
 }
 
+// The number of a statement, and a blank.
+fn number(statement: u64, out: &mut [u8], at: usize) -> usize {
+    let p = output::number(out, at, statement);
+    output::byte(out, p, b' ')
+}
+
+// The row's line. Where it is numbered, the number of its statement stands before it.
+fn line_in<'a>(
+    source: &'a [u8],
+    text: &'a [u8],
+    row: DiagnosticRow,
+    numbered: bool,
+    out: &mut [u8],
+    at: usize,
+) -> usize {
+    if numbered {
+        let p = number(row.statement, out, at);
+        return line_of(source, text, row, out, p);
+    }
+    line_of(source, text, row, out, at)
+}
+
 // The first `count` rows of the table, or as many as it has.
 pub fn diagnostics<'a>(
     source: &'a [u8],
     text: &'a [u8],
     diags: &[u64],
     count: u64,
+    numbered: bool,
     out: &mut [u8],
     at: usize,
 ) -> usize {
@@ -127,7 +150,14 @@ pub fn diagnostics<'a>(
         if left == 0 {
             return p;
         }
-        p = line_of(source, text, rows::diagnostic_row(diags, i), out, p);
+        p = line_in(
+            source,
+            text,
+            rows::diagnostic_row(diags, i),
+            numbered,
+            out,
+            p,
+        );
         i += 1;
         left -= 1;
     }

@@ -7,5 +7,6 @@ mod texts;
 mod types;
 
 pub use answers::answer;
+pub use answers::grouped;
 pub use answers::report;
 pub use answers::tell_unshown;

@@ -765,11 +765,28 @@ pub fn check(out: &mut Out, src: &[u8], opts: Options) {
         Ok(stmts) => stmts,
         Err(err) => return refusal(out, &err),
     };
-    let held = hold(root(opts), stmts, |diag| diagnostic(out, &diag));
+    let held = hold(root(opts), stmts, |_, diag| diagnostic(out, &diag));
     put!(out, "errors {} warnings {}\n", held.errors, held.warnings);
     if held.errors == 0 {
         for stmt in &held.stmts {
             held_stmt(out, stmt, &held, opts);
         }
     }
+}
+
+/// A diagnostic's line after the number of its statement
+pub fn numbered(out: &mut Out, number: usize, diag: &Diagnostic) {
+    put!(out, "{number} ");
+    diagnostic(out, diag);
+}
+
+pub fn grouped(out: &mut Out, src: &[u8], opts: Options) {
+    let stmts = match judged(src, opts) {
+        Ok(stmts) => stmts,
+        Err(err) => return refusal(out, &err),
+    };
+    let held = hold(root(opts), stmts, |number, diag| {
+        numbered(out, number, &diag)
+    });
+    put!(out, "errors {} warnings {}\n", held.errors, held.warnings);
 }

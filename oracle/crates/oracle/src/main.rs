@@ -14,7 +14,7 @@ use std::process::ExitCode;
 use answer::{Options, Out};
 
 const USAGE: &str =
-    "usage: oracle scan|lex|parse|check|canon|decode [batch] [--raw] [--wide] [--bounds]
+    "usage: oracle scan|lex|parse|check|grouped|canon|decode [batch] [--raw] [--wide] [--bounds]
        oracle gen KIND SEED COUNT
        oracle samples FILE
        oracle self SEED COUNT
@@ -31,6 +31,7 @@ pub fn mode(name: &str) -> Option<Mode> {
         "lex" => answer::lex,
         "parse" => answer::parse,
         "check" => answer::check,
+        "grouped" => answer::grouped,
         "canon" => answer::canon,
         "decode" => |out, src, _| answer::decode(out, src),
         _ => return None,

@@ -1,5 +1,6 @@
 //! The oracle held against resynth, against itself, and against the samples.
 
+use std::cell::Cell;
 use std::process::ExitCode;
 
 use resynth::lex::{LexErrorKind, LexemeKind, Scanner, Tok, Token};
@@ -182,20 +183,23 @@ fn characters(report: &mut Report) {
     println!("from_utf8: {strings} strings against RFC 3629");
 }
 
-/// `hold` and the rest of `run` give what `check_in` gives
+/// `hold` and the rest of `run` give what `check_in` gives. Of `check_in` the statements are counted as
+/// it takes them.
 fn checks_agree(src: &[u8], opts: Options, report: &mut Report) {
     let (Ok(ours), Ok(theirs)) = (answer::tree(src, opts), answer::tree(src, opts)) else {
         return;
     };
     let mut our_diags = Vec::new();
-    let held = hold(answer::root(opts), ours, |diag| {
-        answer::diagnostic(&mut our_diags, &diag)
+    let held = hold(answer::root(opts), ours, |number, diag| {
+        answer::numbered(&mut our_diags, number, &diag)
     });
     let (errors, warnings) = (held.errors, held.warnings);
     let ours = held.finish();
     let mut their_diags = Vec::new();
+    let taken = Cell::new(0);
+    let theirs = theirs.into_iter().inspect(|_| taken.set(taken.get() + 1));
     let theirs = check_in(answer::root(opts), theirs, |diag| {
-        answer::diagnostic(&mut their_diags, &diag)
+        answer::numbered(&mut their_diags, taken.get(), &diag)
     });
     let same = our_diags == their_diags
         && match (ours, theirs) {
@@ -205,6 +209,52 @@ fn checks_agree(src: &[u8], opts: Options, report: &mut Report) {
         };
     if !same {
         report.difference("check", src);
+    }
+}
+
+/// A diagnostic's line in `grouped`: its number, the rest of the line, and the place there
+fn numbered(line: &str) -> Option<(usize, &str, (usize, usize))> {
+    let (number, rest) = line.split_once(' ')?;
+    let mut words = rest.split(' ').map(str::parse);
+    let place = (words.next()?.ok()?, words.next()?.ok()?);
+    Some((number.parse().ok()?, rest, place))
+}
+
+/// What `grouped` says of each diagnostic, its number aside, is what `check` says. Numbers never fall,
+/// each has one error at most, and each is that of the `;` which ends the statement, counted in the
+/// tokens.
+fn groups_agree(src: &[u8], opts: Options, report: &mut Report) {
+    let told = |mode: crate::Mode| {
+        let mut out = Vec::new();
+        mode(&mut out, src, opts);
+        String::from_utf8(out).expect("an answer is text")
+    };
+    let check = told(answer::check);
+    let grouped = told(answer::grouped);
+    let findings = check.lines().filter(|line| !line.starts_with("stmt "));
+    let plain = grouped
+        .lines()
+        .map(|line| numbered(line).map_or(line, |(_, rest, _)| rest));
+    let found: Vec<_> = grouped.lines().filter_map(numbered).collect();
+    let errors: Vec<usize> = found
+        .iter()
+        .filter(|(_, rest, _)| rest.split(' ').nth(2) == Some("E"))
+        .map(|&(number, ..)| number)
+        .collect();
+    let ends: Vec<(usize, usize)> = answer::tokens(src, opts)
+        .iter()
+        .flatten()
+        .filter(|tok| *tok.tok() == Tok::SemiColon)
+        .map(|tok| (tok.loc().line(), tok.loc().col()))
+        .collect();
+    let same = plain.eq(findings)
+        && found.is_sorted_by_key(|&(number, ..)| number)
+        && errors.is_sorted_by(|a, b| a < b)
+        && found.iter().all(|&(number, _, place)| {
+            number == 1 + ends.iter().filter(|&&end| end < place).count()
+        });
+    if !same {
+        report.difference("grouped", src);
     }
 }
 
@@ -289,6 +339,7 @@ pub fn selfcheck(seed: u64, count: u64) -> ExitCode {
                         ..Options::default()
                     };
                     checks_agree(src, opts, &mut report);
+                    groups_agree(src, opts, &mut report);
                 }
             }
             Ok(())

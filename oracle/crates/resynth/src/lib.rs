@@ -24,7 +24,7 @@ pub use check::bind::{Held, hold};
 /// `check_in`, as it is
 pub fn check_in(
     root: &'static libapi::Module,
-    stmts: Vec<ast::Stmt>,
+    stmts: impl IntoIterator<Item = ast::Stmt>,
     diag: impl FnMut(check::Diagnostic),
 ) -> Result<hir::Program, check::ErrorSummary> {
     check::check_in(root, stmts, diag)

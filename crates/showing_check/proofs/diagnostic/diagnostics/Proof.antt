@@ -6,10 +6,10 @@ use Rattle.showing_check.proofs.diagnostic.diagnostics.Statement.{state
 use Rattle.showing_check.proofs.diagnostic.diagnostics.Tie as tie
 
 abbrev Inv-loop : tie.InvT-loop
-Inv-loop source text diags count out₀ at rows p₀ left₀ i₀ out p left i = length out ≡ length out₀
+Inv-loop source text diags count numbered out₀ at rows p₀ left₀ i₀ out p left i = length out ≡ length out₀
 
 abbrev μ-loop : tie.MeasureT-loop
-μ-loop source text diags count out₀ at rows p₀ left₀ i₀ out p left i = left
+μ-loop source text diags count numbered out₀ at rows p₀ left₀ i₀ out p left i = left
 
 pub diagnostics-spec : {M : Type 1} → statement M
 diagnostics-spec =

@@ -7,6 +7,8 @@ mod resynth_bind;
 
 pub(crate) use resynth_bind::{ArgIn, Bound};
 
+use std::cell::Cell;
+
 use super::{Checker, Diagnostic, Stop};
 // resynth's bind.rs finds these in `super`
 use super::{SemanticError, SemanticErrorKind, Value, WarningKind};
@@ -24,15 +26,18 @@ pub struct Held {
     pub warnings: usize,
 }
 
-/// `Checker::run` up to the end of its loop
+/// `Checker::run` up to the end of its loop. The turns are counted: with a diagnostic `diag` is given
+/// the number of the turn that reported it, from 1.
 pub fn hold(
     root: &'static Module,
     stmts: impl IntoIterator<Item = ast::Stmt>,
-    diag: impl FnMut(Diagnostic),
+    mut diag: impl FnMut(usize, Diagnostic),
 ) -> Held {
-    let mut checker = Checker::new(root, diag);
+    let turn = Cell::new(0);
+    let mut checker = Checker::new(root, |found| diag(turn.get(), found));
     let mut out = Vec::new();
     for stmt in stmts {
+        turn.set(turn.get() + 1);
         match checker.stmt(stmt, &mut out) {
             Err(Stop::Reported(err)) => checker.error(err),
             Err(Stop::Poisoned) => {}
