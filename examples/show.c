@@ -4,7 +4,8 @@
  *
  * check: what is wrong with the script, and how many errors and warnings that are. tokens: a token to a line, with its
  * place. tree: a statement to a line, operator first. text: the canonical text.
- * A finding or a refusal is printed as FILE:LINE:COLUMN: error: TEXT, with the script's line and a caret below it.
+ * A finding or a refusal is printed as FILE:LINE:COLUMN: error: TEXT, with the script's line and a caret below it. The
+ * findings of one statement stand together, and an empty line between those of two.
  * Exit status: 0 shown, with no errors; 1 refused, or errors found; 2 not read, or not all of it written.
  */
 #define _POSIX_C_SOURCE 200112L /* fileno, isatty */
@@ -327,6 +328,16 @@ static void put_finding(const struct script *script, const terkinoha_diagnostic 
     point_at(script, found->line, found->column, 1, style);
 }
 
+/* Findings by their statements: the number never falls, so that another one begins the next group. */
+static void put_findings(const struct script *script, const terkinoha_diagnostic *found, uint64_t count)
+{
+    for (uint64_t i = 0; i < count; i++) {
+        if (i > 0 && found[i].statement != found[i - 1].statement)
+            fputc('\n', stderr);
+        put_finding(script, &found[i]);
+    }
+}
+
 /* Checks with tables of `room` rows: a script never has more findings, nodes or statements than tokens. */
 static int show_check(const struct script *script, size_t room)
 {
@@ -340,8 +351,7 @@ static int show_check(const struct script *script, size_t room)
     if (checked.verdict.number != TERKINOHA_DONE) {
         status = report(script, checked.verdict);
     } else {
-        for (uint64_t i = 0; i < checked.errors + checked.warnings; i++)
-            put_finding(script, &found[i]);
+        put_findings(script, found, checked.errors + checked.warnings);
         printf("errors %" PRIu64 " warnings %" PRIu64 "\n", checked.errors, checked.warnings);
     }
     free(statements);

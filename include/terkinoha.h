@@ -341,6 +341,21 @@ enum terkinoha_finding {
 
 /* A row of a diagnostic table, in the order in which the script is judged. The table's first rows,
  * as many as fit, are kept.
+ *
+ * `statement` is the number of the statement in which the finding stands. Imports, lets and
+ * expressions are numbered alike, from 1, in source order, those too of which nothing is found:
+ * statement n is the n-th node of kinds 11 to 13, and ends with the n-th `;`. The number names no row
+ * of the statement table. From row to row it never falls, and of the rows with one number at most one
+ * is an error. So the findings of a statement stand together, and one comparison tells where the next
+ * ones begin, here in a table that keeps `rows` findings:
+ *
+ *     for (uint64_t i = 0; i < rows; i++) {
+ *         if (i == 0 || found[i].statement != found[i - 1].statement)
+ *             puts("of one statement:");
+ *         puts(terkinoha_finding_text(found[i].kind));
+ *     }
+ *
+ * A script and its canonical text have the same numbers.
  */
 typedef struct terkinoha_diagnostic {
     uint64_t line;
@@ -354,6 +369,7 @@ typedef struct terkinoha_diagnostic {
     uint64_t first;
     uint64_t second;
     uint64_t third;
+    uint64_t statement; /* the number of its statement, from 1 */
 } terkinoha_diagnostic;
 
 enum terkinoha_statement_kind {
@@ -381,7 +397,7 @@ typedef struct terkinoha_statement {
 #define TERKINOHA_LEXEME_WORDS 6
 #define TERKINOHA_TOKEN_WORDS 7
 #define TERKINOHA_NODE_WORDS 5
-#define TERKINOHA_DIAGNOSTIC_WORDS 11
+#define TERKINOHA_DIAGNOSTIC_WORDS 12
 #define TERKINOHA_STATEMENT_WORDS 7
 
 /* A struct is just its words: a compiler that puts anything between them is refused here. */

@@ -84,7 +84,7 @@ pub fn first_bad(source: &[u8]) -> usize {
 pub const LEXEME_WORDS: usize = 6;
 pub const TOKEN_WORDS: usize = 7;
 pub const NODE_WORDS: usize = 5;
-pub const DIAGNOSTIC_WORDS: usize = 11;
+pub const DIAGNOSTIC_WORDS: usize = 12;
 pub const STATEMENT_WORDS: usize = 7;
 
 /// The largest source, which no script has more tokens or nodes than, `Eof` aside

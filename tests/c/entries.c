@@ -206,11 +206,21 @@ static int names_smaller(const terkinoha_node *node, uint64_t row)
     return (!by_first || node->first < row) && (!by_second || node->second < row);
 }
 
+/* How many tokens are `;`: each statement ends with one. */
+static uint64_t ends(struct lent lent, uint64_t tokens)
+{
+    const terkinoha_token *rows = (const terkinoha_token *)(const void *)lent.filled[ROWS].at;
+    uint64_t count = 0;
+    for (uint64_t i = 0; i < tokens; i++)
+        count += rows[i].kind == TERKINOHA_SEMI_COLON;
+    return count;
+}
+
 /* Children stand before their parents, and every node but a statement has one parent. */
 static void check_nodes(struct lent lent, uint64_t tokens, uint64_t count)
 {
     const terkinoha_node *rows = (const terkinoha_node *)(const void *)lent.filled[SECOND].at;
-    uint64_t waiting = 0; /* nodes that a parent must still take */
+    uint64_t waiting = 0, statements = 0; /* nodes that a parent must still take, and nodes of statements */
     for (uint64_t i = 0; i < count; i++) {
         int statement = rows[i].kind >= TERKINOHA_NODE_IMPORT;
         CHECK(rows[i].kind >= TERKINOHA_NODE_NAME && rows[i].kind <= TERKINOHA_NODE_EXPRESSION);
@@ -219,9 +229,10 @@ static void check_nodes(struct lent lent, uint64_t tokens, uint64_t count)
         CHECK(taken <= waiting);
         waiting -= taken;
         waiting += !statement;
+        statements += (uint64_t)statement;
         CHECK(!statement || waiting == 0);
     }
-    CHECK(waiting == 0 && count <= tokens);
+    CHECK(waiting == 0 && count <= tokens && statements == ends(lent, tokens));
 }
 
 /* ---- findings and statements ---- */
@@ -307,6 +318,51 @@ static int is_finding(const terkinoha_diagnostic *d, const terkinoha_token *toke
     }
 }
 
+/* A statement of the source: its number, 0 before the first; its tokens from `start` up to `end`, of which the last is `;`; and
+ * its node's row plus 1.
+ */
+struct numbered {
+    uint64_t number, start, end, node;
+};
+
+/* The statement after one. There is one. */
+static struct numbered next_statement(struct lent lent, struct outcome outcome, struct numbered last)
+{
+    const terkinoha_token *tokens = (const terkinoha_token *)(const void *)lent.filled[ROWS].at;
+    const terkinoha_node *nodes = (const terkinoha_node *)(const void *)lent.filled[SECOND].at;
+    struct numbered next = {last.number + 1, last.end, last.end, last.node};
+    do {
+        CHECK(next.end < outcome.counts[ROWS]);
+    } while (tokens[next.end++].kind != TERKINOHA_SEMI_COLON);
+    do {
+        CHECK(next.node < outcome.counts[SECOND]);
+    } while (nodes[next.node++].kind < TERKINOHA_NODE_IMPORT);
+    CHECK(next.start <= nodes[next.node - 1].token && nodes[next.node - 1].token < next.end);
+    return next;
+}
+
+/* The number of each is that of the statement that holds its token, so at least 1, and at most the last one's. It never falls,
+ * and no statement has two errors.
+ */
+static void check_numbers(struct lent lent, struct outcome outcome, uint64_t count)
+{
+    const terkinoha_token *tokens = (const terkinoha_token *)(const void *)lent.filled[ROWS].at;
+    const terkinoha_diagnostic *rows = (const terkinoha_diagnostic *)(const void *)lent.filled[FINDINGS].at;
+    struct numbered in = {0, 0, 0, 0};
+    uint64_t wrong = 0; /* the last statement that has an error */
+    for (uint64_t i = 0; i < count; i++) {
+        const terkinoha_token *token = token_at(lent, outcome.counts[ROWS], rows[i].line, rows[i].column);
+        CHECK(rows[i].statement >= 1 && rows[i].statement >= in.number);
+        while (in.number < rows[i].statement)
+            in = next_statement(lent, outcome, in);
+        CHECK(tokens + in.start <= token && token < tokens + in.end);
+        if (rows[i].severity == TERKINOHA_SEVERITY_ERROR) {
+            CHECK(wrong < rows[i].statement);
+            wrong = rows[i].statement;
+        }
+    }
+}
+
 /* Each stands at a token and is what its kind says; where all are kept, so many are errors. */
 static void check_findings(struct lent lent, struct outcome outcome)
 {
@@ -319,6 +375,7 @@ static void check_findings(struct lent lent, struct outcome outcome)
         CHECK(rows[i].severity == (uint64_t)(error ? TERKINOHA_SEVERITY_ERROR : TERKINOHA_SEVERITY_WARNING));
         errors += (uint64_t)error;
     }
+    check_numbers(lent, outcome, count);
     CHECK(count < outcome.counts[FINDINGS] ? errors <= outcome.errors : errors == outcome.errors);
     CHECK(outcome.counts[FINDINGS] <= outcome.counts[ROWS]); /* the room that the header says keeps them all */
 }
@@ -541,11 +598,43 @@ static void try_rooms(int entry, const void *source, size_t size, int side)
     give_back(entry, first.lent);
 }
 
+/* Two scripts, the second of which is the first one's canonical text, are checked alike: the same answer, the same findings, and
+ * those of the same statements. In the text each statement has a line of its own.
+ */
+static void check_alike(struct lent one, struct lent text)
+{
+    struct outcome a = tried(CHECK_SOURCE, one), b = tried(CHECK_SOURCE, text);
+    const terkinoha_diagnostic *of_one = (const terkinoha_diagnostic *)(const void *)one.filled[FINDINGS].at;
+    const terkinoha_diagnostic *of_text = (const terkinoha_diagnostic *)(const void *)text.filled[FINDINGS].at;
+    CHECK(a.verdict.number == b.verdict.number && a.verdict.kind == b.verdict.kind);
+    CHECK(a.errors == b.errors && memcmp(a.counts, b.counts, sizeof a.counts) == 0);
+    for (uint64_t i = 0; i < a.counts[FINDINGS]; i++) {
+        CHECK(of_one[i].kind == of_text[i].kind && of_one[i].statement == of_text[i].statement);
+        CHECK(of_text[i].statement == of_text[i].line);
+    }
+}
+
+static void try_text(const void *source, size_t size)
+{
+    struct rooms rooms = enough(CHECK_SOURCE, size);
+    struct lent lent = lend(CANONICALISE, source, size, enough(CANONICALISE, size), AT_END);
+    struct outcome outcome = tried(CANONICALISE, lent);
+    if (outcome.verdict.number == TERKINOHA_DONE) {
+        struct lent one = lend(CHECK_SOURCE, source, size, rooms, AT_END);
+        struct lent text = lend(CHECK_SOURCE, lent.filled[SECOND].at, outcome.counts[SECOND], rooms, AT_END);
+        check_alike(one, text);
+        give_back(CHECK_SOURCE, text);
+        give_back(CHECK_SOURCE, one);
+    }
+    give_back(CANONICALISE, lent);
+}
+
 static void try_source(const void *source, size_t size)
 {
     for (int entry = SCAN; entry < ENTRIES; entry++)
         for (int side = AT_START; side < SIDES; side++)
             try_rooms(entry, source, size, side);
+    try_text(source, size);
 }
 
 /* An empty area by a pointer that may not be followed is as good as NULL. */

@@ -1,6 +1,7 @@
 /* A fuzzer's target: the first eight bytes choose rooms, the rest is a source for every call. What a call may not do
  * stops the program: touch what lies beside an area, leave words after what it counted, leave anything where it
- * refuses, or answer what another call or a second one denies. tests/c/fuzz builds and runs it.
+ * refuses, number a finding otherwise than its statement, or answer what another call or a second one denies. tests/c/fuzz
+ * builds and runs it.
  */
 #include "terkinoha.h"
 
@@ -70,6 +71,40 @@ static terkinoha_parsed parse(const uint8_t *source, size_t size, size_t t, size
     return parsed;
 }
 
+static const terkinoha_diagnostic *findings(void)
+{
+    return (const terkinoha_diagnostic *)(areas[DIAGNOSTICS] + BESIDE);
+}
+
+/* The number of the statement that holds the token at a place: each ends with its `;`. 0 where there is no such token. */
+static uint64_t statement_at(uint64_t tokens, uint64_t line, uint64_t column)
+{
+    const terkinoha_token *rows = (const terkinoha_token *)(areas[TOKENS] + BESIDE);
+    uint64_t number = 1;
+    for (uint64_t i = 0; i < tokens; i++) {
+        if (rows[i].line == line && rows[i].column == column)
+            return number;
+        number += rows[i].kind == TERKINOHA_SEMI_COLON;
+    }
+    return 0;
+}
+
+/* Each finding has the number of its statement. It is 1 at least and never falls, and no statement has two errors. */
+static void numbered(uint64_t tokens, size_t rows)
+{
+    const terkinoha_diagnostic *found = findings();
+    uint64_t last = 1, wrong = 0; /* the statement before, and the last that has an error */
+    for (size_t i = 0; i < rows; i++) {
+        must(found[i].statement >= last, "a statement's number falls, or is 0");
+        last = found[i].statement;
+        must(last == statement_at(tokens, found[i].line, found[i].column), "the number of another statement");
+        if (found[i].severity == TERKINOHA_SEVERITY_ERROR) {
+            must(wrong < last, "two errors of a statement");
+            wrong = last;
+        }
+    }
+}
+
 static terkinoha_checked check(const uint8_t *source, size_t size, size_t t, size_t n, size_t d, size_t k)
 {
     terkinoha_checked checked =
@@ -81,13 +116,17 @@ static terkinoha_checked check(const uint8_t *source, size_t size, size_t t, siz
     LEFT(DIAGNOSTICS, terkinoha_diagnostic, d, (found < d ? found : d), checked.verdict.number);
     LEFT(STATEMENTS, terkinoha_statement, k, checked.statements, checked.verdict.number);
     must(checked.errors == 0 || checked.statements == 0, "statements beside an error");
+    numbered(checked.tokens, found < d ? found : d);
     return checked;
 }
 
-/* The canonical text of a source: lexed and canonicalised again it is itself. */
+/* The canonical text of a source: lexed and canonicalised again it is itself. Each statement has a line of its own there, and what
+ * is found has the same kinds and the same statements.
+ */
 static void text_stays(const uint8_t *source, size_t size, size_t t)
 {
     static char text[4 * ROWS], again[4 * ROWS];
+    static terkinoha_diagnostic of_source[ROWS];
     terkinoha_canonised one =
         terkinoha_canonicalise(source, size, LEND(TOKENS, terkinoha_token, t), t, text, sizeof text);
     LEFT(TOKENS, terkinoha_token, t, one.tokens, one.verdict.number);
@@ -98,10 +137,17 @@ static void text_stays(const uint8_t *source, size_t size, size_t t)
         terkinoha_canonicalise(text, one.bytes, LEND(TOKENS, terkinoha_token, t), t, again, sizeof again);
     must(memcmp(&one, &two, sizeof one) == 0 && memcmp(text, again, sizeof text) == 0, "a text that does not stay");
     terkinoha_checked a = check(source, size, t, t, ROWS, t);
+    memcpy(of_source, findings(), sizeof of_source);
     terkinoha_checked b = check((const uint8_t *)text, one.bytes, t, t, ROWS, t);
     must(a.verdict.number == b.verdict.number && a.verdict.kind == b.verdict.kind && a.nodes == b.nodes &&
              a.errors == b.errors && a.warnings == b.warnings && a.statements == b.statements,
          "a text that is checked otherwise");
+    for (size_t i = 0; i < ROWS; i++) {
+        const terkinoha_diagnostic *of_text = &findings()[i];
+        must(of_source[i].kind == of_text->kind && of_source[i].statement == of_text->statement,
+             "a text whose findings are of other statements");
+        must(of_text->statement == of_text->line, "a text with another line for a statement");
+    }
 }
 
 int LLVMFuzzerTestOneInput(const uint8_t *data, size_t size)

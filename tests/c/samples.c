@@ -259,56 +259,60 @@ static int refused(terkinoha_checked a, uint64_t number, uint64_t line, uint64_t
 struct checking {
     const char *source;
     uint64_t errors, warnings;
-    uint64_t rows[2][4]; /* of each finding its line, column, kind and type */
+    uint64_t rows[2][5]; /* of each finding its line, column, kind, type and statement */
     uint64_t value[3];   /* of the only statement its type and value */
 };
 
-#define NONE {0, 0, 0, 0}
+#define NONE {0, 0, 0, 0, 0}
 #define DISCARDED TERKINOHA_FINDING_DISCARDED_VALUE
 #define QUAD 0x01020304 /* 1.2.3.4 */
 
 static const struct checking checkings[] = {
     {"", 0, 0, {NONE, NONE}, {0, 0, 0}},
-    {"255;", 0, 1, {{1, 1, DISCARDED, TERKINOHA_TYPE_U8}, NONE}, {TERKINOHA_TYPE_U8, 255, 0}},
-    {"256;", 0, 1, {{1, 1, DISCARDED, TERKINOHA_TYPE_U16}, NONE}, {TERKINOHA_TYPE_U16, 256, 0}},
-    {"65535;", 0, 1, {{1, 1, DISCARDED, TERKINOHA_TYPE_U16}, NONE}, {TERKINOHA_TYPE_U16, 65535, 0}},
-    {"65536;", 0, 1, {{1, 1, DISCARDED, TERKINOHA_TYPE_U32}, NONE}, {TERKINOHA_TYPE_U32, 65536, 0}},
-    {"18446744073709551615;", 0, 1, {{1, 1, DISCARDED, TERKINOHA_TYPE_U64}, NONE}, {TERKINOHA_TYPE_U64, UINT64_MAX, 0}},
-    {"18446744073709551616;", 1, 0, {{1, 1, TERKINOHA_FINDING_INTEGRAL_TOO_LARGE, 0}, NONE}, {0, 0, 0}},
+    {"255;", 0, 1, {{1, 1, DISCARDED, TERKINOHA_TYPE_U8, 1}, NONE}, {TERKINOHA_TYPE_U8, 255, 0}},
+    {"256;", 0, 1, {{1, 1, DISCARDED, TERKINOHA_TYPE_U16, 1}, NONE}, {TERKINOHA_TYPE_U16, 256, 0}},
+    {"65535;", 0, 1, {{1, 1, DISCARDED, TERKINOHA_TYPE_U16, 1}, NONE}, {TERKINOHA_TYPE_U16, 65535, 0}},
+    {"65536;", 0, 1, {{1, 1, DISCARDED, TERKINOHA_TYPE_U32, 1}, NONE}, {TERKINOHA_TYPE_U32, 65536, 0}},
+    {"18446744073709551615;",
+     0,
+     1,
+     {{1, 1, DISCARDED, TERKINOHA_TYPE_U64, 1}, NONE},
+     {TERKINOHA_TYPE_U64, UINT64_MAX, 0}},
+    {"18446744073709551616;", 1, 0, {{1, 1, TERKINOHA_FINDING_INTEGRAL_TOO_LARGE, 0, 1}, NONE}, {0, 0, 0}},
     {"let x = 18446744073709551616;", 0, 0, {NONE, NONE}, {0, 0, 0}}, /* a let keeps it */
-    {"let x = 18446744073709551616;\nx;", 1, 0, {{2, 1, TERKINOHA_FINDING_INTEGRAL_TOO_LARGE, 0}, NONE}, {0, 0, 0}},
+    {"let x = 18446744073709551616;\nx;", 1, 0, {{2, 1, TERKINOHA_FINDING_INTEGRAL_TOO_LARGE, 0, 2}, NONE}, {0, 0, 0}},
     {"1.2.3.4/18446744073709551696;",
      0,
      2,
-     {{1, 9, TERKINOHA_FINDING_TRUNCATED, TERKINOHA_TYPE_U16}, {1, 1, DISCARDED, TERKINOHA_TYPE_SOCK4}},
+     {{1, 9, TERKINOHA_FINDING_TRUNCATED, TERKINOHA_TYPE_U16, 1}, {1, 1, DISCARDED, TERKINOHA_TYPE_SOCK4, 1}},
      {TERKINOHA_TYPE_SOCK4, QUAD, 80}},
     {"import bench;\n1.2.3.4/bench::BIG;",
      0,
      2,
-     {{2, 9, TERKINOHA_FINDING_TRUNCATED, TERKINOHA_TYPE_U16}, {2, 1, DISCARDED, TERKINOHA_TYPE_SOCK4}},
+     {{2, 9, TERKINOHA_FINDING_TRUNCATED, TERKINOHA_TYPE_U16, 2}, {2, 1, DISCARDED, TERKINOHA_TYPE_SOCK4, 2}},
      {TERKINOHA_TYPE_SOCK4, QUAD, 4464}},
-    {"1.2.3.4/65535;", 0, 1, {{1, 1, DISCARDED, TERKINOHA_TYPE_SOCK4}, NONE}, {TERKINOHA_TYPE_SOCK4, QUAD, 65535}},
-    {"1.2.3.4/true;", 0, 1, {{1, 1, DISCARDED, TERKINOHA_TYPE_SOCK4}, NONE}, {TERKINOHA_TYPE_SOCK4, QUAD, 1}},
-    {"1.2.3.4//80\n;", 0, 1, {{1, 1, DISCARDED, TERKINOHA_TYPE_IP4}, NONE}, {TERKINOHA_TYPE_IP4, QUAD, 0}},
-    {"let x = x;", 1, 0, {{1, 9, TERKINOHA_FINDING_UNKNOWN_NAME, 0}, NONE}, {0, 0, 0}},
-    {"let x = x;\nx;\nlet y = x/1;\ny;", 1, 0, {{1, 9, TERKINOHA_FINDING_UNKNOWN_NAME, 0}, NONE}, {0, 0, 0}},
-    {"let a = 1;\nlet a = b;", 1, 0, {{2, 5, TERKINOHA_FINDING_ALREADY_BOUND, 0}, NONE}, {0, 0, 0}},
-    {"b/c;", 1, 0, {{1, 1, TERKINOHA_FINDING_UNKNOWN_NAME, 0}, NONE}, {0, 0, 0}}, /* the left is judged first */
+    {"1.2.3.4/65535;", 0, 1, {{1, 1, DISCARDED, TERKINOHA_TYPE_SOCK4, 1}, NONE}, {TERKINOHA_TYPE_SOCK4, QUAD, 65535}},
+    {"1.2.3.4/true;", 0, 1, {{1, 1, DISCARDED, TERKINOHA_TYPE_SOCK4, 1}, NONE}, {TERKINOHA_TYPE_SOCK4, QUAD, 1}},
+    {"1.2.3.4//80\n;", 0, 1, {{1, 1, DISCARDED, TERKINOHA_TYPE_IP4, 1}, NONE}, {TERKINOHA_TYPE_IP4, QUAD, 0}},
+    {"let x = x;", 1, 0, {{1, 9, TERKINOHA_FINDING_UNKNOWN_NAME, 0, 1}, NONE}, {0, 0, 0}},
+    {"let x = x;\nx;\nlet y = x/1;\ny;", 1, 0, {{1, 9, TERKINOHA_FINDING_UNKNOWN_NAME, 0, 1}, NONE}, {0, 0, 0}},
+    {"let a = 1;\nlet a = b;", 1, 0, {{2, 5, TERKINOHA_FINDING_ALREADY_BOUND, 0, 2}, NONE}, {0, 0, 0}},
+    {"b/c;", 1, 0, {{1, 1, TERKINOHA_FINDING_UNKNOWN_NAME, 0, 1}, NONE}, {0, 0, 0}}, /* the left is judged first */
     {"1.2.3.4/65536/c;",
      1,
      1,
-     {{1, 9, TERKINOHA_FINDING_TRUNCATED, TERKINOHA_TYPE_U16},
-      {1, 1, TERKINOHA_FINDING_OPERAND_TYPE, TERKINOHA_TYPE_SOCK4}},
+     {{1, 9, TERKINOHA_FINDING_TRUNCATED, TERKINOHA_TYPE_U16, 1},
+      {1, 1, TERKINOHA_FINDING_OPERAND_TYPE, TERKINOHA_TYPE_SOCK4, 1}},
      {0, 0, 0}},
     {"\"\xc3\xa9\"; x;", /* a column counts bytes */
      1,
      1,
-     {{1, 1, DISCARDED, TERKINOHA_TYPE_BYTES}, {1, 7, TERKINOHA_FINDING_UNKNOWN_NAME, 0}},
+     {{1, 1, DISCARDED, TERKINOHA_TYPE_BYTES, 1}, {1, 7, TERKINOHA_FINDING_UNKNOWN_NAME, 0, 2}},
      {0, 0, 0}},
     {"import nope;\nimport nope;\nnope::x;", /* a failed import is silent later */
      1,
      1,
-     {{1, 8, TERKINOHA_FINDING_UNKNOWN_MODULE, 0}, {2, 8, TERKINOHA_FINDING_MULTIPLE_IMPORTS, 0}},
+     {{1, 8, TERKINOHA_FINDING_UNKNOWN_MODULE, 0, 1}, {2, 8, TERKINOHA_FINDING_MULTIPLE_IMPORTS, 0, 2}},
      {0, 0, 0}},
 };
 
@@ -321,7 +325,7 @@ static void try_checkings(void)
         for (size_t j = 0; j < 2; j++) {
             const uint64_t *row = c->rows[j];
             CHECK(found[j].line == row[0] && found[j].column == row[1]);
-            CHECK(found[j].kind == row[2] && found[j].type == row[3]);
+            CHECK(found[j].kind == row[2] && found[j].type == row[3] && found[j].statement == row[4]);
         }
         CHECK(statements[0].kind == held && statements[0].type == c->value[0]);
         CHECK(statements[0].low == c->value[1] && statements[0].high == c->value[2]);
@@ -333,11 +337,11 @@ static void try_finding_rows(void)
 {
     static const char source[] = "let p = 65536;\nlet a = 1.2.3.4/p;\na;\nb;\nlet c = b;\nc;\n";
     static const uint64_t rows[][TERKINOHA_DIAGNOSTIC_WORDS] = {
-        {2, 17, 2, TERKINOHA_FINDING_TRUNCATED, 0, 0, 0, TERKINOHA_TYPE_U16, 65536, 0, 0},
-        {3, 1, 2, TERKINOHA_FINDING_DISCARDED_VALUE, 0, 0, 0, TERKINOHA_TYPE_SOCK4, 0, 0, 0},
-        {4, 1, 1, TERKINOHA_FINDING_UNKNOWN_NAME, 1, 37, 38, 0, 0, 0, 0},
-        {5, 9, 1, TERKINOHA_FINDING_UNKNOWN_NAME, 1, 48, 49, 0, 0, 0, 0},
-        {0, 0, 0, 0, 0, 0, 0, 0, 0, 0, 0},
+        {2, 17, 2, TERKINOHA_FINDING_TRUNCATED, 0, 0, 0, TERKINOHA_TYPE_U16, 65536, 0, 0, 2},
+        {3, 1, 2, TERKINOHA_FINDING_DISCARDED_VALUE, 0, 0, 0, TERKINOHA_TYPE_SOCK4, 0, 0, 0, 3},
+        {4, 1, 1, TERKINOHA_FINDING_UNKNOWN_NAME, 1, 37, 38, 0, 0, 0, 0, 4},
+        {5, 9, 1, TERKINOHA_FINDING_UNKNOWN_NAME, 1, 48, 49, 0, 0, 0, 0, 5},
+        {0, 0, 0, 0, 0, 0, 0, 0, 0, 0, 0, 0},
     };
     struct rooms rooms = {2048, 2048, 128, 512};
     terkinoha_checked a = check(source, rooms);
@@ -365,26 +369,43 @@ static void try_kinds(void)
                                  "1.2.3.4/170141183460469231731687303715884105727;\n"
                                  "bench::ping;\n";
     static const uint64_t rows[][TERKINOHA_DIAGNOSTIC_WORDS] = {
-        {2, 8, 2, TERKINOHA_FINDING_MULTIPLE_IMPORTS, 1, 21, 26, 0, 0, 0, 0},
-        {3, 8, 1, TERKINOHA_FINDING_UNKNOWN_MODULE, 1, 35, 39, 0, 0, 0, 0},
-        {4, 9, 1, TERKINOHA_FINDING_UNKNOWN_NAME, 1, 49, 50, 0, 0, 0, 0},
-        {5, 5, 1, TERKINOHA_FINDING_ALREADY_BOUND, 1, 56, 57, 0, 4, 5, 0},
-        {6, 1, 1, TERKINOHA_FINDING_NOT_IMPORTED, 1, 63, 68, 0, 0, 0, 0},
-        {7, 8, 1, TERKINOHA_FINDING_UNKNOWN_ITEM, 1, 80, 81, 0, 1, 0, 0},
-        {8, 14, 1, TERKINOHA_FINDING_UNKNOWN_ITEM, 1, 96, 97, 0, 8, 0, 0},
-        {9, 8, 1, TERKINOHA_FINDING_NOT_A_MODULE, 1, 106, 110, 0, 0, 0, 0},
-        {10, 8, 1, TERKINOHA_FINDING_NOT_A_VALUE, 1, 122, 126, 0, 0, 0, 0},
-        {11, 13, 1, TERKINOHA_FINDING_NO_MEMBERS, 2, 26, 30, TERKINOHA_TYPE_FUNCTION, 0, 0, 0},
-        {12, 1, 1, TERKINOHA_FINDING_OPERAND_TYPE, 2, 26, 30, TERKINOHA_TYPE_FUNCTION, 1, TERKINOHA_TYPE_IP4, 1},
-        {13, 9, 1, TERKINOHA_FINDING_OPERAND_TYPE, 0, 0, 0, TERKINOHA_TYPE_BYTES, 2, TERKINOHA_TYPE_U16, 1},
-        {14, 1, 1, TERKINOHA_FINDING_INTEGRAL_TOO_LARGE, 0, 0, 0, 0, 0, 0, 0},
-        {15, 9, 2, TERKINOHA_FINDING_TRUNCATED, 0, 0, 0, TERKINOHA_TYPE_U16, UINT64_MAX, UINT64_MAX >> 1, 0},
-        {15, 1, 2, TERKINOHA_FINDING_DISCARDED_VALUE, 0, 0, 0, TERKINOHA_TYPE_SOCK4, 0, 0, 0},
-        {16, 1, 2, TERKINOHA_FINDING_DISCARDED_VALUE, 2, 26, 30, TERKINOHA_TYPE_FUNCTION, 0, 0, 0},
-        {0, 0, 0, 0, 0, 0, 0, 0, 0, 0, 0},
+        {2, 8, 2, TERKINOHA_FINDING_MULTIPLE_IMPORTS, 1, 21, 26, 0, 0, 0, 0, 2},
+        {3, 8, 1, TERKINOHA_FINDING_UNKNOWN_MODULE, 1, 35, 39, 0, 0, 0, 0, 3},
+        {4, 9, 1, TERKINOHA_FINDING_UNKNOWN_NAME, 1, 49, 50, 0, 0, 0, 0, 4},
+        {5, 5, 1, TERKINOHA_FINDING_ALREADY_BOUND, 1, 56, 57, 0, 4, 5, 0, 5},
+        {6, 1, 1, TERKINOHA_FINDING_NOT_IMPORTED, 1, 63, 68, 0, 0, 0, 0, 6},
+        {7, 8, 1, TERKINOHA_FINDING_UNKNOWN_ITEM, 1, 80, 81, 0, 1, 0, 0, 7},
+        {8, 14, 1, TERKINOHA_FINDING_UNKNOWN_ITEM, 1, 96, 97, 0, 8, 0, 0, 8},
+        {9, 8, 1, TERKINOHA_FINDING_NOT_A_MODULE, 1, 106, 110, 0, 0, 0, 0, 9},
+        {10, 8, 1, TERKINOHA_FINDING_NOT_A_VALUE, 1, 122, 126, 0, 0, 0, 0, 10},
+        {11, 13, 1, TERKINOHA_FINDING_NO_MEMBERS, 2, 26, 30, TERKINOHA_TYPE_FUNCTION, 0, 0, 0, 11},
+        {12, 1, 1, TERKINOHA_FINDING_OPERAND_TYPE, 2, 26, 30, TERKINOHA_TYPE_FUNCTION, 1, TERKINOHA_TYPE_IP4, 1, 12},
+        {13, 9, 1, TERKINOHA_FINDING_OPERAND_TYPE, 0, 0, 0, TERKINOHA_TYPE_BYTES, 2, TERKINOHA_TYPE_U16, 1, 13},
+        {14, 1, 1, TERKINOHA_FINDING_INTEGRAL_TOO_LARGE, 0, 0, 0, 0, 0, 0, 0, 14},
+        {15, 9, 2, TERKINOHA_FINDING_TRUNCATED, 0, 0, 0, TERKINOHA_TYPE_U16, UINT64_MAX, UINT64_MAX >> 1, 0, 15},
+        {15, 1, 2, TERKINOHA_FINDING_DISCARDED_VALUE, 0, 0, 0, TERKINOHA_TYPE_SOCK4, 0, 0, 0, 15},
+        {16, 1, 2, TERKINOHA_FINDING_DISCARDED_VALUE, 2, 26, 30, TERKINOHA_TYPE_FUNCTION, 0, 0, 0, 16},
+        {0, 0, 0, 0, 0, 0, 0, 0, 0, 0, 0, 0},
     };
     CHECK(done(check(source, enough), 12, 4, 0));
     CHECK(memcmp(found, rows, sizeof rows) == 0);
+}
+
+/* Statements are numbered, and not lines: of six the second and the third have no finding, and the fifth has two. In canonical
+ * text each has a line of its own, and the same number.
+ */
+static void try_numbers(void)
+{
+    static const char source[] = "x; let a = 1; # none\nimport bench;\n\nimport m; bench::LOOP\n/70000; y;";
+    static const uint64_t numbers[] = {1, 4, 5, 5, 6, 0}, lines[] = {1, 4, 5, 4, 5, 0};
+    CHECK(done(check(source, enough), 3, 2, 0));
+    for (size_t i = 0; i < sizeof numbers / sizeof *numbers; i++)
+        CHECK(found[i].statement == numbers[i] && found[i].line == lines[i]);
+
+    terkinoha_canonised a = terkinoha_canonicalise(source, sizeof source - 1, tokens, MOST, text, MOST);
+    CHECK(same(a.verdict, TERKINOHA_DONE, 0, 0, 0) && done(check(text, enough), 3, 2, 0));
+    for (size_t i = 0; i < sizeof numbers / sizeof *numbers; i++)
+        CHECK(found[i].statement == numbers[i] && found[i].line == numbers[i]);
 }
 
 /* All types of values. */
@@ -537,6 +558,7 @@ int main(void)
     try_checkings();
     try_finding_rows();
     try_kinds();
+    try_numbers();
     try_statement_rows();
     try_refusals();
     try_just_enough();

@@ -144,7 +144,7 @@ static void try_findings_story(void)
 
     check("a; b; f();", ROOM, &left); /* refused; its number is not looked at */
     for (int i = 0; i < ROOM; i++)
-        CHECK(left.found[i].kind == 0 && left.statements[i].kind == 0);
+        CHECK(left.found[i].kind == 0 && left.found[i].statement == 0 && left.statements[i].kind == 0);
     CHECK(left.counts[2] == 0 && left.counts[3] == 0); /* of an answer that says so */
 
     /* the table is full: rows are lost, and no counts */
@@ -152,11 +152,13 @@ static void try_findings_story(void)
                                              left.statements, ROOM);
     CHECK(full.verdict.number == TERKINOHA_DONE && full.errors == 3 && full.warnings == 2);
     CHECK(two[0].kind == TERKINOHA_FINDING_TRUNCATED && two[1].kind == TERKINOHA_FINDING_DISCARDED_VALUE);
+    CHECK(two[0].statement == 1 && two[1].statement == 2);
 
-    /* then a script with one finding, and one with none, each in the tables that the last left */
+    /* then a script with one finding, and one with none, each in the tables that the last left; statements are numbered anew */
     check("let a = b;", ROOM, &left);
     CHECK(left.verdict.number == TERKINOHA_DONE && left.counts[2] == 1 && left.counts[3] == 0);
     CHECK(left.found[0].kind == TERKINOHA_FINDING_UNKNOWN_NAME && left.found[1].kind == 0);
+    CHECK(left.found[0].statement == 1 && left.found[1].statement == 0);
     check("let b = 1;", ROOM, &left);
     CHECK(left.verdict.number == TERKINOHA_DONE && left.counts[2] == 0 && left.counts[3] == 0);
     CHECK(left.found[0].kind == 0);
