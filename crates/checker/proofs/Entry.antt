@@ -18,7 +18,7 @@ use Rattle.language.specs.Judgements as judgements
 use Rattle.language.specs.Judgements.{Diag, Held, Outcome, errorsIn, warningsIn, judgeAll}
 use Rattle.language.specs.Findings.{diagRow, diagWidth, stmtRow}
 use Rattle.language.specs.Numbers as numbers
-use Rattle.language.specs.Numbers.{verdict, tokenOf, placed, tokenPlace, parseAnswer, parseTokens, parseNodes, parsedNodes, statementsOf, firstCall, checked, refusedCheck, judgedWithin, checkAnswer, checkTokens, checkNodes, checkDiags, checkStmts}
+use Rattle.language.specs.Numbers.{sum, verdict, tokenOf, placed, tokenPlace, parseAnswer, parseTokens, parseNodes, parsedNodes, statementsOf, firstCall, checked, refusedCheck, judgedWithin, checkAnswer, checkTokens, checkNodes, checkDiags, checkStmts}
 use Rattle.rows.specs.declared.verdict.Verdict.{Verdict}
 use Rattle.rows.specs.Rows.{verdictAs}
 use Rattle.rows.specs.declared.token.Token.{Token}
@@ -77,8 +77,8 @@ module _ {s toks tree : List ℕ} {count rows : ℕ} (p : Parses s toks tree cou
   judged-as m e = rw (e, p .answer)
 
   -- all statements were judged
-  module _ (quiet : firstCall (parsedNodes (program (contents (tokens s)))) ≡ none) {ds : List Diag} {hs : List Held} (o : checked s ≡ judgements.judged ds hs)
-      (c : Counts) {found held : List ℕ} (g : Adds s noCounts (padTo (length found) []) (padTo (length held) []) (unnamed c) found held ds hs) where
+  module _ (quiet : firstCall (parsedNodes (program (contents (tokens s)))) ≡ none) {ds : List Diag} {hs : List Held} {ls : List ℕ} (o : checked s ≡ judgements.judged ds hs ls)
+      (c : Counts) {found held : List ℕ} (g : Adds s noCounts (padTo (length found) []) (padTo (length held) []) (unnamed c) found held ds hs ls) where
     errors-are : c .errors ≡ errorsIn ds
     unfolding added
     errors-are = ap (λ (z : Counts). z .errors) (g .counted) ∙ omega arith
@@ -91,18 +91,22 @@ module _ {s toks tree : List ℕ} {count rows : ℕ} (p : Parses s toks tree cou
     unfolding added
     held-are = ap (λ (z : Counts). z .statements) (g .counted) ∙ omega arith
 
+    compared-are : c .comparisons ≡ sum ls
+    unfolding added
+    compared-are = ap (λ (z : Counts). z .comparisons) (g .counted) ∙ omega arith
+
     -- errors: the statements are not kept
     pub with-errors : {r : CheckAnswer} {x : List ℕ} → (c .errors ≡ 0 → ⊥) → x ≡ padTo (length held) []
-        → r ≡ record { verdict = verdictAs (verdict 0 0 0); tokens = count; nodes = rows; errors = c .errors; warnings = c .warnings; statements = 0 }
+        → r ≡ record { verdict = verdictAs (verdict 0 0 0); tokens = count; nodes = rows; errors = c .errors; warnings = c .warnings; statements = 0; comparisons = c .comparisons }
         → CheckSource s (length toks) (length tree) (length found) (length held) r toks tree found x
     unfolding checkTokens checkNodes checkDiags checkStmts
     with-errors h z q =
         let f : eqb (errorsIn ds) 0 ≡ false = ne-eqb _ _ (λ e. h (errors-are ∙ e)) in
         let a : checkAnswer s (length toks / 7) (length tree / 5) (length held / 7)
-        ≡ record { verdict = verdict 0 0 0; tokens = count; nodes = rows; errors = errorsIn ds; warnings = warningsIn ds; statements = 0 } =
+        ≡ record { verdict = verdict 0 0 0; tokens = count; nodes = rows; errors = errorsIn ds; warnings = warningsIn ds; statements = 0; comparisons = sum ls } =
         judged-as (length held / 7) quiet ∙ rw (o, f) in
         record {
-          answer = q ∙ rw (a, errors-are, warnings-are);
+          answer = q ∙ rw (a, errors-are, warnings-are, compared-are);
           tokens = p .table ∙ rw a;
           nodes = p .nodes ∙ rw a;
           diags = g .diags ∙ all-findings (tokenOf s) (length found) ds ∙ rw (a, o);
@@ -123,15 +127,15 @@ module _ {s toks tree : List ℕ} {count rows : ℕ} (p : Parses s toks tree cou
 
       -- done
       pub accepted : {r : CheckAnswer} → c .statements ≤ length held / 7
-          → r ≡ record { verdict = verdictAs (verdict 0 0 0); tokens = count; nodes = rows; errors = c .errors; warnings = c .warnings; statements = c .statements }
+          → r ≡ record { verdict = verdictAs (verdict 0 0 0); tokens = count; nodes = rows; errors = c .errors; warnings = c .warnings; statements = c .statements; comparisons = c .comparisons }
           → CheckSource s (length toks) (length tree) (length found) (length held) r toks tree found held
       unfolding checkTokens checkNodes checkDiags checkStmts
       accepted l q =
           let a : checkAnswer s (length toks / 7) (length tree / 5) (length held / 7)
-          ≡ record { verdict = verdict 0 0 0; tokens = count; nodes = rows; errors = 0; warnings = warningsIn ds; statements = length hs } =
+          ≡ record { verdict = verdict 0 0 0; tokens = count; nodes = rows; errors = 0; warnings = warningsIn ds; statements = length hs; comparisons = sum ls } =
           judged-as (length held / 7) quiet ∙ rw (o, no-errors, le-ltb (length held / 7) (length hs) (omega (arith, held-are))) in
           record {
-            answer = q ∙ rw (a, h, warnings-are, held-are);
+            answer = q ∙ rw (a, h, warnings-are, held-are, compared-are);
             tokens = p .table ∙ rw a;
             nodes = p .nodes ∙ rw a;
             diags = g .diags ∙ all-findings (tokenOf s) (length found) ds ∙ rw (a, o);
@@ -147,12 +151,12 @@ number-nine s {n} {t} e = let z = names-refused (contents (tokens s)) (statement
 
 module _ {s x u y v : List ℕ} {r : outcome.Outcome} where
   went : {c : Counts} {o : Outcome} → r ≡ Judged c → Comes s x u r y v o
-      → (ds : List Diag) × (hs : List Held) × (o ≡ judgements.judged ds hs) × Adds s noCounts x u (unnamed c) y v ds hs
-  went {c} {o = judgements.judged ds hs} q h = (ds, hs, refl, subst (λ (z : outcome.Outcome). ComesTo s x u z y v (judgements.judged ds hs)) q (h .come))
+      → (ds : List Diag) × (hs : List Held) × (ls : List ℕ) × (o ≡ judgements.judged ds hs ls) × Adds s noCounts x u (unnamed c) y v ds hs ls
+  went {c} {o = judgements.judged ds hs ls} q h = (ds, hs, ls, refl, subst (λ (z : outcome.Outcome). ComesTo s x u z y v (judgements.judged ds hs ls)) q (h .come))
   went {c} {o = judgements.refused m t} q h = absurd (subst (λ (z : outcome.Outcome). ComesTo s x u z y v (judgements.refused m t)) q (h .come))
 
   refused-at : {n t : ℕ} {o : Outcome} → r ≡ Refused n t → Comes s x u r y v o → o ≡ judgements.refused n t
-  refused-at {n} {t} {o = judgements.judged ds hs} q h = absurd (subst (λ (z : outcome.Outcome). ComesTo s x u z y v (judgements.judged ds hs)) q (h .come))
+  refused-at {n} {t} {o = judgements.judged ds hs ls} q h = absurd (subst (λ (z : outcome.Outcome). ComesTo s x u z y v (judgements.judged ds hs ls)) q (h .come))
   refused-at {n} {t} {o = judgements.refused n′ t′} q h =
       let e = subst (λ (z : outcome.Outcome). ComesTo s x u z y v (judgements.refused n′ t′)) q (h .come) in
       rw (e .0, e .1)
@@ -177,17 +181,17 @@ module _ {s toks tree : List ℕ} {count rows : ℕ} (p : Parses s toks tree cou
     came = on (statementsOf (program (contents (tokens s)))) (stmts-part p)
 
     pub concluded : {c : Counts} {q : CheckAnswer} {a b e f : List ℕ} → (x ≡ padTo (length x) []) × (u ≡ padTo (length u) []) → r ≡ Judged c
-        → ((z : List ℕ) (ds : List Diag) (hs : List Held) → Parses z toks tree count rows → firstCall (parsedNodes (program (contents (tokens z)))) ≡ none
-        → checked z ≡ judgements.judged ds hs → Adds z noCounts (padTo (length y) []) (padTo (length v) []) (unnamed c) y v ds hs
+        → ((z : List ℕ) (ds : List Diag) (hs : List Held) (ls : List ℕ) → Parses z toks tree count rows → firstCall (parsedNodes (program (contents (tokens z)))) ≡ none
+        → checked z ≡ judgements.judged ds hs ls → Adds z noCounts (padTo (length y) []) (padTo (length v) []) (unnamed c) y v ds hs ls
         → CheckSource z (length toks) (length tree) (length y) (length v) q a b e f)
         → CheckSource s (length toks) (length tree) (length x) (length u) q a b e f
     concluded {c} {q} {a} {b} {e} {f} zero i h =
         let w = went i came in
-        let g : Adds s noCounts (padTo (length y) []) (padTo (length v) []) (unnamed c) y v (w .0) (w .1) =
-        subst (λ (m : List ℕ). Adds s noCounts (padTo (length y) []) m (unnamed c) y v (w .0) (w .1)) (zero .1 ∙ ap (λ (m : ℕ). padTo m []) (sym same-held))
-        (subst (λ (m : List ℕ). Adds s noCounts m u (unnamed c) y v (w .0) (w .1)) (zero .0 ∙ ap (λ (m : ℕ). padTo m []) (sym same-found)) (w .3)) in
+        let g : Adds s noCounts (padTo (length y) []) (padTo (length v) []) (unnamed c) y v (w .0) (w .1) (w .2) =
+        subst (λ (m : List ℕ). Adds s noCounts (padTo (length y) []) m (unnamed c) y v (w .0) (w .1) (w .2)) (zero .1 ∙ ap (λ (m : ℕ). padTo m []) (sym same-held))
+        (subst (λ (m : List ℕ). Adds s noCounts m u (unnamed c) y v (w .0) (w .1) (w .2)) (zero .0 ∙ ap (λ (m : ℕ). padTo m []) (sym same-found)) (w .4)) in
         subst (λ (m : ℕ). CheckSource s (length toks) (length tree) (length x) m q a b e f) same-held
-        (subst (λ (m : ℕ). CheckSource s (length toks) (length tree) m (length v) q a b e f) same-found (h s (w .0) (w .1) p quiet (w .2) g))
+        (subst (λ (m : ℕ). CheckSource s (length toks) (length tree) m (length v) q a b e f) same-found (h s (w .0) (w .1) (w .2) p quiet (w .3) g))
 
     -- a refusal by a statement
     pub refused-stmt : {n t : ℕ} {w : Verdict} {q : CheckAnswer} {a b e f : List ℕ} → r ≡ Refused n t

@@ -115,7 +115,7 @@ module _ {s toks tree : List ℕ} {count rows : ℕ} (p : Parses s toks tree cou
       let w = whole s (length toks / 7) (length tree / 5) done in
       let few = nodes-few (contents (tokens s)) (w .0) (w .1) (w .2) (w .3) in
       let l : programSize (w .0) ≤ 65537 = omega (arith, all-long 0 (w .0), few, length-map (tokens s) (λ (t : Token). t .content), few-tokens s, short s (length toks / 7) (length tree / 5) done) in
-      record { list = w .0; stands = rw (w .3) at stmts-part; room = omega arith; held = omega arith; begun = omega arith }
+      record { list = w .0; stands = rw (w .3) at stmts-part; room = omega arith; held = omega arith; begun = omega arith; looks = omega arith }
 
 -- ---- what the entry `parse` promises
 

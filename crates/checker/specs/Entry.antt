@@ -26,11 +26,12 @@ checkedAs a =
       errors = a .errors;
       warnings = a .warnings;
       statements = a .statements;
+      comparisons = a .comparisons;
     }
 
 -- the answer of a refusal: no counts
 abbrev pub refusal : Verdict → CheckAnswer
-refusal v = record { verdict = v; tokens = 0; nodes = 0; errors = 0; warnings = 0; statements = 0 }
+refusal v = record { verdict = v; tokens = 0; nodes = 0; errors = 0; warnings = 0; statements = 0; comparisons = 0 }
 
 abbrev pub callAs : Option ℕ → Call
 callAs (some t) = At t

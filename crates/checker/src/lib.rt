@@ -32,6 +32,8 @@ pub struct CheckAnswer {
     pub errors: u64,
     pub warnings: u64,
     pub statements: u64,
+    // how many names were compared in searches among the bindings
+    pub comparisons: u64,
 }
 
 // The `(` of the first call.
@@ -80,12 +82,13 @@ fn refused(verdict: Verdict) -> CheckAnswer
         errors: 0,
         warnings: 0,
         statements: 0,
+        comparisons: 0,
     }
 }
 
 // The answer where nothing is refused.
 fn done(counts: Counts, count: usize, rows: usize, statements: usize) -> CheckAnswer
-    ensures { λ r. ⌜ r ≡ record { verdict = verdictAs (verdict 0 0 0); tokens = count; nodes = rows; errors = counts .errors; warnings = counts .warnings; statements = statements } ⌝ }
+    ensures { λ r. ⌜ r ≡ record { verdict = verdictAs (verdict 0 0 0); tokens = count; nodes = rows; errors = counts .errors; warnings = counts .warnings; statements = statements; comparisons = counts .comparisons } ⌝ }
 {
     CheckAnswer {
         verdict: Verdict::new(Verdict::DONE, 0, 0),
@@ -94,6 +97,7 @@ fn done(counts: Counts, count: usize, rows: usize, statements: usize) -> CheckAn
         errors: counts.errors as u64,
         warnings: counts.warnings as u64,
         statements: statements as u64,
+        comparisons: counts.comparisons as u64,
     }
 }
 
@@ -135,9 +139,9 @@ fn conclude(
     diags: &mut [u64],
     stmts: &mut [u64],
 ) -> CheckAnswer
-    ensures { λ r. ⌜ ((s : List ℕ) (ds : List Diag) (hs : List Held) → Parses s (now (toks .entry)) (now (nodes .entry)) count rows
-        → firstCall (parsedNodes (program (contents (tokens s)))) ≡ none → checked s ≡ judged ds hs
-        → Adds s noCounts (padTo (length (now (diags .entry))) []) (padTo (length (now (stmts .entry))) []) (unnamed counts) (now (diags .entry)) (now (stmts .entry)) ds hs
+    ensures { λ r. ⌜ ((s : List ℕ) (ds : List Diag) (hs : List Held) (ls : List ℕ) → Parses s (now (toks .entry)) (now (nodes .entry)) count rows
+        → firstCall (parsedNodes (program (contents (tokens s)))) ≡ none → checked s ≡ judged ds hs ls
+        → Adds s noCounts (padTo (length (now (diags .entry))) []) (padTo (length (now (stmts .entry))) []) (unnamed counts) (now (diags .entry)) (now (stmts .entry)) ds hs ls
         → CheckSource s (length (now (toks .entry))) (length (now (nodes .entry))) (length (now (diags .entry))) (length (now (stmts .entry)))
         r (now (toks .exit)) (now (nodes .exit)) (now (diags .exit)) (now (stmts .exit))) ⌝ }
 {

@@ -19,7 +19,7 @@ use Rattle.language.specs.Values.{Ty, entryAt}
 use Rattle.language.specs.Judgements as judgements
 use Rattle.language.specs.Judgements.{Diag, Held, errorsIn, warningsIn}
 use Rattle.language.specs.Findings.{tyKind, tyEntry, diagRow, stmtRow}
-use Rattle.language.specs.Numbers.{tokenOf}
+use Rattle.language.specs.Numbers.{tokenOf, sum}
 use Rattle.findings.specs.declared.Side.{Side}
 use Rattle.findings.specs.declared.Side.the-variants as side-is
 use Rattle.findings.specs.declared.What.{What}
@@ -194,6 +194,7 @@ plusFinding c w =
       warnings = c .warnings;
       statements = c .statements;
       number = c .number;
+      comparisons = c .comparisons;
     })
     (record {
       used = c .used;
@@ -202,11 +203,29 @@ plusFinding c w =
       warnings = c .warnings + 1;
       statements = c .statements;
       number = c .number;
+      comparisons = c .comparisons;
     })
 
--- the counts after these findings and statements
-unfoldable pub added : Counts → List Diag → List Held → Counts
-added c ds hs =
+-- so many names can be compared: 512 for each of 2^32 searches
+abbrev pub mostCompared : ℕ
+mostCompared = 2199023255552
+
+-- one search more
+abbrev pub plusSearch : Counts → ℕ → Counts
+plusSearch c l =
+    record {
+      used = c .used;
+      imported = c .imported;
+      errors = c .errors;
+      warnings = c .warnings;
+      statements = c .statements;
+      number = c .number;
+      comparisons = c .comparisons + l;
+    }
+
+-- the counts after these findings, statements and searches
+unfoldable pub added : Counts → List Diag → List Held → List ℕ → Counts
+added c ds hs ls =
     record {
       used = c .used;
       imported = c .imported;
@@ -214,6 +233,7 @@ added c ds hs =
       warnings = c .warnings + warningsIn ds;
       statements = c .statements + length hs;
       number = c .number;
+      comparisons = c .comparisons + sum ls;
     }
 
 -- ---- what is added
@@ -223,9 +243,9 @@ pub record Reports (c : Counts) (d : Diagnostic) (x : List ℕ) (c′ : Counts) 
   pub counted : c′ ≡ plusFinding c (d .what)
   pub table : y ≡ putRow x (c .errors + c .warnings) (diagnosticRow (c .number) d)
 
--- what a step adds, from a leaf to the program: its findings and the statements that it holds, to the counts and to the
--- two tables, of diagnostics from x to y and of statements from u to v
-pub record Adds (s : List ℕ) (c : Counts) (x u : List ℕ) (c′ : Counts) (y v : List ℕ) (ds : List Diag) (hs : List Held) : Type 0 where
-  pub counted : c′ ≡ added c ds hs
+-- what a step adds, from a leaf to the program: its findings, the statements that it holds and its searches, to the counts and to
+-- the two tables, of diagnostics from x to y and of statements from u to v
+pub record Adds (s : List ℕ) (c : Counts) (x u : List ℕ) (c′ : Counts) (y v : List ℕ) (ds : List Diag) (hs : List Held) (ls : List ℕ) : Type 0 where
+  pub counted : c′ ≡ added c ds hs ls
   pub diags : y ≡ putRows (diagRow (tokenOf s)) x (c .errors + c .warnings) ds
   pub stmts : v ≡ putRows (stmtRow (tokenOf s)) u (c .statements) hs

@@ -1,8 +1,8 @@
 // Findings: what a check finds, from the kind and its token to a row of the diagnostic table and back. `report` is the one
 // place that counts a finding and stores its row.
 ghost use mathlib.Core.Path.{_≡_};
-ghost use Prim.Native.Nat.{_+_, _<_};
-ghost use Rattle.findings.specs.Findings.{sideNumber, kindNumber, severityNumber, showsName, placed, atToken, typeText, namedRow, typedRow, bareRow, rowOf, shownRow, plusFinding, Reports};
+ghost use Prim.Native.Nat.{_+_, _<_, _≤_};
+ghost use Rattle.findings.specs.Findings.{sideNumber, kindNumber, severityNumber, showsName, placed, atToken, typeText, namedRow, typedRow, bareRow, rowOf, shownRow, plusFinding, mostCompared, plusSearch, Reports};
 
 pub mod reading;
 
@@ -138,8 +138,8 @@ pub enum Read {
     Nothing,
 }
 
-// How many names are bound and imported, how many errors and warnings there are, how many statements are held, and the number of
-// the statement that is judged: 1 for the first, 0 before it.
+// How many names are bound and imported, how many errors and warnings there are, how many statements are held, the number of the
+// statement that is judged (1 for the first, 0 before it), and how many names were compared in searches among the bindings.
 pub struct Counts {
     pub used: usize,
     pub imported: usize,
@@ -147,6 +147,7 @@ pub struct Counts {
     pub warnings: usize,
     pub statements: usize,
     pub number: u64,
+    pub comparisons: usize,
 }
 
 // The severity of a kind.
@@ -301,6 +302,17 @@ fn counted(counts: Counts, what: What) -> Counts
     }
     Counts {
         warnings: counts.warnings + 1,
+        ..counts
+    }
+}
+
+// A search that compared so many names.
+pub fn searched(counts: Counts, compared: usize) -> Counts
+    requires { ⌜ counts .comparisons + compared ≤ mostCompared ⌝ }
+    ensures { λ r. ⌜ r ≡ plusSearch counts compared ⌝ }
+{
+    Counts {
+        comparisons: counts.comparisons + compared,
         ..counts
     }
 }

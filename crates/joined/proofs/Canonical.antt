@@ -187,5 +187,6 @@ text-checks s t n r toks left c z j m d k p q a b x y v w g h e f =
       same-field (λ (i : CheckAnswer). i .errors) answer (e .answer) (f .answer) u (o .errors),
       same-field (λ (i : CheckAnswer). i .warnings) answer (e .answer) (f .answer) u (o .warnings),
       same-field (λ (i : CheckAnswer). i .statements) answer (e .answer) (f .answer) u (o .statements),
+      same-field (λ (i : CheckAnswer). i .comparisons) answer (e .answer) (f .answer) u (o .comparisons),
       rw u (same-left s l e (rw u at f)),
     )

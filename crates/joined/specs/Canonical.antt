@@ -128,4 +128,5 @@ TextChecks =
     → CheckSource source j m d k p a x v g → CheckSource (textLeft r left) j m d k q b y w h
     → (y ≡ x) × (q .verdict .number ≡ p .verdict .number) × (q .verdict .kind ≡ p .verdict .kind) × (q .tokens ≡ p .tokens)
     × (q .nodes ≡ p .nodes) × (q .errors ≡ p .errors) × (q .warnings ≡ p .warnings) × (q .statements ≡ p .statements)
+    × (q .comparisons ≡ p .comparisons)
     × SameLeft (textLeft r left) source d k w v h g

@@ -26,5 +26,5 @@ pub record CallsLeave : Type 0 where
       → CanonLeaves source t n (r .verdict .number) (r .tokens) (r .bytes) toks left
   pub check : (source : List ℕ) (t n d k : ℕ) (r : CheckAnswer) (toks tree found held : List ℕ)
       → CheckSource source t n d k r toks tree found held
-      → CheckLeaves source t n d k (r .verdict .number) (r .tokens) (r .nodes) (r .errors) (r .warnings) (r .statements) toks tree
+      → CheckLeaves source t n d k (r .verdict .number) (r .tokens) (r .nodes) (r .errors) (r .warnings) (r .statements) (r .comparisons) toks tree
       found held

@@ -15,10 +15,13 @@ use Rattle.language.specs.Sentences.{Expr, Args, literal, sock4, local, path, m
 use Rattle.language.specs.Values as values
 use Rattle.language.specs.Values.{tyInt, tyIp4, typeOf}
 use Rattle.language.specs.Judgements as judgements
-use Rattle.language.specs.Judgements.{What, Diag, diag, val, err, poisoned, judgement, Known, andThen, goesOn, leftOf, rightOf, cut, left, right, noMembers, operandType, truncated, integerOf, ip4Of, literalAt, judge}
+use Rattle.language.specs.Judgements.{What, Diag, diag, val, err, poisoned, judgement, Known, andThen, goesOn, leftOf, rightOf, cut, left, right, noMembers, operandType, truncated, integerOf, ip4Of, literalAt, mostNames, judge}
 use Rattle.language.specs.Numbers.{tokenOf}
 use Rattle.language.proofs.Tests.{never}
 use Rattle.language.proofs.TokensAt.{content-of}
+use Rattle.language.proofs.NodeClaims.{some-node}
+use Rattle.language.proofs.Comparisons.{judge-compares}
+use Rattle.names.proofs.Stores.{listed-long}
 use Rattle.wide.specs.declared.Wide.{Wide}
 use Rattle.wide.specs.Wide.{wideOf}
 use Rattle.rows.specs.Rows.{nodeWord}
@@ -28,16 +31,16 @@ use Rattle.findings.specs.declared.Counts.{Counts}
 use Rattle.findings.specs.declared.Diagnostic.{Diagnostic}
 use Rattle.findings.specs.declared.Side.the-variants.{Left, Right}
 use Rattle.findings.specs.declared.What.the-variants.{Truncated}
-use Rattle.findings.specs.Findings.{atToken, added, Reports}
+use Rattle.findings.specs.Findings.{atToken, plusSearch, added, Reports}
 use Rattle.findings.proofs.Texts.{at-token}
-use Rattle.findings.proofs.Adds.{adds-none, adds-then, adds-reported, adds-count, adds-number}
+use Rattle.findings.proofs.Adds.{adds-none, adds-then, adds-look, adds-reported, adds-count, adds-number, adds-compared}
 use Rattle.values.specs.declared.Value.{Value}
 use Rattle.values.specs.declared.Judged.{Judged}
 use Rattle.values.specs.declared.Judged.the-variants.{Val, Err, Poisoned}
 use Rattle.values.specs.declared.Judgement.{Judgement}
 use Rattle.values.specs.Values.{valueAs, sock4As, judgedAs, isIntegral}
 use Rattle.values.proofs.Values.{integer-is, integer-not, ip4-is, ip4-not}
-use Rattle.judging.specs.Judging.{mostFindings, knownIn, Knows, Ready, LocalIs, PathIs, Agrees, Members, Operand, Cuts, Narrows, Integral, RepAt, is-literal, is-sock4, is-local, is-path, is-member, is-slash, is-call, Fits, SlashFits}
+use Rattle.judging.specs.Judging.{mostFindings, knownIn, Knows, Ready, LocalIs, PathIs, Agrees, Members, Operand, Cuts, Narrows, Integral, bindingAt, boundIn, LookFits, RepAt, is-literal, is-sock4, is-local, is-path, is-member, is-slash, is-call, Fits, SlashFits}
 
 -- ---- rows
 
@@ -143,6 +146,11 @@ module _ {s : List ℕ} where
   pub give : {r : Judgement} {x : List ℕ} {c : Counts} (o : judgements.Judged) → r .out ≡ judgedAs s o → r .counts ≡ c → Agrees s r x x c (judgement o [])
   give {x = x} {c = c} o q e = record { out = q; adds = λ u. rw e (adds-none s c x u) }
 
+  -- no warning, and one search
+  pub look : {r : Judgement} {x : List ℕ} {c : Counts} (o : judgements.Judged) (l : ℕ) → r .out ≡ judgedAs s o → r .counts ≡ plusSearch c l
+      → Agrees s r x x c (record { out = o; warns = []; looks = l ∷ [] })
+  look o l q e = record { out = q; adds = λ u. adds-look s l e }
+
   module _ {L : Judgement} {x y : List ℕ} {c : Counts} (j : judgements.Judgement) (f : values.Value → judgements.Judgement) (l : Agrees s L x y c j) where
     -- a value goes on
     go : (u : values.Value) → j .out ≡ val u → {R : Judgement} {z : List ℕ} → Agrees s R y z (L .counts) (f u) → Agrees s R x z c (andThen j f)
@@ -153,12 +161,12 @@ module _ {s : List ℕ} where
     goes e h = let q = as-val s (j .out) (sym (l .out) ∙ e) in go (q .0) (q .1) (h (q .0) (q .2))
 
     -- an error, or nothing, stays as it is
-    stop : (o : judgements.Judged) → j .out ≡ o → andThen j f ≡ judgement o (j .warns) → Agrees s L x y c (andThen j f)
+    stop : (o : judgements.Judged) → j .out ≡ o → andThen j f ≡ record { out = o; warns = j .warns; looks = j .looks } → Agrees s L x y c (andThen j f)
     stop o q e = rw e (record { out = l .out ∙ ap (judgedAs s) q; adds = l .adds })
 
     stop-at : (at : ℕ) (w : What) → j .out ≡ err at w → Agrees s L x y c (andThen j f)
     unfolding andThen
-    stop-at at w q = stop (err at w) q (ap (λ (o : judgements.Judged). goesOn o (j .warns) f) q)
+    stop-at at w q = stop (err at w) q (ap (λ (o : judgements.Judged). goesOn o (j .warns) (j .looks) f) q)
 
     pub stop-err : {g : Diagnostic} → L .out ≡ Err g → Agrees s L x y c (andThen j f)
     stop-err e = let q = as-err s (j .out) (sym (l .out) ∙ e) in stop-at (q .0) (q .1) (q .2)
@@ -251,12 +259,12 @@ module _ (s : List ℕ) (ip t : ℕ) {l : Judgement} {y : List ℕ} where
 
 -- ---- how many warnings
 
-few-then : (o : judgements.Judged) (ws : List Diag) (f : values.Value → judgements.Judgement) (m : ℕ) → ((u : values.Value) → length (f u .warns) ≤ m)
-    → length (andThen (judgement o ws) f .warns) ≤ length ws + m
+few-then : (o : judgements.Judged) (ws : List Diag) (ls : List ℕ) (f : values.Value → judgements.Judgement) (m : ℕ) → ((u : values.Value) → length (f u .warns) ≤ m)
+    → length (andThen (record { out = o; warns = ws; looks = ls }) f .warns) ≤ length ws + m
 unfolding andThen
-few-then (val u) ws f m h = simp length-append (omega (arith, h u))
-few-then (err at w) ws f m h = omega arith
-few-then poisoned ws f m h = omega arith
+few-then (val u) ws ls f m h = simp length-append (omega (arith, h u))
+few-then (err at w) ws ls f m h = omega arith
+few-then poisoned ws ls f m h = omega arith
 
 few-cut : (b : Bool) (d : Diag) → length (if′ b (d ∷ []) []) ≤ 1
 few-cut true d = omega arith
@@ -284,16 +292,16 @@ module _ (ts : List Content) (n : ℕ) (k : Known) where
   few (sock4 t) = omega arith
   few (local t) = omega arith
   few (path t m) = omega arith
-  few (member e t) = omega (arith, few e, few-then (judge ts n k e .out) (judge ts n k e .warns) (λ v. judgement (err t (noMembers (typeOf v))) []) 0 (λ u. omega arith))
+  few (member e t) = omega (arith, few e, few-then (judge ts n k e .out) (judge ts n k e .warns) (judge ts n k e .looks) (λ v. judgement (err t (noMembers (typeOf v))) []) 0 (λ u. omega arith))
   few (slash′ a b) =
       let f : ℕ → judgements.Judgement = λ ip. andThen (judge ts n k b) (rightOf ts n ip (firstOf b)) in
       let g : (ip : ℕ) → length (f ip .warns) ≤ length (judge ts n k b .warns) + 1 = λ ip.
-      few-then (judge ts n k b .out) (judge ts n k b .warns) (rightOf ts n ip (firstOf b)) 1 (few-right ts n ip (firstOf b)) in
+      few-then (judge ts n k b .out) (judge ts n k b .warns) (judge ts n k b .looks) (rightOf ts n ip (firstOf b)) 1 (few-right ts n ip (firstOf b)) in
       omega (
         arith,
         few a,
         few b,
-        few-then (judge ts n k a .out) (judge ts n k a .warns) (leftOf ts (firstOf a) f) (length (judge ts n k b .warns) + 1)
+        few-then (judge ts n k a .out) (judge ts n k a .warns) (judge ts n k a .looks) (leftOf ts (firstOf a) f) (length (judge ts n k b .warns) + 1)
             (few-left ts (firstOf a) f (length (judge ts n k b .warns) + 1) g),
       )
   few (call e t g) = omega arith
@@ -316,7 +324,7 @@ module _ (s : List ℕ) {ws : List ℕ} {i : ℕ} {e : Expr} (n : ℕ) (k : Know
     pub leaf-local : {tok : Token} → nodeWord ws i 0 ≡ 4 → tok ≡ tokenAs (tokenOf s t) → LocalIs s bindings c tok r
         → Agrees s r x x c (judge (contents (tokens.tokens s)) n k e)
     unfolding judge
-    leaf-local q g h = elim (row-of rep q) [ a-local w ↦ rw (w, ← at, kn .is) (give _ (h .is t g (ready .sound)) (h .counted)) ]
+    leaf-local q g h = elim (row-of rep q) [ a-local w ↦ rw (w, ← at, kn .is) (look _ _ (h .is t g (ready .sound)) (h .counted t g)) ]
 
     pub leaf-path : (nodeWord ws i 0 ≡ 2 → ⊥) → (nodeWord ws i 0 ≡ 3 → ⊥) → (nodeWord ws i 0 ≡ 4 → ⊥) → nodeWord ws i 0 < 6 → {names : ℕ}
         → names ≡ nodeWord ws i 2 → PathIs s imports c t names r → Agrees s r x x c (judge (contents (tokens.tokens s)) n k e)
@@ -356,6 +364,7 @@ module _ {s : List ℕ} {L : Judgement} {x y : List ℕ} {c : Counts} {j : judge
         record {
           lexed = r .lexed;
           bound = rw same-used (r .bound);
+          few = rw same-used (r .few);
           modules = rw same-imported (r .modules);
           sound = rw same-used (r .sound);
           keyed = rw same-used (r .keyed);
@@ -409,25 +418,26 @@ module _ (s : List ℕ) (n : ℕ) (k : Known) where
 
   -- what is left of the room
   module _ {ws : List ℕ} {i : ℕ} (c : Counts) where
-    pub fits-slash : (f : Fits ws i (c .errors + c .warnings)) (p : SlashAt ws i (f .tree)) {l : Judgement} {x y : List ℕ}
-        → Agrees s l x y c (judged (p .left)) → SlashFits ws i (l .counts .errors + l .counts .warnings)
-    fits-slash f p {l} a =
+    pub fits-slash : length (k .bindings) ≤ mostNames → (f : Fits ws i c) (p : SlashAt ws i (f .tree)) {l : Judgement} {x y : List ℕ}
+        → Agrees s l x y c (judged (p .left)) → SlashFits ws i (l .counts)
+    fits-slash b f p {l} a =
         let m = findings-after a in
         record {
           left = p .left;
           right = p .right;
           rep = subst (λ (e : Expr). RepAt ws i e) (p .is) (f .rep);
           room = omega (arith, m, f .room, ap exprSize (p .is), few (contents (tokens.tokens s)) n k (p .left));
+          looks = omega (arith, adds-compared (a .adds []), f .looks, ap exprSize (p .is), judge-compares (contents (tokens.tokens s)) n k (p .left) b);
         }
 
-    pub fits-more : (f : SlashFits ws i (c .errors + c .warnings)) {m : Judgement} {x y : List ℕ} → Agrees s m x y c (judged (f .right))
+    pub fits-more : (f : SlashFits ws i c) {m : Judgement} {x y : List ℕ} → Agrees s m x y c (judged (f .right))
         → m .counts .errors + m .counts .warnings < mostFindings
     fits-more f {m} a =
         let w = findings-after a in
         omega (arith, w, f .room, few (contents (tokens.tokens s)) n k (f .right))
 
-pub fits-right : {ws : List ℕ} {i b count : ℕ} → SlashFits ws i count → b ≡ nodeWord ws i 3 → Fits ws b count
-fits-right f e = record { tree = f .right; rep = rw e (slash-parts (f .rep) .2); room = omega (arith, f .room) }
+pub fits-right : {ws : List ℕ} {i b : ℕ} {c : Counts} → SlashFits ws i c → b ≡ nodeWord ws i 3 → Fits ws b c
+fits-right f e = record { tree = f .right; rep = rw e (slash-parts (f .rep) .2); room = omega (arith, f .room); looks = f .looks }
 
 -- the first operand, of `/` or of a member
 pub record ChildAt (ws : List ℕ) (i : ℕ) (e : Expr) : Type 0 where
@@ -445,8 +455,17 @@ child-at (is-member {e = e} f k z n r) l p = record { child = e; near = n; rep =
 child-at (is-slash {a = a} f k z n m u v) l p = record { child = a; near = n; rep = u; less = omega arith }
 child-at (is-call f k z) l p = absurd (p k)
 
-pub fits-child : {ws : List ℕ} {i a count : ℕ} (f : Fits ws i count) (p : ChildAt ws i (f .tree)) → a ≡ nodeWord ws i 2 → Fits ws a count
-fits-child f p e = record { tree = p .child; rep = rw e (p .rep); room = omega (arith, f .room, p .less) }
+pub fits-child : {ws : List ℕ} {i a : ℕ} {c : Counts} (f : Fits ws i c) (p : ChildAt ws i (f .tree)) → a ≡ nodeWord ws i 2 → Fits ws a c
+fits-child f p e = record { tree = p .child; rep = rw e (p .rep); room = omega (arith, f .room, p .less); looks = omega (arith, f .looks, p .less) }
+
+-- a tree has a node, so there is room for a search
+pub fits-look : {ws : List ℕ} {i : ℕ} {c : Counts} → Fits ws i c → LookFits c
+fits-look f = omega (arith, f .looks, some-node (f .tree))
+
+-- no more names are known than there may be
+pub known-few : {s toks bindings imports : List ℕ} {c : Counts} → Ready s toks bindings imports c → length (knownIn s bindings imports c .bindings) ≤ mostNames
+unfolding boundIn
+known-few {s} {bindings = bindings} {c = c} r = omega (arith, r .few, listed-long (bindingAt s bindings) (c .used) 0)
 
 pub at-row : {ws : List ℕ} {i j : ℕ} {e : Expr} → j ≡ i → RepAt ws i e → RepAt ws j e
 at-row q r = rw q r

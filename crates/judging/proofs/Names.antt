@@ -2,16 +2,18 @@
 use mathlib.Core.Path.{_≡_, refl, sym, ap, _∙_}
 use mathlib.Core.List.{List}
 use mathlib.Core.Option.{Option, none, some}
-use Prim.Native.Nat.{ℕ, zero, suc, _≤_, _<_}
+use Prim.Native.Nat.{ℕ, zero, suc, _+_, _≤_, _<_}
 use native.Mathlib.Omega.{arith}
 use borrow.Author.Tests.{ne-eqb}
 use Rattle.constants.specs.Constants.{kindOf, lowOf, highOf}
 use Rattle.language.specs.Tokens.{Content}
 use Rattle.language.specs.Values as values
-use Rattle.language.specs.Judgements.{err, poisoned, unknownName, notImported, Binding, find, findImport, boundTo, below, walk}
+use Rattle.language.specs.Judgements.{err, poisoned, unknownName, notImported, Binding, find, findImport, compared, boundTo, below, walk}
 use Rattle.language.specs.Findings.{valueKind}
-use Rattle.names.specs.Names.{nameWord, nameOf, namesIn, place}
+use Rattle.names.specs.Names.{nameWord, nameOf, listed, namesIn, place, looked}
 use Rattle.names.proofs.Names.{First, found-from, same-place}
+use Rattle.findings.specs.declared.Counts.{Counts}
+use Rattle.findings.specs.Findings.{plusSearch}
 use Rattle.values.specs.declared.Judged.{Judged}
 use Rattle.values.specs.Values.{opened, heldAs, judgedAs}
 use Rattle.values.proofs.Values.{some-kind}
@@ -60,6 +62,16 @@ module _ (s : List ℕ) (ts : List Content) (t : ℕ) where
 
     pub local-lost : {r : Judged} → used ≤ i → r ≡ judgedAs s (err t unknownName) → r ≡ judgedAs s (boundTo ts t (find (boundIn s ws used 0) v))
     local-lost h q = q ∙ rw (bound-lost s ws v used i e h)
+
+-- what the search compares, of a table's names and of the bindings that it stands for
+same-looks : (s ws w : List ℕ) (k i : ℕ) → looked (namesIn s ws k i) w ≡ compared (boundIn s ws k i) w
+unfolding looked namesIn compared boundIn listed
+same-looks s ws w zero i = refl
+same-looks s ws w (suc k) i = rw (same-looks s ws w k (i + 1))
+
+pub counted-look : (s ws : List ℕ) {w v : List ℕ} (used : ℕ) (c : Counts) {d : Counts} {n : ℕ} → d ≡ plusSearch c n → n ≡ looked (namesIn s ws used 0) w → w ≡ v
+    → d ≡ plusSearch c (compared (boundIn s ws used 0) v)
+counted-look s ws {v = v} used c p q o = p ∙ ap (plusSearch c) (q ∙ ap (looked (namesIn s ws used 0)) o ∙ same-looks s ws v used 0)
 
 -- ---- a path's module
 

@@ -10,7 +10,7 @@ use Rattle.language.specs.Sentences.{Expr, literal, sock4, local, path, member,
 use Rattle.language.specs.Values as values
 use Rattle.language.specs.Values.{Ty, typeOf}
 use Rattle.language.specs.Judgements as judgements
-use Rattle.language.specs.Judgements.{err, diag, Import, Binding, Known, known, nameAt, find, findImport, boundTo, below, andThen, rightOf, noMembers, operandType, truncated}
+use Rattle.language.specs.Judgements.{err, diag, Import, Binding, Known, known, nameAt, find, compared, mostNames, findImport, boundTo, below, andThen, rightOf, noMembers, operandType, truncated}
 use Rattle.language.specs.Findings.{tyKind}
 use Rattle.language.specs.Integers.{u16}
 use Rattle.language.specs.Values.{tyInt}
@@ -23,7 +23,7 @@ use Rattle.rows.specs.Tokens.{tokenAs, TokenTable}
 use Rattle.names.specs.Names.{nameWidth, nameWord, nameOf, listed, Keyed}
 use Rattle.findings.specs.declared.Counts.{Counts}
 use Rattle.findings.specs.declared.Side.{Side}
-use Rattle.findings.specs.Findings.{sideAs, Adds}
+use Rattle.findings.specs.Findings.{sideAs, mostCompared, plusSearch, Adds}
 use Rattle.values.specs.declared.Value.{Value}
 use Rattle.values.specs.declared.Judgement.{Judgement}
 use Rattle.values.specs.Values.{valueAs, opened, Canon, judgedAs}
@@ -67,6 +67,7 @@ Sound ws used = (i : ℕ) → i < used → Canon (nameWord ws i 3) (nameWord ws 
 pub record Ready (s toks bindings imports : List ℕ) (c : Counts) : Type 0 where
   pub lexed : TokenTable s toks
   pub bound : c .used ≤ length bindings / nameWidth
+  pub few : c .used ≤ mostNames
   pub modules : c .imported ≤ length imports / nameWidth
   pub sound : Sound bindings (c .used)
   pub keyed : Keyed s bindings (c .used)
@@ -77,13 +78,14 @@ pub record Ready (s toks bindings imports : List ℕ) (c : Counts) : Type 0 wher
 -- r, and the table of findings from x to y, are what the judgement says
 pub record Agrees (s : List ℕ) (r : Judgement) (x y : List ℕ) (c : Counts) (j : judgements.Judgement) : Type 0 where
   pub out : r .out ≡ judgedAs s (j .out)
-  pub adds : (u : List ℕ) → Adds s c x u (r .counts) y u (j .warns) []
+  pub adds : (u : List ℕ) → Adds s c x u (r .counts) y u (j .warns) [] (j .looks)
 
 -- a name, at any token with that row
 pub record LocalIs (s bindings : List ℕ) (c : Counts) (tok : Token) (r : Judgement) : Type 0 where
   pub is : (t : ℕ) → tok ≡ tokenAs (tokenOf s t) → Sound bindings (c .used)
       → r .out ≡ judgedAs s (boundTo (contents (tokens.tokens s)) t (find (boundIn s bindings (c .used) 0) (nameAt (contents (tokens.tokens s)) t)))
-  pub counted : r .counts ≡ c
+  pub counted : (t : ℕ) → tok ≡ tokenAs (tokenOf s t)
+      → r .counts ≡ plusSearch c (compared (boundIn s bindings (c .used) 0) (nameAt (contents (tokens.tokens s)) t))
 
 pub record PathIs (s imports : List ℕ) (c : Counts) (t names : ℕ) (r : Judgement) : Type 0 where
   pub is : r .out
@@ -103,7 +105,7 @@ pub record Operand (s : List ℕ) (t : ℕ) (v : Value) (side : Side) (wanted : 
 
 -- an integer that was cut
 pub record Cuts (s : List ℕ) (t : ℕ) (n : Wide) (c : Counts) (x : List ℕ) (c′ : Counts) (y : List ℕ) : Type 0 where
-  pub adds : (m : ℕ) (u : List ℕ) → m ≡ c .number → Adds s c x u c′ y u (diag m t (truncated (valueOf n) (tyInt u16)) ∷ []) []
+  pub adds : (m : ℕ) (u : List ℕ) → m ≡ c .number → Adds s c x u c′ y u (diag m t (truncated (valueOf n) (tyInt u16)) ∷ []) [] []
 
 pub record Narrows (s : List ℕ) (ip t : ℕ) (v : Value) (c : Counts) (x : List ℕ) (r : Judgement) (y : List ℕ) : Type 0 where
   pub is : (n : ℕ) (u : values.Value) → n ≡ c .number → v ≡ valueAs u → Agrees s r x y c (rightOf (contents (tokens.tokens s)) n ip t u)
@@ -128,15 +130,21 @@ pub data RepAt (ws : List ℕ) : ℕ → Expr → Type 0 where
   is-call : {i : ℕ} {e : Expr} {t : ℕ} {g : Args} → nodeWidth * i + nodeWidth ≤ length ws → nodeWord ws i 0 ≡ 8
       → nodeWord ws i 1 ≡ firstOf e → RepAt ws i (call e t g)
 
--- a tree stands at row i, and its findings can be counted on from `count`
-pub record Fits (ws : List ℕ) (i count : ℕ) : Type 0 where
+-- a search more can be counted
+abbrev pub LookFits : Counts → Type 0
+LookFits c = c .comparisons + mostNames ≤ mostCompared
+
+-- a tree stands at row i, and its findings and what it compares can be counted on from c
+pub record Fits (ws : List ℕ) (i : ℕ) (c : Counts) : Type 0 where
   pub tree : Expr
   pub rep : RepAt ws i tree
-  pub room : count + exprSize tree ≤ mostFindings
+  pub room : c .errors + c .warnings + exprSize tree ≤ mostFindings
+  pub looks : c .comparisons + mostNames * exprSize tree ≤ mostCompared
 
 -- the same of `/`, after its left operand
-pub record SlashFits (ws : List ℕ) (i count : ℕ) : Type 0 where
+pub record SlashFits (ws : List ℕ) (i : ℕ) (c : Counts) : Type 0 where
   pub left : Expr
   pub right : Expr
   pub rep : RepAt ws i (slash′ left right)
-  pub room : count + exprSize right + 1 ≤ mostFindings
+  pub room : c .errors + c .warnings + exprSize right + 1 ≤ mostFindings
+  pub looks : c .comparisons + mostNames * exprSize right ≤ mostCompared

@@ -8,11 +8,11 @@ ghost use lib.ListN.{length};
 ghost use Rattle.language.specs.Tables.{tokenWidth};
 ghost use Rattle.language.specs.Tokens.{tokens, contents};
 ghost use Rattle.language.specs.Sentences.{Expr, slash′, nodeWidth};
-ghost use Rattle.language.specs.Judgements.{Known, judge};
+ghost use Rattle.language.specs.Judgements.{Known, mostNames, judge};
 ghost use Rattle.rows.specs.Rows.{nodeWord};
 ghost use Rattle.rows.specs.Tokens.{TokenTable};
 ghost use Rattle.names.specs.Names.{nameWidth, Keyed};
-ghost use Rattle.judging.specs.Judging.{mostFindings, LocalIs, PathIs, Ready, Knows, Agrees, Members, Operand, Cuts, Narrows, Integral, RepAt, Fits, SlashFits};
+ghost use Rattle.judging.specs.Judging.{mostFindings, LocalIs, PathIs, Ready, Knows, Agrees, Members, Operand, Cuts, Narrows, Integral, RepAt, LookFits, Fits, SlashFits};
 use findings::Counts;
 use findings::Diagnostic;
 use findings::Side;
@@ -31,10 +31,12 @@ use wide::Wide;
 // A name that stands for its value.
 fn local(source: &[u8], bindings: &[u64], tok: Token, counts: Counts) -> Judgement
     requires { ⌜ (counts .used ≤ length (now bindings) / nameWidth) × Keyed (now source) (now bindings) (counts .used) ⌝ }
+    requires { ⌜ (counts .used ≤ mostNames) × LookFits counts ⌝ }
     ensures { λ r. ⌜ LocalIs (now (source .entry)) (now (bindings .entry)) counts tok r ⌝ }
 {
     let name = rows::name_at(source, tok);
     let found = names::find(source, bindings, counts.used, names::key_of(name), name);
+    let then = findings::searched(counts, found.compared);
     let i = found.at;
     if i < counts.used {
         return Judgement {
@@ -43,12 +45,12 @@ fn local(source: &[u8], bindings: &[u64], tok: Token, counts: Counts) -> Judgeme
                 names::word(bindings, i, Entry::LOW),
                 names::word(bindings, i, Entry::HIGH),
             ),
-            counts,
+            counts: then,
         };
     }
     Judgement {
         out: paths::error(tok, What::UnknownName),
-        counts,
+        counts: then,
     }
 }
 
@@ -98,7 +100,7 @@ fn leaf(
     counts: Counts,
 ) -> Judgement
     requires { ⌜ Ready (now source) (now toks) (now bindings) (now imports) counts ⌝ }
-    requires { ⌜ nodeWidth * i + nodeWidth ≤ length (now nodes) ⌝ }
+    requires { ⌜ (nodeWidth * i + nodeWidth ≤ length (now nodes)) × LookFits counts ⌝ }
     ensures { λ r. ⌜ ((n : ℕ) (k : Known) (e : Expr) (x : List ℕ) → Knows (now (source .entry)) (now (bindings .entry)) (now (imports .entry)) counts k
         → RepAt (now (nodes .entry)) i e → nodeWord (now (nodes .entry)) i 0 < 6
         → Agrees (now (source .entry)) r x x counts (judge (contents (tokens (now (source .entry)))) n k e)) ⌝ }
@@ -235,7 +237,7 @@ fn slash(
     left: Judgement,
 ) -> Judgement
     requires { ⌜ Ready (now source) (now toks) (now bindings) (now imports) (left .counts) ⌝ }
-    requires { ⌜ SlashFits (now nodes) i (left .counts .errors + left .counts .warnings) ⌝ }
+    requires { ⌜ SlashFits (now nodes) i (left .counts) ⌝ }
     ensures { λ r. ⌜ ((n : ℕ) (k : Known) (a b : Expr) (x : List ℕ) (c : Counts) → n ≡ left .counts .number → Knows (now (source .entry)) (now (bindings .entry)) (now (imports .entry)) (left .counts) k
         → RepAt (now (nodes .entry)) i (slash′ a b)
         → Agrees (now (source .entry)) left x (now (diags .entry)) c (judge (contents (tokens (now (source .entry)))) n k a)
@@ -282,7 +284,7 @@ pub fn judge(
     counts: Counts,
 ) -> Judgement
     requires { ⌜ Ready (now source) (now toks) (now bindings) (now imports) counts ⌝ }
-    requires { ⌜ Fits (now nodes) i (counts .errors + counts .warnings) ⌝ }
+    requires { ⌜ Fits (now nodes) i counts ⌝ }
     ensures { λ r. ⌜ ((n : ℕ) (k : Known) (e : Expr) → n ≡ counts .number → Knows (now (source .entry)) (now (bindings .entry)) (now (imports .entry)) counts k
         → RepAt (now (nodes .entry)) i e
         → Agrees (now (source .entry)) r (now (diags .entry)) (now (diags .exit)) counts (judge (contents (tokens (now (source .entry)))) n k e)) ⌝ }

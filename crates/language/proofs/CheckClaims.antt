@@ -15,7 +15,7 @@ use Rattle.language.specs.Values.{isString, Ty, tyBool, tyInt, tyIp4, ty
 use Rattle.language.specs.Judgements.{What, unknownName, unknownItem, unknownModule, notImported, notAModule, notAValue, alreadyBound, noMembers, operandType, integralTooLarge, multipleImports, discardedValue, truncated, Diag, errorsIn, Held, Outcome, judged, refused, judgeAll, nameAt}
 use Rattle.language.specs.Findings.{tyText, whatKind, Detail, named, detail, diagRow, stmtRow, stmtWidth}
 use Rattle.language.specs.Canonical.{text, Lexes}
-use Rattle.language.specs.Numbers.{Verdict, placed, Parsed, tokenPlace, parseAnswer, SameVerdict, SameParse, Checked, refusedCheck, firstCall, parsedNodes, statementsOf, checked, checkedWithin, judgedWithin, checkAnswer, tokenOf, checkNodes, checkDiags, checkStmts}
+use Rattle.language.specs.Numbers.{Verdict, placed, Parsed, tokenPlace, parseAnswer, SameVerdict, SameParse, Checked, sum, refusedCheck, firstCall, parsedNodes, statementsOf, checked, checkedWithin, judgedWithin, checkAnswer, tokenOf, checkNodes, checkDiags, checkStmts}
 use Rattle.language.specs.Checks.{TokenShown, SameCheck, SameDetail, SameFinding, SameHeld, bodiesAt, CheckedByContents, TextChecked}
 use Rattle.language.proofs.Tests.{each-side, both-sides}
 use Rattle.language.proofs.Canonical.{round-trip}
@@ -44,8 +44,8 @@ module _ (s u : List ℕ) where
   -- answers that differ in their verdicts alone
   alike : (a : Checked) (v : Verdict) → SameVerdict s u (a .verdict) v
       → SameCheck s u a
-      (record { verdict = v; tokens = a .tokens; nodes = a .nodes; errors = a .errors; warnings = a .warnings; statements = a .statements })
-  alike a v e = record { verdict = e; tokens = refl; nodes = refl; errors = refl; warnings = refl; statements = refl }
+      (record { verdict = v; tokens = a .tokens; nodes = a .nodes; errors = a .errors; warnings = a .warnings; statements = a .statements; comparisons = a .comparisons })
+  alike a v e = record { verdict = e; tokens = refl; nodes = refl; errors = refl; warnings = refl; statements = refl; comparisons = refl }
 
   same : (a : Checked) → a .verdict .line ≡ 0 → a .verdict .column ≡ 0 → SameCheck s u a a
   same a l c = alike a (a .verdict) (same-nowhere (a .verdict) l c)
@@ -53,9 +53,9 @@ module _ (s u : List ℕ) where
   same-at : (n at : ℕ) → SameCheck s u (refusedCheck (placed n (tokenPlace s at))) (refusedCheck (placed n (tokenPlace u at)))
   same-at n at = alike (refusedCheck (placed n (tokenPlace s at))) (placed n (tokenPlace u at)) (same-token s u n 0 at)
 
-  same-within : (room t n : ℕ) (ds : List Diag) (hs : List Held)
-      → let a = checkedWithin room t n ds hs in SameCheck s u a a
-  same-within room t n ds hs =
+  same-within : (room t n : ℕ) (ds : List Diag) (hs : List Held) (c : ℕ)
+      → let a = checkedWithin room t n ds hs c in SameCheck s u a a
+  same-within room t n ds hs c =
       each-side (λ a. SameCheck s u a a) (eqb (errorsIn ds) 0)
       (each-side (λ a. SameCheck s u a a) (ltb room (length hs)) (same _ refl refl) (same _ refl refl)) (same _ refl refl)
 
@@ -63,7 +63,7 @@ module _ (s u : List ℕ) where
     same-judged : (room : ℕ) (o : Outcome)
         → SameCheck s u (judgedWithin s room (p .tokens) (p .nodes) o) (judgedWithin u room (q .tokens) (q .nodes) o)
     same-judged room (refused m at) = same-at m at
-    same-judged room (judged ds hs) = rw (h .tokens, h .nodes) (same-within room (q .tokens) (q .nodes) ds hs)
+    same-judged room (judged ds hs ls) = rw (h .tokens, h .nodes) (same-within room (q .tokens) (q .nodes) ds hs (sum ls))
 
     -- after parsing, by the first call
     same-parsed : (room : ℕ) (c : Option ℕ) (o : Outcome)

@@ -2,7 +2,7 @@
 use Prim.Native.Nat.{ℕ, _≤_, _<_}
 use mathlib.Core.Path.{_≡_, refl, sym, ap, _∙_}
 use mathlib.Core.Bool.{Bool, true, false, _||_, false≢true, or-true}
-use mathlib.Core.List.{List, [], _∷_, _++_, append-nil, map, map-append, List·Memᴰ, List·Memᴰ·head, List·Memᴰ·tail}
+use mathlib.Core.List.{List, [], _∷_, _++_, append-nil, append-assoc, map, map-append, List·Memᴰ, List·Memᴰ·head, List·Memᴰ·tail}
 use mathlib.Core.Logic.{inl, inr}
 use native.Mathlib.Omega.{arith}
 use borrow.Author.Tests.{eq-eqb}
@@ -10,7 +10,7 @@ use lib.ListN.{length, length-append, length-map}
 use Rattle.language.specs.Choice.{if′}
 use Rattle.language.specs.Lexemes.{same}
 use Rattle.language.specs.Names.{without, distinct, NewAfter}
-use Rattle.language.proofs.Tests.{either, same-equal}
+use Rattle.language.proofs.Tests.{either, same-equal, each-side}
 
 -- ---- the test of names
 
@@ -84,6 +84,15 @@ module _ (w : List ℕ) where
       by false true h = rw (h, append-nil)
       by false false h = rw h
 
+-- so they do not get fewer
+pub distinct-grows : (ws vs : List (List ℕ)) → length (distinct ws) ≤ length (distinct (ws ++ vs))
+distinct-grows ws [] = rw append-nil (omega arith)
+distinct-grows ws (v ∷ vs) =
+    let one : length (distinct ws) ≤ length (distinct (ws ++ v ∷ [])) =
+    rw (distinct-more v ws) (each-side (λ xs. length (distinct ws) ≤ length xs) (among v ws) (omega arith) (omega (arith, length-append (distinct ws) (v ∷ [])))) in
+    let on = rw append-assoc at (distinct-grows (ws ++ v ∷ []) vs) in
+    omega (arith, one, on)
+
 -- ---- a table of things with names
 
 module _ {A : Type 0} (name : A → List ℕ) where
@@ -100,7 +109,7 @@ module _ {A : Type 0} (name : A → List ℕ) where
     stands : {b : Bool} (w : List ℕ) → among w (map name xs) ≡ b → among w ws ≡ b
     stands w e = sym (among-distinct w ws) ∙ rw (k .those) at e
 
-    counted : length (distinct ws) ≡ length xs
+    pub counted : length (distinct ws) ≡ length xs
     counted = rw (← (k .those)) (length-map xs name)
 
     -- a name that is among them

@@ -150,7 +150,7 @@ judged-met : (s : List ℕ) (room t n : ℕ) (o : Outcome) → checked s ≡ o
 judged-met s room t n (refused m at) e =
     let f = refused-at s m at .0 e in
     rw (f .0) (here (rowOf 9 (judging s room)) (record { token = at; found = f .1 }) refl refl)
-judged-met s room t n (judged ds hs) e =
+judged-met s room t n (judged ds hs ls) e =
     later (λ h. let f = refused-at s namesNumber (h .token) .1 (refl, h .found) in never (cc))
     (rw e
     (both-tested (λ (a : Checked). a .verdict) 11 (eqb (errorsIn ds) 0) (ltb room (length hs)) (equal (errorsIn ds) 0)

@@ -17,7 +17,7 @@ use Rattle.language.specs.Tokens.{Content, eof, plain, name, string}
 use Rattle.language.specs.Sentences.{Expr, Stmt, firstOf, Out, ok, no, is, program}
 use Rattle.language.specs.Grammar.{PathNames, is-start, is-name, Chain, is-literal, is-address, is-sock4, is-local, is-path, is-member, is-call, Slashed, is-chain, is-slash, Expression, is-expression, Statement, is-import, is-let, is-expr, Program, is-end, is-next}
 use Rattle.language.specs.Values.{Value, isInteger, isBool, isSized, isIp4, isSock4, isString, isText, isFunction, Ty, tyBool, tyInt, tyIp4, tySock4, tyBytes, tyFunction, tyInteger, typeOf, Entry, entry, tableText, entries, entryAt, entryName, lookupFrom, lookup}
-use Rattle.language.specs.Judgements.{left, right, What, unknownName, unknownItem, unknownModule, notImported, notAModule, notAValue, alreadyBound, noMembers, operandType, integralTooLarge, multipleImports, discardedValue, truncated, Diag, isError, errorsIn, Judged, val, err, poisoned, Judgement, judgement, andThen, goesOn, ip4Of, integerOf, Known, known, Import, Binding, Held, Turn, goes, refuses, Outcome, refused, firstNamed, find, findImport, mostImports, mostNames, content, nameAt, tokValue, literalValue, leftOf, rightOf, cut, narrowed, lastItem, innerItem, walk, below, boundTo, judge, imported, importStmt, bound, letStmt, discarded, told, stmt, onward, run, judgeAll}
+use Rattle.language.specs.Judgements.{left, right, What, unknownName, unknownItem, unknownModule, notImported, notAModule, notAValue, alreadyBound, noMembers, operandType, integralTooLarge, multipleImports, discardedValue, truncated, Diag, isError, errorsIn, Judged, val, err, poisoned, Judgement, judgement, andThen, goesOn, ip4Of, integerOf, Known, known, Import, Binding, Held, Turn, goes, refuses, Outcome, refused, firstNamed, find, findImport, compared, mostImports, mostNames, content, nameAt, tokValue, literalValue, leftOf, rightOf, cut, narrowed, lastItem, innerItem, walk, below, boundTo, judge, imported, importStmt, bound, letStmt, discarded, told, stmt, onward, run, judgeAll}
 use Rattle.language.specs.Numbers.{statementsOf, foundBy, heldBy}
 use Rattle.language.specs.Checks.{PartOf, ModuleEntry}
 use Rattle.language.specs.Numbered.{ends, statementAt}
@@ -241,14 +241,14 @@ module _ (ts : List Content) where
       out : Sound (j .out)
       warns : Each Stands (j .warns)
 
-    alone : {o : Judged} → Sound o → Fine (judgement o [])
+    alone : {o : Judged} {ls : List ℕ} → Sound o → Fine (record { out = o; warns = []; looks = ls })
     alone h = record { out = h; warns = of-none }
 
     then-fine : (j : Judgement) (f : Value → Judgement) → Fine j → ((v : Value) → Right v → Fine (f v)) → Fine (andThen j f)
     unfolding andThen
     then-fine j f h g = by (j .out) (h .out)
       where
-        by : (o : Judged) → Sound o → Fine (goesOn o (j .warns) f)
+        by : (o : Judged) → Sound o → Fine (goesOn o (j .warns) (j .looks) f)
         by (val v) r = record { out = g v r .out; warns = of-both (h .warns) (g v r .warns) }
         by (err at w) r = record { out = r; warns = h .warns }
         by poisoned r = record { out = tt; warns = h .warns }
@@ -379,7 +379,7 @@ module _ (ts : List Content) where
     Holds h = Right (h .value) × In (h .at)
 
     abbrev Turned : Turn → Type 0
-    Turned (goes k ds hs) = Sure k × Each Stands ds × Each Holds hs
+    Turned (goes k ds hs ls) = Sure k × Each Stands ds × Each Holds hs
     Turned (refuses m t) = In t
 
     module _ (k : Known) (sure : Sure k) where
@@ -400,28 +400,28 @@ module _ (ts : List Content) where
           each-side Turned (ltb (length (k .imports)) mostImports)
           (imported-turned t (lookup 0 (nameAt ts t)) a (root-module (nameAt ts t))) (a .1)
 
-      bound-turned : (t : ℕ) (o : Judged) (ws : List Diag) → NameIn t → Sound o → Each Stands ws
-          → Turned (bound ts n k t o ws)
-      bound-turned t (val v) ws a h l = (more-values _ (h, a .0), l, of-none)
-      bound-turned t (err at w) ws a h l = (more-values _ (tt, a .0), of-both l (of-one (h, refl)), of-none)
-      bound-turned t poisoned ws a h l = (more-values _ (tt, a .0), l, of-none)
+      bound-turned : (t : ℕ) (o : Judged) (ws : List Diag) (ls : List ℕ) → NameIn t → Sound o → Each Stands ws
+          → Turned (bound ts n k t o ws ls)
+      bound-turned t (val v) ws ls a h l = (more-values _ (h, a .0), l, of-none)
+      bound-turned t (err at w) ws ls a h l = (more-values _ (tt, a .0), of-both l (of-one (h, refl)), of-none)
+      bound-turned t poisoned ws ls a h l = (more-values _ (tt, a .0), l, of-none)
 
-      let-turned : (t : ℕ) (e : Expr) (o : Option Binding) → NameIn t → If Bound o → Fine (judge ts n k e)
-          → Turned (letStmt ts n k t e o)
-      let-turned t e (some b) a h f = (sure, of-one (((a .0, h .1), a .1), refl), of-none)
-      let-turned t e none a h f =
+      let-turned : (t : ℕ) (e : Expr) (l : ℕ) (o : Option Binding) → NameIn t → If Bound o → Fine (judge ts n k e)
+          → Turned (letStmt ts n k t e l o)
+      let-turned t e l (some b) a h f = (sure, of-one (((a .0, h .1), a .1), refl), of-none)
+      let-turned t e l none a h f =
           each-side Turned (ltb (length (k .bindings)) mostNames)
-          (bound-turned t (judge ts n k e .out) (judge ts n k e .warns) a (f .out) (f .warns)) (a .1)
+          (bound-turned t (judge ts n k e .out) (judge ts n k e .warns) (l ∷ judge ts n k e .looks) a (f .out) (f .warns)) (a .1)
 
-      discarded-turned : (at : ℕ) (o : Option Value) (ws : List Diag) → In at → If Right o → Each Stands ws
-          → Turned (discarded ts n k at o ws)
-      discarded-turned at (some v) ws a h l = (sure, of-both l (of-one ((type-named v h, a), refl)), of-one (h, a))
-      discarded-turned at none ws a h l = (sure, of-both l (of-one ((tt, a), refl)), of-none)
+      discarded-turned : (at : ℕ) (o : Option Value) (ws : List Diag) (ls : List ℕ) → In at → If Right o → Each Stands ws
+          → Turned (discarded ts n k at o ws ls)
+      discarded-turned at (some v) ws ls a h l = (sure, of-both l (of-one ((type-named v h, a), refl)), of-one (h, a))
+      discarded-turned at none ws ls a h l = (sure, of-both l (of-one ((tt, a), refl)), of-none)
 
-      told-turned : (at : ℕ) (o : Judged) (ws : List Diag) → In at → Sound o → Each Stands ws → Turned (told ts n k at o ws)
-      told-turned at (val v) ws a h l = discarded-turned at (narrowed v) ws a (narrowed-right v h) l
-      told-turned at (err p w) ws a h l = (sure, of-both l (of-one (h, refl)), of-none)
-      told-turned at poisoned ws a h l = (sure, l, of-none)
+      told-turned : (at : ℕ) (o : Judged) (ws : List Diag) (ls : List ℕ) → In at → Sound o → Each Stands ws → Turned (told ts n k at o ws ls)
+      told-turned at (val v) ws ls a h l = discarded-turned at (narrowed v) ws ls a (narrowed-right v h) l
+      told-turned at (err p w) ws ls a h l = (sure, of-both l (of-one (h, refl)), of-none)
+      told-turned at poisoned ws ls a h l = (sure, l, of-none)
 
       stmt-turned : {s : Stmt} → Statement ts from s to → Turned (stmt ts n k s)
       unfolding stmt
@@ -429,14 +429,14 @@ module _ (ts : List Content) where
           import-turned t (findImport (k .imports) (nameAt ts t)) (b .passes, omega (arith, a .after, b .after, c .after))
       stmt-turned (is-let {t = t} {e = e} a b c x o) =
           let i = expr-on ts x in
-          let-turned t e (find (k .bindings) (nameAt ts t)) (b .passes, omega (arith, a .after, b .after, c .after, i, o .after))
+          let-turned t e (compared (k .bindings) (nameAt ts t)) (find (k .bindings) (nameAt ts t)) (b .passes, omega (arith, a .after, b .after, c .after, i, o .after))
           (find-each _ (k .bindings) (nameAt ts t) (sure .values))
           (expr-fine k sure x (omega (arith, a .after, b .after, c .after)) (omega (arith, o .after)))
       stmt-turned (is-expr {mid = mid} {e = e} x o) =
           let i : mid ≤ to = omega (arith, o .after) in
           let f = expr-fine k sure x (omega arith) i in
           let a : In (firstOf e) = rw (expr-first ts x) (omega (arith, expr-on ts x)) in
-          told-turned (firstOf e) (judge ts n k e .out) (judge ts n k e .warns) a (f .out) (f .warns)
+          told-turned (firstOf e) (judge ts n k e .out) (judge ts n k e .warns) (judge ts n k e .looks) a (f .out) (f .warns)
 
   -- ---- the run
 
@@ -494,29 +494,30 @@ module _ (ts : List Content) where
           kept = of-both (a .kept) (each-also g held-there);
         }
 
-    onward-grounded : (t : Turn) (ds : List Diag) (hs : List Held) (f : Known → List Diag → List Held → Outcome) → Turned n at next t
-        → ((k : Known) (es : List Diag) (gs : List Held) → t ≡ goes k es gs → errorsIn es ≤ 1) → Gathered n ds hs
-        → ((k : Known) (es : List Diag) (gs : List Held) → Sure k → Gathered (suc n) es gs → Grounded (f k es gs))
-        → Grounded (onward ts t ds hs f)
-    onward-grounded (refuses m t) ds hs f h l a g =
+    onward-grounded : (t : Turn) (ds : List Diag) (hs : List Held) (ls : List ℕ) (f : Known → List Diag → List Held → List ℕ → Outcome) → Turned n at next t
+        → ((k : Known) (es : List Diag) (gs : List Held) (ms : List ℕ) → t ≡ goes k es gs ms → errorsIn es ≤ 1) → Gathered n ds hs
+        → ((k : Known) (es : List Diag) (gs : List Held) (ms : List ℕ) → Sure k → Gathered (suc n) es gs → Grounded (f k es gs ms))
+        → Grounded (onward ts t ds hs ls f)
+    onward-grounded (refuses m t) ds hs ls f h l a g =
         let i : t < length ts = omega (arith, h .1, stmt-inside ts x) in
         record { found = of-none; order = no-pair; kept = of-none; stopped = λ j u e. let z : t ≡ u = cc in rw z at i }
-    onward-grounded (goes k es gs) ds hs f h l a g = g k (ds ++ es) (hs ++ gs) (h .0) (gathered a (h .1) (l k es gs refl) (h .2))
+    onward-grounded (goes k es gs ms) ds hs ls f h l a g =
+        g k (ds ++ es) (hs ++ gs) (ls ++ ms) (h .0) (gathered a (h .1) (l k es gs ms refl) (h .2))
 
-  run-grounded : {at next : ℕ} {ss : List Stmt} → Program ts at ss next → (n : ℕ) (k : Known) (ds : List Diag) (hs : List Held)
-      → n ≡ statementAt ts at → Sure k → Gathered n ds hs → Grounded (run ts ss n k ds hs)
+  run-grounded : {at next : ℕ} {ss : List Stmt} → Program ts at ss next → (n : ℕ) (k : Known) (ds : List Diag) (hs : List Held) (ls : List ℕ)
+      → n ≡ statementAt ts at → Sure k → Gathered n ds hs → Grounded (run ts ss n k ds hs ls)
   unfolding run
-  run-grounded (is-end e) n k ds hs i sure a =
+  run-grounded (is-end e) n k ds hs ls i sure a =
       record { found = a .found; order = a .order; kept = a .kept; stopped = λ m t f. never (cc) }
-  run-grounded (is-next {at} {mid} {s = s} x p) n k ds hs i sure a =
-      onward-grounded x n i (stmt ts n k s) ds hs _ (stmt-turned n at mid k sure x) (λ k′ es gs. one-error ts n k k′ s es gs) a
-      (λ k′ es gs c d. run-grounded p _ k′ es gs (omega (arith, stmt-ended ts x)) c d)
+  run-grounded (is-next {at} {mid} {s = s} x p) n k ds hs ls i sure a =
+      onward-grounded x n i (stmt ts n k s) ds hs ls _ (stmt-turned n at mid k sure x) (λ k′ es gs ms. one-error ts n k k′ s es gs ms) a
+      (λ k′ es gs ms c d. run-grounded p _ k′ es gs ms (omega (arith, stmt-ended ts x)) c d)
 
   -- whatever the contents are, and if they are no program nothing is found
   parsed-grounded : (o : Out (List Stmt)) → Every (λ ss next x. Program ts 0 ss next) o → Grounded (judgeAll ts (statementsOf o))
   unfolding run ends
   parsed-grounded (ok ss at x) h =
-      run-grounded (h .holds) 1 (known [] []) [] [] refl (record { values = of-none; modules = of-none })
+      run-grounded (h .holds) 1 (known [] []) [] [] [] refl (record { values = of-none; modules = of-none })
       (record { found = of-none; earlier = of-none; order = no-pair; kept = of-none })
   parsed-grounded (no n m at) h = record { found = of-none; order = no-pair; kept = of-none; stopped = λ i t e. never (cc) }
 

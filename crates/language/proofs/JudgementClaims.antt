@@ -13,7 +13,7 @@ use Rattle.language.specs.Tokens.{Content}
 use Rattle.language.specs.Tables.{bit}
 use Rattle.language.specs.Sentences.{Expr, literal, sock4, local, path, member, call, slash′, Stmt, import′, let′, expr′, firstOf}
 use Rattle.language.specs.Values.{Value, isInteger, isBool, isSized, isIp4, isSock4, isString, isText, isFunction, tyInt, lookup}
-use Rattle.language.specs.Judgements.{truncated, Diag, diag, isError, errorsIn, warningsIn, Judged, val, err, poisoned, Judgement, andThen, goesOn, Known, known, Import, Binding, Held, Turn, goes, refuses, Outcome, judged, refused, find, findImport, mostImports, mostNames, nameAt, leftOf, rightOf, cut, narrowed, judge, imported, importStmt, bound, letStmt, discarded, told, stmt, onward, run, judgeAll, OneError, StatementsFew, AllCounted, BoundFirst}
+use Rattle.language.specs.Judgements.{truncated, Diag, diag, isError, errorsIn, warningsIn, Judged, val, err, poisoned, Judgement, andThen, goesOn, Known, known, Import, Binding, Held, Turn, goes, refuses, Outcome, judged, refused, find, findImport, compared, mostImports, mostNames, nameAt, leftOf, rightOf, cut, narrowed, judge, imported, importStmt, bound, letStmt, discarded, told, stmt, onward, run, judgeAll, OneError, StatementsFew, AllCounted, BoundFirst}
 use Rattle.language.proofs.Tests.{each-side}
 
 pub all-counted : AllCounted
@@ -39,7 +39,7 @@ module _ (ts : List Content) (n : ℕ) where
   unfolding andThen Silent
   then-silent j f h g = go (j .out)
     where
-      go : (o : Judged) → errorsIn (goesOn o (j .warns) f .warns) ≡ 0
+      go : (o : Judged) → errorsIn (goesOn o (j .warns) (j .looks) f .warns) ≡ 0
       go (val v) = rw (errors-append (j .warns) (f v .warns), h, g v)
       go (err at w) = h
       go poisoned = h
@@ -91,7 +91,7 @@ pub data Adds (ws : List Diag) : List Diag → List Held → Type 0 where
   holding : (d : Diag) (h : Held) → Adds ws (ws ++ d ∷ []) (h ∷ [])
 
 abbrev pub AddsTo : List Diag → Turn → Type 0
-AddsTo ws (goes k ds hs) = Adds ws ds hs
+AddsTo ws (goes k ds hs ls) = Adds ws ds hs
 AddsTo ws (refuses m t) = Unit
 
 module _ (ts : List Content) (n : ℕ) (k : Known) where
@@ -108,35 +108,35 @@ module _ (ts : List Content) (n : ℕ) (k : Known) where
   import-adds t (some i) = alone _
   import-adds t none = each-side (AddsTo []) (ltb (length (k .imports)) mostImports) (imported-adds t (lookup 0 (nameAt ts t))) tt
 
-  bound-adds : (t : ℕ) (o : Judged) (ws : List Diag) → AddsTo ws (bound ts n k t o ws)
-  bound-adds t (val v) ws = nothing
-  bound-adds t (err at w) ws = finding _
-  bound-adds t poisoned ws = nothing
+  bound-adds : (t : ℕ) (o : Judged) (ws : List Diag) (ls : List ℕ) → AddsTo ws (bound ts n k t o ws ls)
+  bound-adds t (val v) ws ls = nothing
+  bound-adds t (err at w) ws ls = finding _
+  bound-adds t poisoned ws ls = nothing
 
-  let-adds : (t : ℕ) (e : Expr) (o : Option Binding) → AddsTo (judge ts n k e .warns) (letStmt ts n k t e o)
-  let-adds t e (some b) = alone _
-  let-adds t e none =
+  let-adds : (t : ℕ) (e : Expr) (l : ℕ) (o : Option Binding) → AddsTo (judge ts n k e .warns) (letStmt ts n k t e l o)
+  let-adds t e l (some b) = alone _
+  let-adds t e l none =
       let j = judge ts n k e in
-      each-side (AddsTo (j .warns)) (ltb (length (k .bindings)) mostNames) (bound-adds t (j .out) (j .warns)) tt
+      each-side (AddsTo (j .warns)) (ltb (length (k .bindings)) mostNames) (bound-adds t (j .out) (j .warns) (l ∷ j .looks)) tt
 
-  discarded-adds : (at : ℕ) (o : Option Value) (ws : List Diag) → AddsTo ws (discarded ts n k at o ws)
-  discarded-adds at (some v) ws = holding _ _
-  discarded-adds at none ws = finding _
+  discarded-adds : (at : ℕ) (o : Option Value) (ws : List Diag) (ls : List ℕ) → AddsTo ws (discarded ts n k at o ws ls)
+  discarded-adds at (some v) ws ls = holding _ _
+  discarded-adds at none ws ls = finding _
 
-  told-adds : (at : ℕ) (o : Judged) (ws : List Diag) → AddsTo ws (told ts n k at o ws)
-  told-adds at (val v) ws = discarded-adds at (narrowed v) ws
-  told-adds at (err p w) ws = finding _
-  told-adds at poisoned ws = nothing
+  told-adds : (at : ℕ) (o : Judged) (ws : List Diag) (ls : List ℕ) → AddsTo ws (told ts n k at o ws ls)
+  told-adds at (val v) ws ls = discarded-adds at (narrowed v) ws ls
+  told-adds at (err p w) ws ls = finding _
+  told-adds at poisoned ws ls = nothing
 
   pub adds : (s : Stmt) → AddsTo (warnsOf s) (stmt ts n k s)
   unfolding stmt
   adds (import′ t) = import-adds t (findImport (k .imports) (nameAt ts t))
-  adds (let′ t e) = let-adds t e (find (k .bindings) (nameAt ts t))
-  adds (expr′ e) = told-adds (firstOf e) (judge ts n k e .out) (judge ts n k e .warns)
+  adds (let′ t e) = let-adds t e (compared (k .bindings) (nameAt ts t)) (find (k .bindings) (nameAt ts t))
+  adds (expr′ e) = told-adds (firstOf e) (judge ts n k e .out) (judge ts n k e .warns) (judge ts n k e .looks)
 
 -- as many errors as one at the most, and as many statements
 Few : Turn → Type 0
-Few (goes k ds hs) = (errorsIn ds ≤ 1) × (length hs ≤ 1)
+Few (goes k ds hs ls) = (errorsIn ds ≤ 1) × (length hs ≤ 1)
 Few (refuses m t) = Unit
 
 one-at-most : (d : Diag) → errorsIn (d ∷ []) ≤ 1
@@ -155,7 +155,7 @@ few-added {ws} h (holding d x) = (one-more ws d h, omega arith)
 
 few-turn : (ws : List Diag) (t : Turn) → errorsIn ws ≡ 0 → AddsTo ws t → Few t
 unfolding Few
-few-turn ws (goes k ds hs) h a = few-added h a
+few-turn ws (goes k ds hs ls) h a = few-added h a
 few-turn ws (refuses m t) h a = tt
 
 module _ (ts : List Content) (n : ℕ) (k : Known) where
@@ -170,42 +170,42 @@ module _ (ts : List Content) (n : ℕ) (k : Known) where
 
 pub one-error : OneError
 unfolding Few
-one-error ts n k k′ s ds hs e = subst Few e (few ts n k s) .0
+one-error ts n k k′ s ds hs ls e = subst Few e (few ts n k s) .0
 
 -- ---- the run
 
 Fewer : ℕ → Outcome → Type 0
-Fewer m (judged ds hs) = length hs ≤ m
+Fewer m (judged ds hs ls) = length hs ≤ m
 Fewer m (refused v t) = Unit
 
 at-most : (m n : ℕ) (o : Outcome) → m ≤ n → Fewer m o → Fewer n o
 unfolding Fewer
-at-most m n (judged ds hs) h f = omega (arith, h, f)
+at-most m n (judged ds hs ls) h f = omega (arith, h, f)
 at-most m n (refused v t) h f = tt
 
 module _ (ts : List Content) where
   -- one statement, and those that follow
-  onward-fewer : (m : ℕ) (t : Turn) (ds : List Diag) (hs : List Held) (f : Known → List Diag → List Held → Outcome) → Few t
-      → ((k : Known) (es : List Diag) (gs : List Held) → Fewer (length gs + m) (f k es gs))
-      → Fewer (length hs + suc m) (onward ts t ds hs f)
+  onward-fewer : (m : ℕ) (t : Turn) (ds : List Diag) (hs : List Held) (ls : List ℕ) (f : Known → List Diag → List Held → List ℕ → Outcome) → Few t
+      → ((k : Known) (es : List Diag) (gs : List Held) (ms : List ℕ) → Fewer (length gs + m) (f k es gs ms))
+      → Fewer (length hs + suc m) (onward ts t ds hs ls f)
   unfolding Few Fewer
-  onward-fewer m (refuses v t) ds hs f h g = tt
-  onward-fewer m (goes k es gs) ds hs f h g =
+  onward-fewer m (refuses v t) ds hs ls f h g = tt
+  onward-fewer m (goes k es gs ms) ds hs ls f h g =
       let l : length (hs ++ gs) + m ≤ length hs + suc m = omega (arith, length-append hs gs, h .1) in
-      at-most (length (hs ++ gs) + m) (length hs + suc m) (f k (ds ++ es) (hs ++ gs)) l (g k (ds ++ es) (hs ++ gs))
+      at-most (length (hs ++ gs) + m) (length hs + suc m) (f k (ds ++ es) (hs ++ gs) (ls ++ ms)) l (g k (ds ++ es) (hs ++ gs) (ls ++ ms))
 
-  run-fewer : (ss : List Stmt) (n : ℕ) (k : Known) (ds : List Diag) (hs : List Held) → Fewer (length hs + length ss) (run ts ss n k ds hs)
+  run-fewer : (ss : List Stmt) (n : ℕ) (k : Known) (ds : List Diag) (hs : List Held) (ls : List ℕ) → Fewer (length hs + length ss) (run ts ss n k ds hs ls)
   unfolding run Fewer
-  run-fewer [] n k ds hs = omega arith
-  run-fewer (s ∷ ss) n k ds hs =
-      onward-fewer (length ss) (stmt ts n k s) ds hs _ (few ts n k s) (λ k′ es gs. run-fewer ss _ k′ es gs)
+  run-fewer [] n k ds hs ls = omega arith
+  run-fewer (s ∷ ss) n k ds hs ls =
+      onward-fewer (length ss) (stmt ts n k s) ds hs ls _ (few ts n k s) (λ k′ es gs ms. run-fewer ss _ k′ es gs ms)
 
 pub statements-few : StatementsFew
 unfolding Fewer
-statements-few ts ss ds hs e =
+statements-few ts ss ds hs ls e =
     let l : 0 + length ss ≤ length ss = omega arith in
-    subst (Fewer (length ss)) e (at-most (0 + length ss) (length ss) (judgeAll ts ss) l (run-fewer ts ss _ (known [] []) [] []))
+    subst (Fewer (length ss)) e (at-most (0 + length ss) (length ss) (judgeAll ts ss) l (run-fewer ts ss _ (known [] []) [] [] []))
 
 pub bound-first : BoundFirst
 unfolding stmt
-bound-first ts n k t e b h = ap (letStmt ts n k t e) h
+bound-first ts n k t e b h = ap (letStmt ts n k t e (compared (k .bindings) (nameAt ts t))) h

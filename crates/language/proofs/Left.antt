@@ -22,7 +22,7 @@ use Rattle.language.specs.Tables.{lexemeRow, lexemeWidth, tokenRow, toke
 use Rattle.language.specs.Sentences.{Out, ok, no, Stmt, nodes, nodeRow, nodeWidth}
 use Rattle.language.specs.Judgements.{What, unknownName, unknownItem, unknownModule, notImported, notAModule, notAValue, alreadyBound, noMembers, operandType, integralTooLarge, multipleImports, discardedValue, truncated, Diag, isError, errorsIn, warningsIn, Held, Outcome, judged, refused}
 use Rattle.language.specs.Findings.{severityOf, detail, diagRow, diagWidth, stmtRow, stmtWidth}
-use Rattle.language.specs.Numbers.{Verdict, verdict, placed, tokenPlace, Scanned, scanAnswer, scanTable, Lexed, lexAnswer, lexTable, Parsed, parsedAs, parseAnswer, parsedNodes, parseTokens, parseNodes, Canonised, canonised, canonAnswer, canonTokens, canonText, Checked, refusedCheck, firstCall, checked, foundBy, heldBy, checkedWithin, judgedWithin, checkAnswer, tokenOf, checkTokens, checkNodes, checkDiags, checkStmts, statementsOf}
+use Rattle.language.specs.Numbers.{Verdict, verdict, placed, tokenPlace, Scanned, scanAnswer, scanTable, Lexed, lexAnswer, lexTable, Parsed, parsedAs, parseAnswer, parsedNodes, parseTokens, parseNodes, Canonised, canonised, canonAnswer, canonTokens, canonText, Checked, refusedCheck, firstCall, checked, foundBy, heldBy, looksBy, sum, comparisons, checkedWithin, judgedWithin, checkAnswer, tokenOf, checkTokens, checkNodes, checkDiags, checkStmts, statementsOf}
 use Rattle.language.specs.Exactly.{parse}
 use Rattle.language.specs.Left.{AllZero, Rows, Leaves, byteRow, severe, ScanLeft, LexLeft, ParseLeft, CanonLeft, CheckLeft}
 use Rattle.language.proofs.Names.{names-refused}
@@ -215,16 +215,17 @@ module _ (s : List ℕ) where
   severe-warnings [] = refl
   severe-warnings (d ∷ ds) = rw (row-severity (d .at) (d .what), one-warning (isError (d .what)), severe-warnings ds)
 
-  record CheckCounts (ds : List Diag) (hs : List Held) (a : Checked) : Type 0 where
+  record CheckCounts (ds : List Diag) (hs : List Held) (ls : List ℕ) (a : Checked) : Type 0 where
     tokens : Counts (a .verdict .number) (a .tokens) (length (tokens s))
     nodes : Counts (a .verdict .number) (a .nodes) (length (parsedNodes (parse s)))
     errors : Counts (a .verdict .number) (a .errors) (errorsIn ds)
     warnings : Counts (a .verdict .number) (a .warnings) (warningsIn ds)
     stmts : a .errors ≡ 0 → Counts (a .verdict .number) (a .statements) (length hs)
     none-held : (a .errors ≡ 0 → ⊥) → a .statements ≡ 0
+    compared : Counts (a .verdict .number) (a .comparisons) (sum ls)
 
-  check-refused : (ds : List Diag) (hs : List Held) (v : Verdict) → 0 < v .number → CheckCounts ds hs (refusedCheck v)
-  check-refused ds hs v h =
+  check-refused : (ds : List Diag) (hs : List Held) (ls : List ℕ) (v : Verdict) → 0 < v .number → CheckCounts ds hs ls (refusedCheck v)
+  check-refused ds hs ls v h =
       record {
         tokens = none-counted (v .number) _ h;
         nodes = none-counted (v .number) _ h;
@@ -232,14 +233,15 @@ module _ (s : List ℕ) where
         warnings = none-counted (v .number) _ h;
         stmts = λ _. none-counted (v .number) _ h;
         none-held = λ z. absurd (z refl);
+        compared = none-counted (v .number) _ h;
       }
 
-  within-counts : (room t n : ℕ) (ds : List Diag) (hs : List Held) → t ≡ length (tokens s) → n ≡ length (parsedNodes (parse s))
-      → CheckCounts ds hs (checkedWithin room t n ds hs)
-  within-counts room t n ds hs c e =
-      by-cases (CheckCounts ds hs) (eqb (errorsIn ds) 0)
+  within-counts : (room t n : ℕ) (ds : List Diag) (hs : List Held) (ls : List ℕ) → t ≡ length (tokens s) → n ≡ length (parsedNodes (parse s))
+      → CheckCounts ds hs ls (checkedWithin room t n ds hs (sum ls))
+  within-counts room t n ds hs ls c e =
+      by-cases (CheckCounts ds hs ls) (eqb (errorsIn ds) 0)
       (λ z.
-      each-side (CheckCounts ds hs) (ltb room (length hs)) (check-refused ds hs (verdict 11 0 0) (omega arith))
+      each-side (CheckCounts ds hs ls) (ltb room (length hs)) (check-refused ds hs ls (verdict 11 0 0) (omega arith))
       (record {
         tokens = rw c (counted-all _);
         nodes = rw e (counted-all _);
@@ -247,6 +249,7 @@ module _ (s : List ℕ) where
         warnings = counted-all _;
         stmts = λ _. counted-all _;
         none-held = λ n. absurd (n refl);
+        compared = counted-all _;
       }))
       (λ z.
       record {
@@ -256,27 +259,28 @@ module _ (s : List ℕ) where
         warnings = counted-all _;
         stmts = λ n. absurd (eqb-false (errorsIn ds) 0 z n);
         none-held = λ _. refl;
+        compared = counted-all _;
       })
 
   judged-counts : (room t n : ℕ) → t ≡ length (tokens s) → n ≡ length (parsedNodes (parse s)) → (o : Outcome) → checked s ≡ o
-      → CheckCounts (foundBy o) (heldBy o) (judgedWithin s room t n o)
+      → CheckCounts (foundBy o) (heldBy o) (looksBy o) (judgedWithin s room t n o)
   unfolding checked
   judged-counts room t n c e (refused m at) q =
       let nine = names-refused (contents (tokens s)) (statementsOf (parse s)) m at .0 q .0 in
-      check-refused [] [] (placed m (tokenPlace s at)) (omega (arith, nine))
-  judged-counts room t n c e (judged ds hs) q = within-counts room t n ds hs c e
+      check-refused [] [] [] (placed m (tokenPlace s at)) (omega (arith, nine))
+  judged-counts room t n c e (judged ds hs ls) q = within-counts room t n ds hs ls c e
 
-  check-counts : (t n k : ℕ) → CheckCounts (foundBy (checked s)) (heldBy (checked s)) (checkAnswer s t n k)
+  check-counts : (t n k : ℕ) → CheckCounts (foundBy (checked s)) (heldBy (checked s)) (looksBy (checked s)) (checkAnswer s t n k)
   unfolding checkAnswer
   check-counts t n k =
       let p = parseAnswer s t n in
       let c = parse-counts s t n in
-      let P = CheckCounts (foundBy (checked s)) (heldBy (checked s)) in
+      let P = CheckCounts (foundBy (checked s)) (heldBy (checked s)) (looksBy (checked s)) in
       by-cases P (eqb (p .verdict .number) 0)
       (λ e.
-      found-or P (firstCall (parsedNodes (parse s))) (λ at. check-refused _ _ (placed 8 (tokenPlace s at)) (omega arith))
+      found-or P (firstCall (parsedNodes (parse s))) (λ at. check-refused _ _ _ (placed 8 (tokenPlace s at)) (omega arith))
       (judged-counts k (p .tokens) (p .nodes) (same-count (c .0) e) (same-count (c .1) e) (checked s) refl))
-      (λ e. check-refused _ _ (p .verdict) (let z = eqb-false (p .verdict .number) 0 e in omega (arith, z)))
+      (λ e. check-refused _ _ _ (p .verdict) (let z = eqb-false (p .verdict .number) 0 e in omega (arith, z)))
 
 -- ---- the claims
 
@@ -338,7 +342,7 @@ module _ {A : Type 0} (xs : List A) (errors : ℕ) where
   dropped false h = refl
 
 pub check-left : CheckLeft
-unfolding checkTokens checkNodes checkDiags checkStmts
+unfolding checkTokens checkNodes checkDiags checkStmts comparisons
 check-left s t n d k =
     let a = checkAnswer s (t / tokenWidth) (n / nodeWidth) (k / stmtWidth) in
     let c = check-counts s (t / tokenWidth) (n / nodeWidth) (k / stmtWidth) in
@@ -360,4 +364,6 @@ check-left s t n d k =
             let f : errorsIn ds ≡ 0 → ⊥ = λ q. e (c .errors .1 z ∙ q) in
             λ i. rw (dropped hs (errorsIn ds) (eqb number 0) f, tabled-none) (zero-words k i),
       );
+      compares = c .compared .1;
+      none-compared = c .compared .0;
     }

@@ -77,5 +77,6 @@ pub mod ShownNames
 pub mod PlacesInside
 pub mod Left
 pub mod Numbered
+pub mod Comparisons
 pub mod Told
 pub mod TokensApart

@@ -13,7 +13,7 @@ use Rattle.language.specs.Lexemes.{same}
 use Rattle.language.specs.Tokens.{Content}
 use Rattle.language.specs.Sentences.{Expr, Stmt, import′, let′, expr′, firstOf}
 use Rattle.language.specs.Values.{Value, lookup}
-use Rattle.language.specs.Judgements.{Diag, Judged, val, err, poisoned, Known, known, Import, Binding, Held, Turn, goes, refuses, Outcome, refused, namesNumber, firstNamed, find, findImport, mostImports, mostNames, nameAt, narrowed, judge, imported, importStmt, bind, bound, letStmt, discarded, told, stmt, onward, run}
+use Rattle.language.specs.Judgements.{Diag, Judged, val, err, poisoned, Known, known, Import, Binding, Held, Turn, goes, refuses, Outcome, refused, namesNumber, firstNamed, find, findImport, compared, mostImports, mostNames, nameAt, narrowed, judge, imported, importStmt, bind, bound, letStmt, discarded, told, stmt, onward, run}
 use Rattle.language.specs.Names.{letNames, importNames, TooMany, NamesRefused}
 use Rattle.language.proofs.Tests.{never, by-cases}
 use Rattle.language.proofs.DistinctNames.{among, Kept, none-kept, repeated, added, filled}
@@ -42,11 +42,11 @@ found-among named w (a ∷ xs) =
 
 module _ (ts : List Content) where
   -- after the statements us their distinct names are known
-  record Knows (us : List Stmt) (k : Known) : Type 0 where
-    lets : Kept bindingName mostNames (k .bindings) (letNames ts us)
+  pub record Knows (us : List Stmt) (k : Known) : Type 0 where
+    pub lets : Kept bindingName mostNames (k .bindings) (letNames ts us)
     imports : Kept importName mostImports (k .imports) (importNames ts us)
 
-  lets-append : (us vs : List Stmt) → letNames ts (us ++ vs) ≡ letNames ts us ++ letNames ts vs
+  pub lets-append : (us vs : List Stmt) → letNames ts (us ++ vs) ≡ letNames ts us ++ letNames ts vs
   unfolding letNames
   lets-append [] vs = refl
   lets-append (let′ t e ∷ us) vs = ap (λ (r : List (List ℕ)). nameAt ts t ∷ r) (lets-append us vs)
@@ -63,8 +63,8 @@ module _ (ts : List Content) where
   -- ---- one statement
 
   -- it goes on, and has no name that is one too many; or it stops, at that name
-  After : List Stmt → Stmt → Turn → Type 0
-  After us s (goes k ds hs) = Knows (us ++ s ∷ []) k × ((u : ℕ) → ¬ TooMany ts us s u)
+  unfoldable pub After : List Stmt → Stmt → Turn → Type 0
+  After us s (goes k ds hs ls) = Knows (us ++ s ∷ []) k × ((u : ℕ) → ¬ TooMany ts us s u)
   After us s (refuses m t) = (m ≡ namesNumber) × TooMany ts us s t
 
   module _ (us : List Stmt) (k : Known) (h : Knows us k) where
@@ -83,10 +83,10 @@ module _ (ts : List Content) where
         unfolding letNames importNames
         let-knows bs m = record { lets = rw (lets-append us (let′ t e ∷ [])) m; imports = imports-stay (let′ t e) refl }
 
-        bound-after : (o : Judged) (ws : List Diag) → among (nameAt ts t) (map bindingName (k .bindings)) ≡ false
-            → length (k .bindings) < mostNames → After us (let′ t e) (bound ts n k t o ws)
+        bound-after : (o : Judged) (ws : List Diag) (ls : List ℕ) → among (nameAt ts t) (map bindingName (k .bindings)) ≡ false
+            → length (k .bindings) < mostNames → After us (let′ t e) (bound ts n k t o ws ls)
         unfolding After
-        bound-after o ws new room = go o
+        bound-after o ws ls new room = go o
           where
             binds : (v : Option Value) → Knows (us ++ let′ t e ∷ []) (bind ts n k t v) × ((u : ℕ) → ¬ TooMany ts us (let′ t e) u)
             binds v =
@@ -94,20 +94,20 @@ module _ (ts : List Content) where
                 let a = added bindingName (h .lets) b new room in
                 (let-knows (k .bindings ++ b ∷ []) (a .0), λ u m. a .1 (m .1))
 
-            go : (o : Judged) → After us (let′ t e) (bound ts n k t o ws)
+            go : (o : Judged) → After us (let′ t e) (bound ts n k t o ws ls)
             go (val v) = binds (some v)
             go (err at w) = binds none
             go poisoned = binds none
 
-        let-after : (o : Option Binding) → find (k .bindings) (nameAt ts t) ≡ o → After us (let′ t e) (letStmt ts n k t e o)
+        let-after : (l : ℕ) (o : Option Binding) → find (k .bindings) (nameAt ts t) ≡ o → After us (let′ t e) (letStmt ts n k t e l o)
         unfolding After
-        let-after (some b) f =
+        let-after l (some b) f =
             let a = repeated bindingName (h .lets) (nameAt ts t) (found-among bindingName (nameAt ts t) (k .bindings) ∙ ap isFound f) in
             (let-knows (k .bindings) (a .0), λ u m. a .1 (m .1))
-        let-after none f =
+        let-after l none f =
             let new = found-among bindingName (nameAt ts t) (k .bindings) ∙ ap isFound f in
             by-cases (After us (let′ t e)) (ltb (length (k .bindings)) mostNames)
-            (λ r. bound-after (judge ts n k e .out) (judge ts n k e .warns) new (ltb-true (length (k .bindings)) mostNames r))
+            (λ r. bound-after (judge ts n k e .out) (judge ts n k e .warns) (l ∷ judge ts n k e .looks) new (ltb-true (length (k .bindings)) mostNames r))
             (λ r. (refl, (refl, filled bindingName (h .lets) (nameAt ts t) new (ltb-false (length (k .bindings)) mostNames r))))
 
       import-knows : (is : List Import) → Kept importName mostImports is (importNames ts us ++ nameAt ts t ∷ [])
@@ -144,27 +144,27 @@ module _ (ts : List Content) where
           (λ r. (refl, (refl, filled importName (h .imports) (nameAt ts t) new (ltb-false (length (k .imports)) mostImports r))))
 
     module _ (n : ℕ) where
-      told-after : (e : Expr) (o : Judged) (ws : List Diag) → After us (expr′ e) (told ts n k (firstOf e) o ws)
+      told-after : (e : Expr) (o : Judged) (ws : List Diag) (ls : List ℕ) → After us (expr′ e) (told ts n k (firstOf e) o ws ls)
       unfolding After letNames importNames
-      told-after e o ws = go o
+      told-after e o ws ls = go o
         where
           stays : Knows (us ++ expr′ e ∷ []) k × ((u : ℕ) → ¬ TooMany ts us (expr′ e) u)
           stays = (record { lets = lets-stay (expr′ e) refl; imports = imports-stay (expr′ e) refl }, λ u m. m)
 
-          narrowed-after : (v : Option Value) → After us (expr′ e) (discarded ts n k (firstOf e) v ws)
+          narrowed-after : (v : Option Value) → After us (expr′ e) (discarded ts n k (firstOf e) v ws ls)
           narrowed-after (some v) = stays
           narrowed-after none = stays
 
-          go : (o : Judged) → After us (expr′ e) (told ts n k (firstOf e) o ws)
+          go : (o : Judged) → After us (expr′ e) (told ts n k (firstOf e) o ws ls)
           go (val v) = narrowed-after (narrowed v)
           go (err at w) = stays
           go poisoned = stays
 
-      stmt-after : (s : Stmt) → After us s (stmt ts n k s)
+      pub stmt-after : (s : Stmt) → After us s (stmt ts n k s)
       unfolding stmt
       stmt-after (import′ t) = import-after n t (findImport (k .imports) (nameAt ts t)) refl
-      stmt-after (let′ t e) = let-after n t e (find (k .bindings) (nameAt ts t)) refl
-      stmt-after (expr′ e) = told-after e (judge ts n k e .out) (judge ts n k e .warns)
+      stmt-after (let′ t e) = let-after n t e (compared (k .bindings) (nameAt ts t)) (find (k .bindings) (nameAt ts t)) refl
+      stmt-after (expr′ e) = told-after e (judge ts n k e .out) (judge ts n k e .warns) (judge ts n k e .looks)
 
   -- ---- the run
 
@@ -222,23 +222,23 @@ module _ (ts : List Content) where
         }
 
   -- a run that is refused at a name has reached it
-  refused-reached : {m t : ℕ} (ss us : List Stmt) (n : ℕ) (k : Known) (ds : List Diag) (hs : List Held) → Knows us k
-      → run ts ss n k ds hs ≡ refused m t → (m ≡ namesNumber) × Reached us ss t
+  refused-reached : {m t : ℕ} (ss us : List Stmt) (n : ℕ) (k : Known) (ds : List Diag) (hs : List Held) (ls : List ℕ) → Knows us k
+      → run ts ss n k ds hs ls ≡ refused m t → (m ≡ namesNumber) × Reached us ss t
   unfolding run After
-  refused-reached [] us n k ds hs h e = never (cc)
-  refused-reached {m} {t} (s ∷ ss) us n k ds hs h e =
-      by (stmt ts n k s) _ (stmt-after us k h n s) e (λ k′ es gs. refused-reached ss (us ++ s ∷ []) _ k′ es gs)
+  refused-reached [] us n k ds hs ls h e = never (cc)
+  refused-reached {m} {t} (s ∷ ss) us n k ds hs ls h e =
+      by (stmt ts n k s) _ (stmt-after us k h n s) e (λ k′ es gs ms. refused-reached ss (us ++ s ∷ []) _ k′ es gs ms)
     where
-      by : (o : Turn) (on : Known → List Diag → List Held → Outcome) → After us s o → onward ts o ds hs on ≡ refused m t
-          → ((k′ : Known) (es : List Diag) (gs : List Held) → Knows (us ++ s ∷ []) k′ → on k′ es gs ≡ refused m t
+      by : (o : Turn) (on : Known → List Diag → List Held → List ℕ → Outcome) → After us s o → onward ts o ds hs ls on ≡ refused m t
+          → ((k′ : Known) (es : List Diag) (gs : List Held) (ms : List ℕ) → Knows (us ++ s ∷ []) k′ → on k′ es gs ms ≡ refused m t
           → (m ≡ namesNumber) × Reached (us ++ s ∷ []) ss t)
           → (m ≡ namesNumber) × Reached us (s ∷ ss) t
       by (refuses v u) on a f rest =
           let p : v ≡ m = cc in
           let q : u ≡ t = cc in
           (sym p ∙ a .0, reached-here us s ss (rw q at (a .1)))
-      by (goes k′ es gs) on a f rest =
-          let r = rest k′ (ds ++ es) (hs ++ gs) (a .0) f in
+      by (goes k′ es gs ms) on a f rest =
+          let r = rest k′ (ds ++ es) (hs ++ gs) (ls ++ ms) (a .0) f in
           (r .0, reached-later us s ss (a .1) (r .1))
 
   -- a statement has one name at the most
@@ -248,36 +248,36 @@ module _ (ts : List Content) where
   one-token us (expr′ e) a b = absurd a
 
   -- a run that reaches a name is refused there
-  reached-refused : {t : ℕ} (bs us : List Stmt) (s : Stmt) (ss : List Stmt) (n : ℕ) (k : Known) (ds : List Diag) (hs : List Held)
-      → Knows us k → Clear us bs → TooMany ts (us ++ bs) s t → run ts (bs ++ s ∷ ss) n k ds hs ≡ refused namesNumber t
+  reached-refused : {t : ℕ} (bs us : List Stmt) (s : Stmt) (ss : List Stmt) (n : ℕ) (k : Known) (ds : List Diag) (hs : List Held) (ls : List ℕ)
+      → Knows us k → Clear us bs → TooMany ts (us ++ bs) s t → run ts (bs ++ s ∷ ss) n k ds hs ls ≡ refused namesNumber t
   unfolding run After
-  reached-refused {t} [] us s ss n k ds hs h c m = by (stmt ts n k s) _ (stmt-after us k h n s) (rw append-nil at m)
+  reached-refused {t} [] us s ss n k ds hs ls h c m = by (stmt ts n k s) _ (stmt-after us k h n s) (rw append-nil at m)
     where
-      by : (o : Turn) (on : Known → List Diag → List Held → Outcome) → After us s o → TooMany ts us s t
-          → onward ts o ds hs on ≡ refused namesNumber t
+      by : (o : Turn) (on : Known → List Diag → List Held → List ℕ → Outcome) → After us s o → TooMany ts us s t
+          → onward ts o ds hs ls on ≡ refused namesNumber t
       by (refuses v u) on a x = rw (a .0, one-token us s (a .1) x)
-      by (goes k′ es gs) on a x = absurd (a .1 t x)
-  reached-refused {t} (b ∷ bs) us s ss n k ds hs h c m =
+      by (goes k′ es gs ms) on a x = absurd (a .1 t x)
+  reached-refused {t} (b ∷ bs) us s ss n k ds hs ls h c m =
       let l = clear-less us b bs c in
       by (stmt ts n k b) _ (stmt-after us k h n b) (l .0)
-      (λ k′ es gs i. reached-refused bs (us ++ b ∷ []) s ss _ k′ es gs i (l .1) (rw append-assoc m))
+      (λ k′ es gs ms i. reached-refused bs (us ++ b ∷ []) s ss _ k′ es gs ms i (l .1) (rw append-assoc m))
     where
-      by : (o : Turn) (on : Known → List Diag → List Held → Outcome) → After us b o → ((u : ℕ) → ¬ TooMany ts us b u)
-          → ((k′ : Known) (es : List Diag) (gs : List Held) → Knows (us ++ b ∷ []) k′ → on k′ es gs ≡ refused namesNumber t)
-          → onward ts o ds hs on ≡ refused namesNumber t
+      by : (o : Turn) (on : Known → List Diag → List Held → List ℕ → Outcome) → After us b o → ((u : ℕ) → ¬ TooMany ts us b u)
+          → ((k′ : Known) (es : List Diag) (gs : List Held) (ms : List ℕ) → Knows (us ++ b ∷ []) k′ → on k′ es gs ms ≡ refused namesNumber t)
+          → onward ts o ds hs ls on ≡ refused namesNumber t
       by (refuses v u) on a x rest = absurd (x u (a .1))
-      by (goes k′ es gs) on a x rest = rest k′ (ds ++ es) (hs ++ gs) (a .0)
+      by (goes k′ es gs ms) on a x rest = rest k′ (ds ++ es) (hs ++ gs) (ls ++ ms) (a .0)
 
-  none-known : Knows [] (known [] [])
+  pub none-known : Knows [] (known [] [])
   unfolding letNames importNames
   none-known = record { lets = none-kept bindingName mostNames; imports = none-kept importName mostImports }
 
 pub names-refused : NamesRefused
 names-refused ts ss m t = (
-  λ e. let g = refused-reached ts ss [] _ (known [] []) [] [] (none-known ts) e in
+  λ e. let g = refused-reached ts ss [] _ (known [] []) [] [] [] (none-known ts) e in
       let r = g .1 in
       (g .0, record { before = r .before; here = r .here; after = r .after; order = r .order; tooMany = r .tooMany; first = r .first }),
   λ h. let f = h .1 in
       rw (h .0, f .order)
-      (reached-refused ts (f .before) [] (f .here) (f .after) _ (known [] []) [] [] (none-known ts) (f .first) (f .tooMany)),
+      (reached-refused ts (f .before) [] (f .here) (f .after) _ (known [] []) [] [] [] (none-known ts) (f .first) (f .tooMany)),
 )

@@ -11,7 +11,7 @@ use Rattle.language.specs.Tokens.{Content, plain, tokens, contents}
 use Rattle.language.specs.Tables.{contentLow}
 use Rattle.language.specs.Sentences.{Expr, literal, sock4, local, path, member, call, slash′, Stmt, import′, let′, expr′, Out, ok, no, callKind, Node, nodes, program, callsOf, argCalls, stmtCalls, programCalls, callTokens}
 use Rattle.language.specs.Values.{entryAt, lookup}
-use Rattle.language.specs.Judgements.{unknownItem, Diag, Judged, val, err, poisoned, Import, Binding, Known, known, find, findImport, Held, Turn, goes, refuses, content, nameAt, literalAt, innerItem, walk, below, judge, imported, importStmt, bound, letStmt, stmt, onward, run, judgeAll}
+use Rattle.language.specs.Judgements.{unknownItem, Diag, Judged, val, err, poisoned, Import, Binding, Known, known, find, findImport, compared, Held, Turn, goes, refuses, content, nameAt, literalAt, innerItem, walk, below, judge, imported, importStmt, bound, letStmt, stmt, onward, run, judgeAll}
 use Rattle.language.specs.Numbers.{firstCall, parsedNodes, statementsOf, checked}
 use Rattle.language.specs.Sound.{NameStands, AddressStands, PortStands, PathStands, LiteralStands, a-bool, a-string, a-hex, a-dec, an-address, SoundExpr, SoundStmt, MadeUp, nameOr, literalOr, numberOr, walkOr, belowOr, judgeOr, importedOr, importStmtOr, boundOr, letStmtOr, stmtOr, runOr, judgeAllOr, NothingMadeUp}
 use Rattle.language.proofs.Tests.{never, by-cases}
@@ -115,38 +115,38 @@ module _ (ts : List Content) (x : MadeUp) where
     import-same t none h = rw (name-same t h, imported-same t (lookup 0 (nameAt ts t)) h)
     import-same t (some i) h = refl
 
-    bound-same : (t : ℕ) (o : Judged) (ws : List Diag) → NameStands ts t → boundOr ts x n k t o ws ≡ bound ts n k t o ws
-    bound-same t (val v) ws h = rw (name-same t h)
-    bound-same t (err at w) ws h = rw (name-same t h)
-    bound-same t poisoned ws h = rw (name-same t h)
+    bound-same : (t : ℕ) (o : Judged) (ws : List Diag) (ls : List ℕ) → NameStands ts t → boundOr ts x n k t o ws ls ≡ bound ts n k t o ws ls
+    bound-same t (val v) ws ls h = rw (name-same t h)
+    bound-same t (err at w) ws ls h = rw (name-same t h)
+    bound-same t poisoned ws ls h = rw (name-same t h)
 
-    let-same : (t : ℕ) (e : Expr) (o : Option Binding) → NameStands ts t → judgeOr ts x n k e ≡ judge ts n k e
-        → letStmtOr ts x n k t e o ≡ letStmt ts n k t e o
-    let-same t e none h f = rw (f, bound-same t (judge ts n k e .out) (judge ts n k e .warns) h)
-    let-same t e (some b) h f = refl
+    let-same : (t : ℕ) (e : Expr) (l : ℕ) (o : Option Binding) → NameStands ts t → judgeOr ts x n k e ≡ judge ts n k e
+        → letStmtOr ts x n k t e l o ≡ letStmt ts n k t e l o
+    let-same t e l none h f = rw (f, bound-same t (judge ts n k e .out) (judge ts n k e .warns) (l ∷ judge ts n k e .looks) h)
+    let-same t e l (some b) h f = refl
 
     stmt-same : (s : Stmt) → SoundStmt ts s → stmtCalls s ≡ [] → stmtOr ts x n k s ≡ stmt ts n k s
     unfolding stmtOr stmt
     stmt-same (import′ t) h c = rw (name-same t h) (import-same t (findImport (k .imports) (nameAt ts t)) h)
     stmt-same (let′ t e) h c =
-        rw (name-same t (h .0)) (let-same t e (find (k .bindings) (nameAt ts t)) (h .0) (judge-same e (h .1) c))
+        rw (name-same t (h .0)) (let-same t e (compared (k .bindings) (nameAt ts t)) (find (k .bindings) (nameAt ts t)) (h .0) (judge-same e (h .1) c))
     stmt-same (expr′ e) h c = rw (judge-same e h c)
 
   -- ---- the run
 
-  run-same : (ss : List Stmt) (n : ℕ) (k : Known) (ds : List Diag) (hs : List Held)
-      → ((s : Stmt) → List·Memᴰ s ss → SoundStmt ts s) → programCalls ss ≡ [] → runOr ts x ss n k ds hs ≡ run ts ss n k ds hs
+  run-same : (ss : List Stmt) (n : ℕ) (k : Known) (ds : List Diag) (hs : List Held) (ls : List ℕ)
+      → ((s : Stmt) → List·Memᴰ s ss → SoundStmt ts s) → programCalls ss ≡ [] → runOr ts x ss n k ds hs ls ≡ run ts ss n k ds hs ls
   unfolding runOr run
-  run-same [] n k ds hs h c = refl
-  run-same (s ∷ ss) n k ds hs h c =
+  run-same [] n k ds hs ls h c = refl
+  run-same (s ∷ ss) n k ds hs ls h c =
       let l = none-left (stmtCalls s) (programCalls ss) c in
       rw (stmt-same n k s (h s (List·Memᴰ·head refl)) (l .0))
-      (on (stmt ts n k s) (λ k′ es gs. run-same ss (suc n) k′ es gs (λ a m. h a (List·Memᴰ·tail m)) (l .1)))
+      (on (stmt ts n k s) (λ k′ es gs ms. run-same ss (suc n) k′ es gs ms (λ a m. h a (List·Memᴰ·tail m)) (l .1)))
     where
       on : (t : Turn)
-          → ((k′ : Known) (es : List Diag) (gs : List Held) → runOr ts x ss (suc n) k′ es gs ≡ run ts ss (suc n) k′ es gs)
-          → onward ts t ds hs (λ k′ es gs. runOr ts x ss (suc n) k′ es gs) ≡ onward ts t ds hs (λ k′ es gs. run ts ss (suc n) k′ es gs)
-      on (goes k′ es gs) f = f k′ (ds ++ es) (hs ++ gs)
+          → ((k′ : Known) (es : List Diag) (gs : List Held) (ms : List ℕ) → runOr ts x ss (suc n) k′ es gs ms ≡ run ts ss (suc n) k′ es gs ms)
+          → onward ts t ds hs ls (λ k′ es gs ms. runOr ts x ss (suc n) k′ es gs ms) ≡ onward ts t ds hs ls (λ k′ es gs ms. run ts ss (suc n) k′ es gs ms)
+      on (goes k′ es gs ms) f = f k′ (ds ++ es) (hs ++ gs) (ls ++ ms)
       on (refuses m t) f = refl
 
 pub nothing-made-up : NothingMadeUp
@@ -156,6 +156,6 @@ nothing-made-up s x e = by (program (contents (tokens s))) refl e
     by : (o : Out (List Stmt)) → program (contents (tokens s)) ≡ o → firstCall (parsedNodes o) ≡ none
         → judgeAllOr (contents (tokens s)) x (statementsOf o) ≡ judgeAll (contents (tokens s)) (statementsOf o)
     by (ok ss next y) p c =
-        run-same (contents (tokens s)) x ss 1 (known [] []) [] [] (trees-sound s ss next y p)
+        run-same (contents (tokens s)) x ss 1 (known [] []) [] [] [] (trees-sound s ss next y p)
         (sym (calls-shown ss) ∙ none-called (nodes ss) c)
-    by (no n k at) p c = run-same (contents (tokens s)) x [] 1 (known [] []) [] [] (λ a m. absurd (List·Memᴰ·not-nil m)) refl
+    by (no n k at) p c = run-same (contents (tokens s)) x [] 1 (known [] []) [] [] [] (λ a m. absurd (List·Memᴰ·not-nil m)) refl

@@ -27,6 +27,7 @@ pub record SameCheck (s u : List ℕ) (a b : Checked) : Type 0 where
   pub errors : a .errors ≡ b .errors
   pub warnings : a .warnings ≡ b .warnings
   pub statements : a .statements ≡ b .statements
+  pub comparisons : a .comparisons ≡ b .comparisons
 
 -- ---- findings
 

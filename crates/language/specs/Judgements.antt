@@ -93,22 +93,24 @@ pub data Judged : Type 0 where
   err : ℕ → What → Judged
   poisoned : Judged
 
--- with the warnings that came before
+-- with the warnings that came before, and the searches for a name among the bindings: how many names each compared
 pub record Judgement : Type 0 where
   pub out : Judged
   pub warns : List Diag
+  pub looks : List ℕ
 
+-- with no search
 abbrev pub judgement : Judged → List Diag → Judgement
-judgement o ws = record { out = o; warns = ws }
+judgement o ws = record { out = o; warns = ws; looks = [] }
 
 -- goes on with a value, and stops at an error
-abbrev pub goesOn : Judged → List Diag → (Value → Judgement) → Judgement
-goesOn (val v) ws f = judgement (f v .out) (ws ++ f v .warns)
-goesOn (err at w) ws f = judgement (err at w) ws
-goesOn poisoned ws f = judgement poisoned ws
+abbrev pub goesOn : Judged → List Diag → List ℕ → (Value → Judgement) → Judgement
+goesOn (val v) ws ls f = record { out = f v .out; warns = ws ++ f v .warns; looks = ls ++ f v .looks }
+goesOn (err at w) ws ls f = record { out = err at w; warns = ws; looks = ls }
+goesOn poisoned ws ls f = record { out = poisoned; warns = ws; looks = ls }
 
 unfoldable pub andThen : Judgement → (Value → Judgement) → Judgement
-andThen j f = goesOn (j .out) (j .warns) f
+andThen j f = goesOn (j .out) (j .warns) (j .looks) f
 
 abbrev pub ip4Of : Value → Option ℕ
 ip4Of (isIp4 n) = some n
@@ -204,6 +206,12 @@ findImport = firstNamed (λ i. i .name)
 abbrev pub find : List Binding → List ℕ → Option Binding
 find = firstNamed (λ b. b .name)
 
+-- how many names such a search compares (02, E8): "how many binding names were compared with a wanted name, searching in order of
+-- binding and stopping at the match"
+unfoldable pub compared : List Binding → List ℕ → ℕ
+compared [] w = 0
+compared (b ∷ bs) w = if′ (same (b .name) w) 1 (suc (compared bs w))
+
 -- a statement that the run holds: where it stands, and the constant that is discarded
 pub record Held : Type 0 where
   pub at : ℕ
@@ -212,13 +220,14 @@ pub record Held : Type 0 where
 abbrev pub held : ℕ → Value → Held
 held at v = record { at = at; value = v }
 
--- what a statement leads to: what is known then, its findings, what it holds; or a refusal: its number, and the token where it stands
+-- what a statement leads to: what is known then, its findings, what it holds and its searches; or a refusal: its number, and the
+-- token where it stands
 pub data Turn : Type 0 where
-  goes : Known → List Diag → List Held → Turn
+  goes : Known → List Diag → List Held → List ℕ → Turn
   refuses : ℕ → ℕ → Turn
 
 pub data Outcome : Type 0 where
-  judged : List Diag → List Held → Outcome
+  judged : List Diag → List Held → List ℕ → Outcome
   refused : ℕ → ℕ → Outcome
 
 module _ (ts : List Content) where
@@ -286,7 +295,8 @@ module _ (ts : List Content) where
     unfoldable pub judge : Known → Expr → Judgement
     judge k (literal t) = judgement (val (literalAt t)) []
     judge k (sock4 t) = judgement (val (isSock4 (contentLow (content t)) (contentLow (content (t + 2))))) []
-    judge k (local t) = judgement (boundTo t (find (k .bindings) (nameAt t))) []
+    judge k (local t) =
+        record { out = boundTo t (find (k .bindings) (nameAt t)); warns = []; looks = compared (k .bindings) (nameAt t) ∷ [] }
     judge k (path t m) = judgement (below t m (findImport (k .imports) (nameAt t))) []
     -- "In the base no value has members: `NoMembers`, at the name"
     judge k (member e t) = andThen (judge k e) (λ v. judgement (err t (noMembers (typeOf v))) [])
@@ -296,67 +306,71 @@ module _ (ts : List Content) where
     -- ---- statements
 
     abbrev pub imported : Known → ℕ → Option ℕ → Turn
-    imported k t (some m) = goes (known (k .imports ++ record { name = nameAt t; found = some m } ∷ []) (k .bindings)) [] []
-    imported k t none = goes (known (k .imports ++ record { name = nameAt t; found = none } ∷ []) (k .bindings)) (diag n t unknownModule ∷ []) []
+    imported k t (some m) = goes (known (k .imports ++ record { name = nameAt t; found = some m } ∷ []) (k .bindings)) [] [] []
+    imported k t none = goes (known (k .imports ++ record { name = nameAt t; found = none } ∷ []) (k .bindings)) (diag n t unknownModule ∷ []) [] []
 
     -- "importing a name again warns `MultipleImports`"
     abbrev pub importStmt : Known → ℕ → Option Import → Turn
-    importStmt k t (some i) = goes k (diag n t multipleImports ∷ []) []
+    importStmt k t (some i) = goes k (diag n t multipleImports ∷ []) [] []
     importStmt k t none = if′ (ltb (length (k .imports)) mostImports) (imported k t (lookup 0 (nameAt t))) (refuses namesNumber t)
 
     abbrev pub bind : Known → ℕ → Option Value → Known
     bind k t v = known (k .imports) (k .bindings ++ record { name = nameAt t; tok = t; value = v } ∷ [])
 
     -- "A let whose value errs binds its name as failed"
-    abbrev pub bound : Known → ℕ → Judged → List Diag → Turn
-    bound k t (val v) ws = goes (bind k t (some v)) ws []
-    bound k t (err at w) ws = goes (bind k t none) (ws ++ diag n at w ∷ []) []
-    bound k t poisoned ws = goes (bind k t none) ws []
+    abbrev pub bound : Known → ℕ → Judged → List Diag → List ℕ → Turn
+    bound k t (val v) ws ls = goes (bind k t (some v)) ws [] ls
+    bound k t (err at w) ws ls = goes (bind k t none) (ws ++ diag n at w ∷ []) [] ls
+    bound k t poisoned ws ls = goes (bind k t none) ws [] ls
 
-    -- "`AlreadyBound` is found before the value is read"
-    abbrev pub letStmt : Known → ℕ → Expr → Option Binding → Turn
-    letStmt k t e (some b) = goes k (diag n t (alreadyBound (b .tok)) ∷ []) []
-    letStmt k t e none = if′ (ltb (length (k .bindings)) mostNames) (bound k t (judge k e .out) (judge k e .warns)) (refuses namesNumber t)
+    -- "`AlreadyBound` is found before the value is read": that takes a search, which looks at l names
+    abbrev pub letStmt : Known → ℕ → Expr → ℕ → Option Binding → Turn
+    letStmt k t e l (some b) = goes k (diag n t (alreadyBound (b .tok)) ∷ []) [] (l ∷ [])
+    letStmt k t e l none =
+        let j = judge k e in
+        if′ (ltb (length (k .bindings)) mostNames) (bound k t (j .out) (j .warns) (l ∷ j .looks)) (refuses namesNumber t)
 
     -- "A value statement warns `DiscardedValue` with its type"; "refused with `IntegralTooLarge` exactly if none does"
-    abbrev pub discarded : Known → ℕ → Option Value → List Diag → Turn
-    discarded k at (some v) ws = goes k (ws ++ diag n at (discardedValue (typeOf v)) ∷ []) (held at v ∷ [])
-    discarded k at none ws = goes k (ws ++ diag n at integralTooLarge ∷ []) []
+    abbrev pub discarded : Known → ℕ → Option Value → List Diag → List ℕ → Turn
+    discarded k at (some v) ws ls = goes k (ws ++ diag n at (discardedValue (typeOf v)) ∷ []) (held at v ∷ []) ls
+    discarded k at none ws ls = goes k (ws ++ diag n at integralTooLarge ∷ []) [] ls
 
-    abbrev pub told : Known → ℕ → Judged → List Diag → Turn
-    told k at (val v) ws = discarded k at (narrowed v) ws
-    told k at (err p w) ws = goes k (ws ++ diag n p w ∷ []) []
-    told k at poisoned ws = goes k ws []
+    abbrev pub told : Known → ℕ → Judged → List Diag → List ℕ → Turn
+    told k at (val v) ws ls = discarded k at (narrowed v) ws ls
+    told k at (err p w) ws ls = goes k (ws ++ diag n p w ∷ []) [] ls
+    told k at poisoned ws ls = goes k ws [] ls
 
     unfoldable pub stmt : Known → Stmt → Turn
     stmt k (import′ t) = importStmt k t (findImport (k .imports) (nameAt t))
-    stmt k (let′ t e) = letStmt k t e (find (k .bindings) (nameAt t))
-    stmt k (expr′ e) = told k (firstOf e) (judge k e .out) (judge k e .warns)
+    stmt k (let′ t e) = letStmt k t e (compared (k .bindings) (nameAt t)) (find (k .bindings) (nameAt t))
+    stmt k (expr′ e) = told k (firstOf e) (judge k e .out) (judge k e .warns) (judge k e .looks)
 
-  -- ---- the run: the statements from the one numbered n on, after what was found and held so far
+  -- ---- the run: the statements from the one numbered n on, after what was found, held and looked at so far
 
-  abbrev pub onward : Turn → List Diag → List Held → (Known → List Diag → List Held → Outcome) → Outcome
-  onward (goes k ds hs) es gs f = f k (es ++ ds) (gs ++ hs)
-  onward (refuses m t) es gs f = refused m t
+  abbrev pub onward : Turn → List Diag → List Held → List ℕ → (Known → List Diag → List Held → List ℕ → Outcome) → Outcome
+  onward (goes k ds hs ms) es gs ls f = f k (es ++ ds) (gs ++ hs) (ls ++ ms)
+  onward (refuses m t) es gs ls f = refused m t
 
-  unfoldable pub run : List Stmt → ℕ → Known → List Diag → List Held → Outcome
-  run [] n k ds hs = judged ds hs
-  run (s ∷ ss) n k ds hs = onward (stmt n k s) ds hs (λ k′ es gs. run ss (suc n) k′ es gs)
+  unfoldable pub run : List Stmt → ℕ → Known → List Diag → List Held → List ℕ → Outcome
+  run [] n k ds hs ls = judged ds hs ls
+  run (s ∷ ss) n k ds hs ls = onward (stmt n k s) ds hs ls (λ k′ es gs ms. run ss (suc n) k′ es gs ms)
 
   abbrev pub judgeAll : List Stmt → Outcome
-  judgeAll ss = run ss 1 (known [] []) [] []
+  judgeAll ss = run ss 1 (known [] []) [] [] []
 
 -- ---- the claims
 
 -- the findings of one statement hold at most one error
 abbrev pub OneError : Type 0
 OneError =
-    (ts : List Content) (n : ℕ) (k k′ : Known) (s : Stmt) (ds : List Diag) (hs : List Held) → stmt ts n k s ≡ goes k′ ds hs
+    (ts : List Content) (n : ℕ) (k k′ : Known) (s : Stmt) (ds : List Diag) (hs : List Held) (ls : List ℕ) → stmt ts n k s ≡ goes k′ ds hs ls
     → errorsIn ds ≤ 1
 
 -- a statement holds at most one, so a program holds as many as it has statements, or fewer
 abbrev pub StatementsFew : Type 0
-StatementsFew = (ts : List Content) (ss : List Stmt) (ds : List Diag) (hs : List Held) → judgeAll ts ss ≡ judged ds hs → length hs ≤ length ss
+StatementsFew =
+    (ts : List Content) (ss : List Stmt) (ds : List Diag) (hs : List Held) (ls : List ℕ) → judgeAll ts ss ≡ judged ds hs ls
+    → length hs ≤ length ss
 
 -- every finding is an error or a warning
 abbrev pub AllCounted : Type 0
@@ -366,4 +380,4 @@ AllCounted = (ds : List Diag) → errorsIn ds + warningsIn ds ≡ length ds
 abbrev pub BoundFirst : Type 0
 BoundFirst =
     (ts : List Content) (n : ℕ) (k : Known) (t : ℕ) (e : Expr) (b : Binding) → find (k .bindings) (nameAt ts t) ≡ some b
-    → stmt ts n k (let′ t e) ≡ goes k (diag n t (alreadyBound (b .tok)) ∷ []) []
+    → stmt ts n k (let′ t e) ≡ goes k (diag n t (alreadyBound (b .tok)) ∷ []) [] (compared (k .bindings) (nameAt ts t) ∷ [])

@@ -14,7 +14,7 @@ use Rattle.language.specs.Tables.{lexemeRow, lexemeWidth, tokenRow, toke
 use Rattle.language.specs.Sentences.{nodeRow, nodeWidth}
 use Rattle.language.specs.Judgements.{Diag}
 use Rattle.language.specs.Findings.{diagRow, diagWidth, stmtRow, stmtWidth}
-use Rattle.language.specs.Numbers.{scanAnswer, scanTable, lexAnswer, lexTable, parsedNodes, parseAnswer, parseTokens, parseNodes, canonAnswer, canonTokens, canonText, tokenOf, checked, foundBy, heldBy, checkAnswer, checkTokens, checkNodes, checkDiags, checkStmts}
+use Rattle.language.specs.Numbers.{scanAnswer, scanTable, lexAnswer, lexTable, parsedNodes, parseAnswer, parseTokens, parseNodes, canonAnswer, canonTokens, canonText, tokenOf, checked, foundBy, heldBy, comparisons, checkAnswer, checkTokens, checkNodes, checkDiags, checkStmts}
 use Rattle.language.specs.Exactly.{parse}
 
 -- ---- one table
@@ -63,7 +63,7 @@ severe s k (d ∷ ds) = if′ (eqb (getD (diagRow (tokenOf s) d) 2 0) k) 1 0 + s
 
 -- "Its first rows, as many as fit, are kept, and errors and warnings are counted in full. If errors were counted, the statement
 -- table is all zero and its count 0"
-pub record CheckLeaves (s : List ℕ) (t n d k number counted rows errors warnings statements : ℕ) (toks tree found held : List ℕ) : Type 0 where
+pub record CheckLeaves (s : List ℕ) (t n d k number counted rows errors warnings statements compared : ℕ) (toks tree found held : List ℕ) : Type 0 where
   pub tokens : LexLeaves s t number counted toks
   pub nodes : Leaves nodeRow nodeWidth n (parsedNodes (parse s)) number rows tree
   pub diags : Leaves (diagRow (tokenOf s)) diagWidth d (foundBy (checked s)) number (errors + warnings) found
@@ -71,6 +71,9 @@ pub record CheckLeaves (s : List ℕ) (t n d k number counted rows errors warnin
   pub warned : number ≡ 0 → warnings ≡ severe s 2 (foundBy (checked s))
   pub stmts : errors ≡ 0 → Leaves (stmtRow (tokenOf s)) stmtWidth k (heldBy (checked s)) number statements held
   pub none-held : (errors ≡ 0 → ⊥) → (statements ≡ 0) × AllZero held
+  -- "It joins the answer of check, is 0 on refusal" (02, E8), and no room is in it
+  pub compares : number ≡ 0 → compared ≡ comparisons s
+  pub none-compared : (number ≡ 0 → ⊥) → compared ≡ 0
 
 -- ---- the claims
 
@@ -96,5 +99,5 @@ abbrev pub CheckLeft : Type 0
 CheckLeft =
     (s : List ℕ) (t n d k : ℕ)
     → let a = checkAnswer s (t / tokenWidth) (n / nodeWidth) (k / stmtWidth) in
-    CheckLeaves s t n d k (a .verdict .number) (a .tokens) (a .nodes) (a .errors) (a .warnings) (a .statements) (checkTokens s t n k)
+    CheckLeaves s t n d k (a .verdict .number) (a .tokens) (a .nodes) (a .errors) (a .warnings) (a .statements) (a .comparisons) (checkTokens s t n k)
     (checkNodes s t n k) (checkDiags s t n k d) (checkStmts s t n k)

@@ -23,6 +23,7 @@ pub mod Rows
 pub mod Names
 pub mod Checks
 pub mod Numbered
+pub mod Comparisons
 pub mod Determined
 pub mod Exactly
 pub mod Left

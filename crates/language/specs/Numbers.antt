@@ -1,5 +1,5 @@
 -- What each entry answers and leaves (01, "Numbers handed back"): one test after the other, in the order of its table.
-use Prim.Native.Nat.{ℕ, suc, _/_}
+use Prim.Native.Nat.{ℕ, suc, _+_, _/_}
 use mathlib.Core.Path.{_≡_}
 use mathlib.Core.List.{List, [], _∷_}
 use mathlib.Core.Option.{Option, none, some}
@@ -166,9 +166,10 @@ pub record Checked : Type 0 where
   pub errors : ℕ
   pub warnings : ℕ
   pub statements : ℕ
+  pub comparisons : ℕ
 
 abbrev pub refusedCheck : Verdict → Checked
-refusedCheck v = record { verdict = v; tokens = 0; nodes = 0; errors = 0; warnings = 0; statements = 0 }
+refusedCheck v = record { verdict = v; tokens = 0; nodes = 0; errors = 0; warnings = 0; statements = 0; comparisons = 0 }
 
 -- the earlier of a token and another, if there is another
 abbrev pub sooner : ℕ → Option ℕ → Option ℕ
@@ -189,25 +190,37 @@ unfoldable pub checked : List ℕ → Outcome
 checked s = judgeAll (contents (tokens s)) (statementsOf (program (contents (tokens s))))
 
 abbrev pub foundBy : Outcome → List Diag
-foundBy (judged ds hs) = ds
+foundBy (judged ds hs ls) = ds
 foundBy (refused m t) = []
 
 abbrev pub heldBy : Outcome → List Held
-heldBy (judged ds hs) = hs
+heldBy (judged ds hs ls) = hs
 heldBy (refused m t) = []
 
+abbrev pub looksBy : Outcome → List ℕ
+looksBy (judged ds hs ls) = ls
+looksBy (refused m t) = []
+
+unfoldable pub sum : List ℕ → ℕ
+sum [] = 0
+sum (n ∷ ns) = n + sum ns
+
+-- "how many binding names were compared with a wanted name" (02, E8): those of every search
+unfoldable pub comparisons : List ℕ → ℕ
+comparisons s = sum (looksBy (checked s))
+
 -- "no errors, and statements exceed the room"; "if errors were counted, the statement table is all zero and its count 0"
-abbrev pub checkedWithin : ℕ → ℕ → ℕ → List Diag → List Held → Checked
-checkedWithin room t n ds hs =
+abbrev pub checkedWithin : ℕ → ℕ → ℕ → List Diag → List Held → ℕ → Checked
+checkedWithin room t n ds hs c =
     if′ (eqb (errorsIn ds) 0)
     (if′ (ltb room (length hs)) (refusedCheck (verdict 11 0 0))
-    (record { verdict = verdict 0 0 0; tokens = t; nodes = n; errors = 0; warnings = warningsIn ds; statements = length hs }))
-    (record { verdict = verdict 0 0 0; tokens = t; nodes = n; errors = errorsIn ds; warnings = warningsIn ds; statements = 0 })
+    (record { verdict = verdict 0 0 0; tokens = t; nodes = n; errors = 0; warnings = warningsIn ds; statements = length hs; comparisons = c }))
+    (record { verdict = verdict 0 0 0; tokens = t; nodes = n; errors = errorsIn ds; warnings = warningsIn ds; statements = 0; comparisons = c })
 
 -- a refusal at its token, or what was judged
 abbrev pub judgedWithin : List ℕ → ℕ → ℕ → ℕ → Outcome → Checked
 judgedWithin s room t n (refused m at) = refusedCheck (placed m (tokenPlace s at))
-judgedWithin s room t n (judged ds hs) = checkedWithin room t n ds hs
+judgedWithin s room t n (judged ds hs ls) = checkedWithin room t n ds hs (sum ls)
 
 -- "check 1 to 9 and 11": where parsing refuses, that; then "the tree holds a call"
 unfoldable pub checkAnswer : List ℕ → ℕ → ℕ → ℕ → Checked

@@ -54,7 +54,7 @@ pieces s = map (λ p. record { bytes = between s (p .start) (p .end); kind = p .
 -- what is known after statements, the first numbered n
 unfoldable pub knownAfter : List Content → List Stmt → ℕ → Known → Known
 knownAfter ts [] n k = k
-knownAfter ts (s ∷ ss) n k = elim (stmt ts n k s) [ goes k′ ds hs ↦ knownAfter ts ss (suc n) k′ | refuses m t ↦ k ]
+knownAfter ts (s ∷ ss) n k = elim (stmt ts n k s) [ goes k′ ds hs ls ↦ knownAfter ts ss (suc n) k′ | refuses m t ↦ k ]
 
 -- at the place of a token
 abbrev pub there : {A : Type 0} → List ℕ → ℕ → A → At A

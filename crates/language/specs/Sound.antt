@@ -15,7 +15,7 @@ use Rattle.language.specs.Sentences.{Expr, literal, sock4, local, path, 
 use Rattle.language.specs.Tables.{contentLow}
 use Rattle.language.specs.Bounds.{alone}
 use Rattle.language.specs.Values.{Value, isSock4, typeOf, entryAt, lookup}
-use Rattle.language.specs.Judgements.{namesNumber, mostNames, mostImports, unknownItem, unknownModule, notImported, alreadyBound, noMembers, multipleImports, Diag, diag, Judged, val, err, poisoned, Judgement, judgement, andThen, Import, Binding, Known, known, find, findImport, Held, Turn, goes, refuses, Outcome, judged, refused, content, literalAt, lastItem, innerItem, boundTo, leftOf, rightOf, told, onward}
+use Rattle.language.specs.Judgements.{namesNumber, mostNames, mostImports, unknownItem, unknownModule, notImported, alreadyBound, noMembers, multipleImports, Diag, diag, Judged, val, err, poisoned, Judgement, judgement, andThen, Import, Binding, Known, known, find, findImport, compared, Held, Turn, goes, refuses, Outcome, judged, refused, content, literalAt, lastItem, innerItem, boundTo, leftOf, rightOf, told, onward}
 use Rattle.language.specs.Numbers.{firstCall, parsedNodes, statementsOf, checked, foundBy, heldBy}
 
 -- ---- trees that name tokens of the right kinds
@@ -114,7 +114,8 @@ module _ (ts : List Content) (x : MadeUp) where
     unfoldable pub judgeOr : Known → Expr → Judgement
     judgeOr k (literal t) = judgement (val (literalOr t)) []
     judgeOr k (sock4 t) = judgement (val (isSock4 (numberOr (plain (ipv4Literal 0)) t) (numberOr (plain (decLiteral 0)) (t + 2)))) []
-    judgeOr k (local t) = judgement (boundTo ts t (find (k .bindings) (nameOr t))) []
+    judgeOr k (local t) =
+        record { out = boundTo ts t (find (k .bindings) (nameOr t)); warns = []; looks = compared (k .bindings) (nameOr t) ∷ [] }
     judgeOr k (path t m) = judgement (belowOr t m (findImport (k .imports) (nameOr t))) []
     judgeOr k (member e t) = andThen (judgeOr k e) (λ v. judgement (err t (noMembers (typeOf v))) [])
     judgeOr k (slash′ a b) =
@@ -122,39 +123,40 @@ module _ (ts : List Content) (x : MadeUp) where
     judgeOr k (call e t g) = x .called
 
     abbrev pub importedOr : Known → ℕ → Option ℕ → Turn
-    importedOr k t (some m) = goes (known (k .imports ++ record { name = nameOr t; found = some m } ∷ []) (k .bindings)) [] []
+    importedOr k t (some m) = goes (known (k .imports ++ record { name = nameOr t; found = some m } ∷ []) (k .bindings)) [] [] []
     importedOr k t none =
-        goes (known (k .imports ++ record { name = nameOr t; found = none } ∷ []) (k .bindings)) (diag n t unknownModule ∷ []) []
+        goes (known (k .imports ++ record { name = nameOr t; found = none } ∷ []) (k .bindings)) (diag n t unknownModule ∷ []) [] []
 
     abbrev pub importStmtOr : Known → ℕ → Option Import → Turn
-    importStmtOr k t (some i) = goes k (diag n t multipleImports ∷ []) []
+    importStmtOr k t (some i) = goes k (diag n t multipleImports ∷ []) [] []
     importStmtOr k t none =
         if′ (ltb (length (k .imports)) mostImports) (importedOr k t (lookup 0 (nameOr t))) (refuses namesNumber t)
 
     abbrev pub bindOr : Known → ℕ → Option Value → Known
     bindOr k t v = known (k .imports) (k .bindings ++ record { name = nameOr t; tok = t; value = v } ∷ [])
 
-    abbrev pub boundOr : Known → ℕ → Judged → List Diag → Turn
-    boundOr k t (val v) ws = goes (bindOr k t (some v)) ws []
-    boundOr k t (err at w) ws = goes (bindOr k t none) (ws ++ diag n at w ∷ []) []
-    boundOr k t poisoned ws = goes (bindOr k t none) ws []
+    abbrev pub boundOr : Known → ℕ → Judged → List Diag → List ℕ → Turn
+    boundOr k t (val v) ws ls = goes (bindOr k t (some v)) ws [] ls
+    boundOr k t (err at w) ws ls = goes (bindOr k t none) (ws ++ diag n at w ∷ []) [] ls
+    boundOr k t poisoned ws ls = goes (bindOr k t none) ws [] ls
 
-    abbrev pub letStmtOr : Known → ℕ → Expr → Option Binding → Turn
-    letStmtOr k t e (some b) = goes k (diag n t (alreadyBound (b .tok)) ∷ []) []
-    letStmtOr k t e none =
-        if′ (ltb (length (k .bindings)) mostNames) (boundOr k t (judgeOr k e .out) (judgeOr k e .warns)) (refuses namesNumber t)
+    abbrev pub letStmtOr : Known → ℕ → Expr → ℕ → Option Binding → Turn
+    letStmtOr k t e l (some b) = goes k (diag n t (alreadyBound (b .tok)) ∷ []) [] (l ∷ [])
+    letStmtOr k t e l none =
+        let j = judgeOr k e in
+        if′ (ltb (length (k .bindings)) mostNames) (boundOr k t (j .out) (j .warns) (l ∷ j .looks)) (refuses namesNumber t)
 
     unfoldable pub stmtOr : Known → Stmt → Turn
     stmtOr k (import′ t) = importStmtOr k t (findImport (k .imports) (nameOr t))
-    stmtOr k (let′ t e) = letStmtOr k t e (find (k .bindings) (nameOr t))
-    stmtOr k (expr′ e) = told ts n k (firstOf e) (judgeOr k e .out) (judgeOr k e .warns)
+    stmtOr k (let′ t e) = letStmtOr k t e (compared (k .bindings) (nameOr t)) (find (k .bindings) (nameOr t))
+    stmtOr k (expr′ e) = told ts n k (firstOf e) (judgeOr k e .out) (judgeOr k e .warns) (judgeOr k e .looks)
 
-  unfoldable pub runOr : List Stmt → ℕ → Known → List Diag → List Held → Outcome
-  runOr [] n k ds hs = judged ds hs
-  runOr (s ∷ ss) n k ds hs = onward ts (stmtOr n k s) ds hs (λ k′ es gs. runOr ss (suc n) k′ es gs)
+  unfoldable pub runOr : List Stmt → ℕ → Known → List Diag → List Held → List ℕ → Outcome
+  runOr [] n k ds hs ls = judged ds hs ls
+  runOr (s ∷ ss) n k ds hs ls = onward ts (stmtOr n k s) ds hs ls (λ k′ es gs ms. runOr ss (suc n) k′ es gs ms)
 
   abbrev pub judgeAllOr : List Stmt → Outcome
-  judgeAllOr ss = runOr ss 1 (known [] []) [] []
+  judgeAllOr ss = runOr ss 1 (known [] []) [] [] []
 
 -- ---- the claims
 

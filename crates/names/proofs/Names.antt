@@ -13,8 +13,10 @@ use lib.Seq.{drop-cons}
 use Rattle.language.specs.Choice.{if′}
 use Rattle.language.specs.Lexemes.{same}
 use Rattle.language.specs.Judgements.{firstNamed}
-use Rattle.language.proofs.Tests.{both}
-use Rattle.names.specs.Names.{kept, keyFrom, keyOf, keyAt, nameOf, NoneOf, Keyed, Others, listed, namesIn, place}
+use Rattle.language.proofs.Tests.{both, each-side}
+use Rattle.names.proofs.Stores.{listed-long}
+use Rattle.names.specs.declared.Found.{Found}
+use Rattle.names.specs.Names.{kept, keyFrom, keyOf, keyAt, nameOf, NoneOf, Keyed, Others, listed, namesIn, place, looked, Finds}
 
 -- ---- keys
 
@@ -69,6 +71,43 @@ module _ (s : List ℕ) (ws : List ℕ) (w : List ℕ) (used i : ℕ) where
   pub search-end : i ≤ used → used ≤ i → used ≡ i + place (namesIn s ws (used - i) i) w
   unfolding namesIn listed place
   search-end l h = let e : used - i ≡ 0 = omega arith in rw e (omega arith)
+
+-- what it compares, by where it stops
+
+looked-is : (xs : List (List ℕ)) (w : List ℕ) → (place xs w < length xs → place xs w + 1 ≡ looked xs w) × (length xs ≤ place xs w → length xs ≡ looked xs w)
+unfolding place looked
+looked-is [] w = (λ h. absurd (omega arith), λ h. refl)
+looked-is (x ∷ xs) w = by (same x w) (looked-is xs w)
+  where
+    by : (b : Bool) → (place xs w < length xs → place xs w + 1 ≡ looked xs w) × (length xs ≤ place xs w → length xs ≡ looked xs w)
+        → (if′ b 0 (suc (place xs w)) < suc (length xs) → if′ b 0 (suc (place xs w)) + 1 ≡ if′ b 1 (suc (looked xs w)))
+        × (suc (length xs) ≤ if′ b 0 (suc (place xs w)) → suc (length xs) ≡ if′ b 1 (suc (looked xs w)))
+    by true g = (λ h. refl, λ h. absurd (omega arith))
+    by false g = (λ h. omega (arith, g .0 (omega arith)), λ h. omega (arith, g .1 (omega arith)))
+
+looked-most : (xs : List (List ℕ)) (w : List ℕ) → looked xs w ≤ length xs
+unfolding looked
+looked-most [] w = omega arith
+looked-most (x ∷ xs) w = each-side (λ n. n ≤ suc (length xs)) (same x w) (omega arith) (omega (arith, looked-most xs w))
+
+module _ (s : List ℕ) (ws : List ℕ) (w : List ℕ) (used : ℕ) where
+  names-many : length (namesIn s ws used 0) ≡ used
+  unfolding namesIn
+  names-many = listed-long (nameOf s ws) used 0
+
+  pub hit-there : {i n : ℕ} → i ≡ place (namesIn s ws used 0) w → i < used → n ≡ i + 1 → Finds (namesIn s ws used 0) w (record { at = i; compared = n })
+  hit-there {i} e h q =
+      let inside : place (namesIn s ws used 0) w < length (namesIn s ws used 0) = omega (arith, names-many, e) in
+      record { at = e; compared = q ∙ ap (λ (m : ℕ). m + 1) e ∙ looked-is (namesIn s ws used 0) w .0 inside }
+
+  pub hit-nowhere : used ≡ place (namesIn s ws used 0) w → Finds (namesIn s ws used 0) w (record { at = used; compared = used })
+  hit-nowhere e =
+      let past : length (namesIn s ws used 0) ≤ place (namesIn s ws used 0) w = omega (arith, names-many, e) in
+      record { at = e; compared = sym names-many ∙ looked-is (namesIn s ws used 0) w .1 past }
+
+  -- no more than there are
+  pub found-few : {r : Found} → Finds (namesIn s ws used 0) w r → r .compared ≤ used
+  found-few f = omega (arith, f .compared, looked-most (namesIn s ws used 0) w, names-many)
 
 -- entries with other keys are passed, each without a look at its name
 

@@ -7,6 +7,7 @@ use Rattle.language.specs.Choice.{if′}
 use Rattle.language.specs.Lexemes.{same}
 use Rattle.language.specs.Tokens.{between}
 use Rattle.names.specs.declared.Entry.{Entry}
+use Rattle.names.specs.declared.Found.{Found}
 
 -- ---- keys
 
@@ -71,3 +72,12 @@ pub record Others (ws : List ℕ) (used key n : ℕ) : Type 0 where
 unfoldable pub place : List (List ℕ) → List ℕ → ℕ
 place [] w = 0
 place (x ∷ xs) w = if′ (same x w) 0 (suc (place xs w))
+
+-- how many names the search compares: one for each that it looks at, the match included
+unfoldable pub looked : List (List ℕ) → List ℕ → ℕ
+looked [] w = 0
+looked (x ∷ xs) w = if′ (same x w) 1 (suc (looked xs w))
+
+pub record Finds (xs : List (List ℕ)) (w : List ℕ) (r : Found) : Type 0 where
+  pub at : r .at ≡ place xs w
+  pub compared : r .compared ≡ looked xs w

@@ -8,7 +8,7 @@ ghost use mathlib.Core.Bool.{false};
 ghost use Prim.Native.Nat.{ℕ, _+_, _*_, _/_, _<_, _≤_};
 ghost use lib.ListN.{length};
 ghost use Rattle.language.specs.Lexemes.{same};
-ghost use Rattle.names.specs.Names.{nameWidth, keyOf, keyAt, nameWord, nameOf, NoneOf, Keyed, Others, namesIn, place};
+ghost use Rattle.names.specs.Names.{nameWidth, keyOf, keyAt, nameWord, nameOf, NoneOf, Keyed, Others, namesIn, Finds};
 
 // A name and what it stands for: where it starts and ends in the source, its token, and a value in three words, or the number
 // of a module and two zeros. The first of the three is 0 where the name's statement failed.
@@ -45,9 +45,11 @@ impl Entry {
     const KEPT: u64 = 288230376151711744;
 }
 
-// Where a search stopped: the number of the entry, or how many there are where none has the name.
+// Where a search stopped: the number of the entry, or how many there are where none has the name; and how many names it compared:
+// one for each entry up to there, also where keys spared a look at the bytes.
 pub struct Found {
     pub at: usize,
+    pub compared: usize,
 }
 
 // A hash of a name's bytes: two names with different keys are different names.
@@ -113,14 +115,20 @@ fn others(names: &[u64], used: usize, key: u64) -> usize
 // The first of the used entries with a name, whose key is lent too.
 pub fn find(source: &[u8], names: &[u64], used: usize, key: u64, name: &[u8]) -> Found
     requires { ⌜ (used ≤ length (now names) / nameWidth) × Keyed (now source) (now names) used × (key ≡ keyOf (now name)) ⌝ }
-    ensures { λ r. ⌜ r .at ≡ place (namesIn (now (source .entry)) (now (names .entry)) used 0) (now (name .entry)) ⌝ }
+    ensures { λ r. ⌜ Finds (namesIn (now (source .entry)) (now (names .entry)) used 0) (now (name .entry)) r ⌝ }
 {
     let mut i = others(names, used, key);
     while i < used {
         if is_named(source, names, i, key, name) {
-            return Found { at: i };
+            return Found {
+                at: i,
+                compared: i + 1,
+            };
         }
         i += 1;
     }
-    Found { at: used }
+    Found {
+        at: used,
+        compared: used,
+    }
 }

@@ -13,6 +13,7 @@ use Rattle.language.specs.Judgements as judgements
 use Rattle.language.specs.Judgements.{Diag, Held, Known, mostNames, mostImports, goes, refuses, onward, stmt, run, judgeAll}
 use Rattle.language.proofs.Tests.{never}
 use Rattle.language.proofs.NodeClaims.{some-stmt-node}
+use Rattle.language.proofs.Comparisons.{stmt-compares}
 use Rattle.language.proofs.JudgementClaims.{Adds, nothing, alone, finding, holding, AddsTo, warnsOf, adds}
 use Rattle.rows.specs.Tokens.{TokenTable}
 use Rattle.names.specs.declared.Entry.{Entry}
@@ -20,8 +21,8 @@ use Rattle.names.specs.Names.{nameWidth, nameWord, nameOf, keyOf, stored, liste
 use Rattle.names.proofs.Stores.{stored-long, old-word, new-token, new-kind, new-low, new-high, old-name, new-name, store-key, listed-more}
 use Rattle.findings.specs.declared.Counts.{Counts}
 use Rattle.findings.specs.Findings as findings
-use Rattle.findings.specs.Findings.{added}
-use Rattle.findings.proofs.Adds.{adds-none, adds-then, adds-count, adds-held-count, adds-number}
+use Rattle.findings.specs.Findings.{mostCompared, added}
+use Rattle.findings.proofs.Adds.{adds-none, adds-then, adds-count, adds-held-count, adds-number, adds-compared}
 use Rattle.values.specs.Values.{Canon}
 use Rattle.values.proofs.Values.{opened-as, canon-of}
 use Rattle.paths.specs.Paths.{orNone}
@@ -31,8 +32,8 @@ use Rattle.statements.specs.declared.Turn.{Turn}
 use Rattle.statements.specs.declared.Turn.the-variants.{Went, Binds, Imports, Refused}
 use Rattle.statements.specs.declared.Outcome.the-variants as outcome
 use Rattle.statements.specs.Checking.{noCounts, plusNumber, plusName, plusImport, unnamed, BindsName, ImportsName, TurnOf, StmtsAt, at-end, no-stmt, an-import, a-let, an-expr, RowFits, RowTurns, passes, takes, ComesTo, Comes}
-use Rattle.statements.proofs.Turns.{bindings-are, imports-are}
-use Rattle.statements.proofs.StmtRows.{begun-knows, begun-ready}
+use Rattle.statements.proofs.Turns.{bindings-are, imports-are, bindings-many}
+use Rattle.statements.proofs.StmtRows.{same-knows, same-ready}
 
 -- ---- a statement finds as much as it has rows at the most, and holds one statement at the most
 
@@ -48,12 +49,12 @@ module _ (ts : List Content) (n : ℕ) (k : Known) where
   few-warnings (let′ t e) = omega (arith, judging.few ts n k e)
   few-warnings (expr′ e) = omega (arith, judging.few ts n k e)
 
-  pub few-findings : (st : Stmt) {k′ : Known} {ds : List Diag} {hs : List Held} → stmt ts n k st ≡ goes k′ ds hs → (length ds ≤ stmtSize st) × (length hs ≤ 1)
+  pub few-findings : (st : Stmt) {k′ : Known} {ds : List Diag} {hs : List Held} {ls : List ℕ} → stmt ts n k st ≡ goes k′ ds hs ls → (length ds ≤ stmtSize st) × (length hs ≤ 1)
   few-findings st e = few-added (few-warnings st) (subst (AddsTo (warnsOf ts n k st)) e (adds ts n k st))
 
 -- ---- names aside
 
-module _ {s : List ℕ} {c c′ : Counts} {x u y v : List ℕ} {ds : List Diag} {hs : List Held} (a : findings.Adds s c x u c′ y v ds hs) where
+module _ {s : List ℕ} {c c′ : Counts} {x u y v : List ℕ} {ds : List Diag} {hs : List Held} {ls : List ℕ} (a : findings.Adds s c x u c′ y v ds hs ls) where
   used-same : c′ .used ≡ c .used
   unfolding added
   used-same = ap (λ (d : Counts). d .used) (a .counted)
@@ -62,7 +63,7 @@ module _ {s : List ℕ} {c c′ : Counts} {x u y v : List ℕ} {ds : List Diag} 
   unfolding added
   imported-same = ap (λ (d : Counts). d .imported) (a .counted)
 
-  adds-unnamed : findings.Adds s (unnamed c) x u (unnamed c′) y v ds hs
+  adds-unnamed : findings.Adds s (unnamed c) x u (unnamed c′) y v ds hs ls
   unfolding added
   adds-unnamed = record { counted = ap unnamed (a .counted); diags = a .diags; stmts = a .stmts }
 
@@ -74,25 +75,15 @@ pub data Stores (b m : List ℕ) : Turn → List ℕ → List ℕ → Counts →
   stores-import : {c : Counts} {e : Entry} → Stores b m (Imports c e) b (stored mostImports m (c .imported) e) (plusImport c)
 
 -- what is known then
-record Kept (s toks : List ℕ) (c : Counts) (x u y v b m : List ℕ) (c′ : Counts) (k : Known) (ds : List Diag) (hs : List Held) : Type 0 where
+record Kept (s toks : List ℕ) (c : Counts) (x u y v b m : List ℕ) (c′ : Counts) (k : Known) (ds : List Diag) (hs : List Held) (ls : List ℕ) : Type 0 where
   knows : Knows s b m c′ k
   ready : Ready s toks b m c′
-  grows : findings.Adds s (unnamed c) x u (unnamed c′) y v ds hs
+  grows : findings.Adds s (unnamed c) x u (unnamed c′) y v ds hs ls
   number : c′ .number ≡ c .number
 
 module _ (s toks b m : List ℕ) (k : Known) (c : Counts) (kn : Knows s b m c k) (rd : Ready s toks b m c) where
   same-kept : {c′ : Counts} → c′ .used ≡ c .used → c′ .imported ≡ c .imported → Knows s b m c′ k × Ready s toks b m c′
-  same-kept p q = (
-    record { is = rw (p, q) (kn .is) },
-    record {
-      lexed = rd .lexed;
-      bound = rw p (rd .bound);
-      modules = rw q (rd .modules);
-      sound = rw p (rd .sound);
-      keyed = rw p (rd .keyed);
-      keyed-modules = rw q (rd .keyed-modules);
-    },
-  )
+  same-kept {c′} p q = (same-knows c c′ p q refl kn, same-ready c c′ p q refl rd)
 
   module _ (size : length b ≡ mostNames * nameWidth) {e : Entry} {k′ : Known} (h : BindsName s k c e k′) where
     abbrev b′ : List ℕ
@@ -136,6 +127,7 @@ module _ (s toks b m : List ℕ) (k : Known) (c : Counts) (kn : Knows s b m c k)
       record {
         lexed = rd .lexed;
         bound = omega (arith, h .room, size, stored-long mostNames b (c .used) e size (h .room));
+        few = omega (arith, h .room);
         modules = rd .modules;
         sound = sound-now;
         keyed = store-key mostNames b (c .used) e size (h .room) s (rd .keyed) (h .named .key ∙ ap keyOf (sym (h .named .name)));
@@ -168,6 +160,7 @@ module _ (s toks b m : List ℕ) (k : Known) (c : Counts) (kn : Knows s b m c k)
       record {
         lexed = rd .lexed;
         bound = rd .bound;
+        few = rd .few;
         modules = omega (arith, h .room, size, stored-long mostImports m (c .imported) e size (h .room));
         sound = rd .sound;
         keyed = rd .keyed;
@@ -180,12 +173,12 @@ module _ (s toks b m : List ℕ) (k : Known) (c : Counts) (kn : Knows s b m c k)
 module _ (s toks b m : List ℕ) (k : Known) (c : Counts) (kn : Knows s b m c k) (rd : Ready s toks b m c) (names : length b ≡ mostNames * nameWidth)
     (modules : length m ≡ mostImports * nameWidth) (x u y v : List ℕ) where
   after-turn : {r : Turn} {b2 m2 : List ℕ} {c2 : Counts} → Stores b m r b2 m2 c2 → (t : judgements.Turn) → TurnOf s k c x u r y v t
-      → (k′ : Known) × (ds : List Diag) × (hs : List Held) × (t ≡ goes k′ ds hs) × Kept s toks c x u y v b2 m2 c2 k′ ds hs
-  after-turn stores-none (goes k′ ds hs) a =
+      → (k′ : Known) × (ds : List Diag) × (hs : List Held) × (ls : List ℕ) × (t ≡ goes k′ ds hs ls) × Kept s toks c x u y v b2 m2 c2 k′ ds hs ls
+  after-turn stores-none (goes k′ ds hs ls) a =
       let g = same-kept s toks b m k c kn rd (used-same (a .1)) (imported-same (a .1)) in
-      (k′, ds, hs, refl, record { knows = rw (a .0) (g .0); ready = g .1; grows = adds-unnamed (a .1); number = adds-number (a .1) })
+      (k′, ds, hs, ls, refl, record { knows = rw (a .0) (g .0); ready = g .1; grows = adds-unnamed (a .1); number = adds-number (a .1) })
   after-turn stores-none (refuses o t) a = absurd a
-  after-turn (stores-name {c = c1}) (goes k′ ds hs) a =
+  after-turn (stores-name {c = c1}) (goes k′ ds hs ls) a =
       let g = same-kept s toks b m k c kn rd (used-same (a .1)) (imported-same (a .1)) in
       let h = a .0 in
       let f : BindsName s k c1 _ k′ = record {
@@ -199,14 +192,14 @@ module _ (s toks b m : List ℕ) (k : Known) (c : Counts) (kn : Knows s b m c k)
         room = rw (used-same (a .1)) (h .room);
       } in
       let n = name-kept s toks b m k c1 (g .0) (g .1) names f in
-      (k′, ds, hs, refl, record { knows = n .0; ready = n .1; grows = adds-unnamed (a .1); number = adds-number (a .1) })
+      (k′, ds, hs, ls, refl, record { knows = n .0; ready = n .1; grows = adds-unnamed (a .1); number = adds-number (a .1) })
   after-turn stores-name (refuses o t) a = absurd a
-  after-turn (stores-import {c = c1}) (goes k′ ds hs) a =
+  after-turn (stores-import {c = c1}) (goes k′ ds hs ls) a =
       let g = same-kept s toks b m k c kn rd (used-same (a .1)) (imported-same (a .1)) in
       let h = a .0 in
       let f : ImportsName s k c1 _ k′ = record { token = h .token; named = h .named; known = h .known; room = rw (imported-same (a .1)) (h .room) } in
       let n = import-kept s toks b m k c1 (g .0) (g .1) modules f in
-      (k′, ds, hs, refl, record { knows = n .0; ready = n .1; grows = adds-unnamed (a .1); number = adds-number (a .1) })
+      (k′, ds, hs, ls, refl, record { knows = n .0; ready = n .1; grows = adds-unnamed (a .1); number = adds-number (a .1) })
   after-turn stores-import (refuses o t) a = absurd a
 
 -- ---- the loop
@@ -219,10 +212,11 @@ pub record Running (s ws x0 u0 x u b m : List ℕ) (c : Counts) (i : ℕ) (ss : 
   pub known : Known
   pub found : List Diag
   pub held : List Held
+  pub looks : List ℕ
   pub stands : StmtsAt ws i rest
   pub knows : Knows s b m c known
-  pub grows : findings.Adds s noCounts x0 u0 (unnamed c) x u found held
-  pub comes : judgeAll (contents (tokens.tokens s)) ss ≡ run (contents (tokens.tokens s)) rest number known found held
+  pub grows : findings.Adds s noCounts x0 u0 (unnamed c) x u found held looks
+  pub comes : judgeAll (contents (tokens.tokens s)) ss ≡ run (contents (tokens.tokens s)) rest number known found held looks
 
 -- at row i. The tables of findings and of held statements were x0 and u0.
 pub record Looped (s toks ws x0 u0 x u b m : List ℕ) (c : Counts) (i : ℕ) : Type 0 where
@@ -244,6 +238,7 @@ start {s} {toks} {ws} {x} {u} {b} {m} l f p q e = subst (λ (z : Counts). Looped
       ready = record {
         lexed = l;
         bound = omega arith;
+        few = omega arith;
         modules = omega arith;
         sound = λ i h. absurd (omega (arith, h));
         keyed = record { key = λ i h. absurd (omega (arith, h)) };
@@ -259,6 +254,7 @@ start {s} {toks} {ws} {x} {u} {b} {m} l f p q e = subst (λ (z : Counts). Looped
         known = judgements.known [] [];
         found = [];
         held = [];
+        looks = [];
         stands = a;
         knows = record { is = refl };
         grows = adds-none s noCounts x u;
@@ -266,15 +262,15 @@ start {s} {toks} {ws} {x} {u} {b} {m} l f p q e = subst (λ (z : Counts). Looped
       };
     })
 
-module _ (ts : List Content) (st : Stmt) (ss : List Stmt) (n : ℕ) (k : Known) (ds : List Diag) (hs : List Held) where
-  run-goes : {k′ : Known} {es : List Diag} {gs : List Held} → stmt ts n k st ≡ goes k′ es gs
-      → run ts (st ∷ ss) n k ds hs ≡ run ts ss (suc n) k′ (ds ++ es) (hs ++ gs)
+module _ (ts : List Content) (st : Stmt) (ss : List Stmt) (n : ℕ) (k : Known) (ds : List Diag) (hs : List Held) (ls : List ℕ) where
+  run-goes : {k′ : Known} {es : List Diag} {gs : List Held} {ms : List ℕ} → stmt ts n k st ≡ goes k′ es gs ms
+      → run ts (st ∷ ss) n k ds hs ls ≡ run ts ss (suc n) k′ (ds ++ es) (hs ++ gs) (ls ++ ms)
   unfolding run
-  run-goes e = ap (λ (t : judgements.Turn). onward ts t ds hs (λ k′ es gs. run ts ss (suc n) k′ es gs)) e
+  run-goes e = ap (λ (t : judgements.Turn). onward ts t ds hs ls (λ k′ es gs ms. run ts ss (suc n) k′ es gs ms)) e
 
-  run-refuses : {m t : ℕ} → stmt ts n k st ≡ refuses m t → run ts (st ∷ ss) n k ds hs ≡ judgements.refused m t
+  run-refuses : {m t : ℕ} → stmt ts n k st ≡ refuses m t → run ts (st ∷ ss) n k ds hs ls ≡ judgements.refused m t
   unfolding run
-  run-refuses e = ap (λ (t : judgements.Turn). onward ts t ds hs (λ k′ es gs. run ts ss (suc n) k′ es gs)) e
+  run-refuses e = ap (λ (t : judgements.Turn). onward ts t ds hs ls (λ k′ es gs ms. run ts ss (suc n) k′ es gs ms)) e
 
 -- what the function of one row ensures
 abbrev pub Turned : List ℕ → List ℕ → ℕ → List ℕ → List ℕ → List ℕ → List ℕ → Counts → List ℕ → List ℕ → Turn → Type 0
@@ -292,37 +288,40 @@ module _ {s toks ws : List ℕ} {i : ℕ} {x0 u0 x u b m : List ℕ} {c : Counts
     none-stored stores-import e = never (cc)
 
     taken : (n : ℕ) (k : Known) (st′ : Stmt) → Knows s b m c k → TurnOf s k (plusNumber c) x u r y v (stmt ts n k st′)
-        → (k′ : Known) × (ds : List Diag) × (hs : List Held) × (stmt ts n k st′ ≡ goes k′ ds hs) × Kept s toks (plusNumber c) x u y v b2 m2 c2 k′ ds hs
-    taken n k st′ kn a = after-turn s toks b m k (plusNumber c) (begun-knows c refl kn) (begun-ready c refl (l .ready)) (l .names) (l .modules) x u y v st (stmt ts n k st′) a
+        → (k′ : Known) × (ds : List Diag) × (hs : List Held) × (ls : List ℕ) × (stmt ts n k st′ ≡ goes k′ ds hs ls) × Kept s toks (plusNumber c) x u y v b2 m2 c2 k′ ds hs ls
+    taken n k st′ kn a = after-turn s toks b m k (plusNumber c) (same-knows c (plusNumber c) refl refl refl kn) (same-ready c (plusNumber c) refl refl refl (l .ready)) (l .names) (l .modules) x u y v st (stmt ts n k st′) a
 
     ready-on : (n : ℕ) (k : Known) (ss : List Stmt) → Knows s b m c k → RowTurns s ws i n k c x u r y v ss → Ready s toks b2 m2 c2
     ready-on n k ss kn (passes a e f g) = let z = none-stored st e in rw (z .0, z .1, z .2) (l .ready)
-    ready-on n k (st′ ∷ ss) kn (takes a t) = taken n k st′ kn (t .turn) .4 .ready
+    ready-on n k (st′ ∷ ss) kn (takes a t) = taken n k st′ kn (t .turn) .5 .ready
 
     fits-on : (n : ℕ) (k : Known) (ss : List Stmt) → c .errors + c .warnings + programSize ss ≤ mostFindings → c .statements + programSize ss ≤ mostFindings
-        → c .number + programSize ss ≤ mostFindings → Knows s b m c k
+        → c .number + programSize ss ≤ mostFindings → c .comparisons + mostNames * programSize ss ≤ mostCompared → Knows s b m c k
         → RowTurns s ws i n k c x u r y v ss → RowFits ws (i + 1) c2
-    fits-on n k ss h g o kn (passes a e p q) =
+    fits-on n k ss h g o d kn (passes a e p q) =
         let z = none-stored st e in
-        rw (z .2) (record { list = ss; stands = a; room = h; held = g; begun = o })
-    fits-on n k (st′ ∷ ss) h g o kn (takes a t) =
+        rw (z .2) (record { list = ss; stands = a; room = h; held = g; begun = o; looks = d })
+    fits-on n k (st′ ∷ ss) h g o d kn (takes a t) =
         let w = taken n k st′ kn (t .turn) in
-        let f = few-findings ts n k st′ (w .3) in
+        let f = few-findings ts n k st′ (w .4) in
+        let known : length (k .bindings) ≤ mostNames = omega (arith, l .ready .few, bindings-many kn) in
+        let few = stmt-compares ts n k st′ (w .4) known in
         record {
           list = ss;
           stands = a;
-          room = omega (arith, h, adds-count (w .4 .grows), f .0);
-          held = omega (arith, g, adds-held-count (w .4 .grows), f .1, some-stmt-node st′);
-          begun = omega (arith, o, w .4 .number, some-stmt-node st′);
+          room = omega (arith, h, adds-count (w .5 .grows), f .0);
+          held = omega (arith, g, adds-held-count (w .5 .grows), f .1, some-stmt-node st′);
+          begun = omega (arith, o, w .5 .number, some-stmt-node st′);
+          looks = omega (arith, d, adds-compared (w .5 .grows), few);
         }
 
     runs-on : (all : List Stmt) → (w : Running s ws x0 u0 x u b m c i all) → RowTurns s ws i (w .number) (w .known) c x u r y v (w .rest)
         → Running s ws x0 u0 y v b2 m2 c2 (i + 1) all
-    runs-on all w = by (w .rest) (w .number) (w .numbered) (w .known) (w .found) (w .held) (w .knows) (w .grows) (w .comes)
+    runs-on all w = by (w .rest) (w .number) (w .numbered) (w .known) (w .found) (w .held) (w .looks) (w .knows) (w .grows) (w .comes)
       where
-        by : (ss : List Stmt) (n : ℕ) → n ≡ c .number + 1 → (k : Known) (ds : List Diag) (hs : List Held) → Knows s b m c k → findings.Adds s noCounts x0 u0 (unnamed c) x u ds hs
-            → judgeAll ts all ≡ run ts ss n k ds hs → RowTurns s ws i n k c x u r y v ss → Running s ws x0 u0 y v b2 m2 c2 (i + 1) all
-        by ss n num k ds hs kn gr o (passes a e f g) =
+        by : (ss : List Stmt) (n : ℕ) → n ≡ c .number + 1 → (k : Known) (ds : List Diag) (hs : List Held) (ls : List ℕ) → Knows s b m c k → findings.Adds s noCounts x0 u0 (unnamed c) x u ds hs ls
+            → judgeAll ts all ≡ run ts ss n k ds hs ls → RowTurns s ws i n k c x u r y v ss → Running s ws x0 u0 y v b2 m2 c2 (i + 1) all
+        by ss n num k ds hs ls kn gr o (passes a e f g) =
             let z = none-stored st e in
             record {
               rest = ss;
@@ -331,24 +330,26 @@ module _ {s toks ws : List ℕ} {i : ℕ} {x0 u0 x u b m : List ℕ} {c : Counts
               known = k;
               found = ds;
               held = hs;
+              looks = ls;
               stands = a;
               knows = rw (z .0, z .1, z .2) kn;
               grows = rw (z .2, f, g) gr;
               comes = o;
             }
-        by (st′ ∷ ss) n num k ds hs kn gr o (takes a t) =
+        by (st′ ∷ ss) n num k ds hs ls kn gr o (takes a t) =
             let w = taken n k st′ kn (t .turn) in
             record {
               rest = ss;
               number = suc n;
-              numbered = omega (arith, num, w .4 .number);
+              numbered = omega (arith, num, w .5 .number);
               known = w .0;
               found = ds ++ w .1;
               held = hs ++ w .2;
+              looks = ls ++ w .3;
               stands = a;
-              knows = w .4 .knows;
-              grows = adds-then gr (w .4 .grows);
-              comes = o ∙ run-goes ts st′ ss n k ds hs (w .3);
+              knows = w .5 .knows;
+              grows = adds-then gr (w .5 .grows);
+              comes = o ∙ run-goes ts st′ ss n k ds hs ls (w .4);
             }
 
     stored-size : {a : Turn} {p q : List ℕ} {f : Counts} → Stores b m a p q f → Ready s toks p q f → (length p ≡ length b) × (length q ≡ length m)
@@ -374,7 +375,7 @@ module _ {s toks ws : List ℕ} {i : ℕ} {x0 u0 x u b m : List ℕ} {c : Counts
           names = size .0 ∙ l .names;
           modules = size .1 ∙ l .modules;
           ready = rd;
-          fits = fits-on (c .number + 1) k (fs .list) (fs .room) (fs .held) (fs .begun) kn t0;
+          fits = fits-on (c .number + 1) k (fs .list) (fs .room) (fs .held) (fs .begun) (fs .looks) kn t0;
           diags = f ∙ l .diags;
           stmts = g ∙ l .stmts;
           runs = λ all a. let w = l .runs all a in runs-on all w (h (w .number) (w .known) (w .rest) (w .numbered) (w .knows) (w .stands));
@@ -390,14 +391,14 @@ module _ {s toks ws : List ℕ} {i : ℕ} {x0 u0 x u b m : List ℕ} {c : Counts
     pub again-import : {d d′ : Counts} {e : Entry} {m2 : List ℕ} → r ≡ Imports d e → m2 ≡ stored mostImports m (d .imported) e → d′ ≡ plusImport d → Looped s toks ws x0 u0 y v b m2 d′ (i + 1)
     again-import e p q = rw (p, q) (again stores-import (subst (Turned s ws i b m x u c y v) e h) f g)
 
-  refused-by : (number at n : ℕ) (k : Known) (ds : List Diag) (hs : List Held) (ss : List Stmt)
-      → RowTurns s ws i n k c x u (Refused number at) y v ss → ComesTo s x0 u0 (outcome.Refused number at) y v (run ts ss n k ds hs)
-  refused-by number at n k ds hs ss (passes a e f g) = never (cc)
-  refused-by number at n k ds hs (st ∷ ss) (takes a t) = by (stmt ts n k st) refl (t .turn)
+  refused-by : (number at n : ℕ) (k : Known) (ds : List Diag) (hs : List Held) (ls : List ℕ) (ss : List Stmt)
+      → RowTurns s ws i n k c x u (Refused number at) y v ss → ComesTo s x0 u0 (outcome.Refused number at) y v (run ts ss n k ds hs ls)
+  refused-by number at n k ds hs ls ss (passes a e f g) = never (cc)
+  refused-by number at n k ds hs ls (st ∷ ss) (takes a t) = by (stmt ts n k st) refl (t .turn)
     where
-      by : (z : judgements.Turn) → stmt ts n k st ≡ z → TurnOf s k (plusNumber c) x u (Refused number at) y v z → ComesTo s x0 u0 (outcome.Refused number at) y v (run ts (st ∷ ss) n k ds hs)
-      by (goes k′ es gs) e w = absurd w
-      by (refuses o p) e w = subst (ComesTo s x0 u0 (outcome.Refused number at) y v) (sym (run-refuses ts st ss n k ds hs e)) w
+      by : (z : judgements.Turn) → stmt ts n k st ≡ z → TurnOf s k (plusNumber c) x u (Refused number at) y v z → ComesTo s x0 u0 (outcome.Refused number at) y v (run ts (st ∷ ss) n k ds hs ls)
+      by (goes k′ es gs ms) e w = absurd w
+      by (refuses o p) e w = subst (ComesTo s x0 u0 (outcome.Refused number at) y v) (sym (run-refuses ts st ss n k ds hs ls e)) w
 
   -- there is room for what a turn binds or imports
   module _ {r : Turn} (h : Turned s ws i b m x u c y v r) where
@@ -408,7 +409,7 @@ module _ {s toks ws : List ℕ} {i : ℕ} {x0 u0 x u b m : List ℕ} {c : Counts
     room-name {d} {e} q = by (l .fits .list) (subst (λ (z : Turn). RowTurns s ws i (c .number + 1) (knownIn s b m c) c x u z y v (l .fits .list)) q turned)
       where
         of : (t : judgements.Turn) → TurnOf s (knownIn s b m c) (plusNumber c) x u (Binds d e) y v t → d .used < mostNames
-        of (goes k′ ds hs) a = rw (used-same (a .1)) (a .0 .room)
+        of (goes k′ ds hs ls) a = rw (used-same (a .1)) (a .0 .room)
         of (refuses o t) a = absurd a
 
         by : (ss : List Stmt) → RowTurns s ws i (c .number + 1) (knownIn s b m c) c x u (Binds d e) y v ss → d .used < mostNames
@@ -419,7 +420,7 @@ module _ {s toks ws : List ℕ} {i : ℕ} {x0 u0 x u b m : List ℕ} {c : Counts
     room-import {d} {e} q = by (l .fits .list) (subst (λ (z : Turn). RowTurns s ws i (c .number + 1) (knownIn s b m c) c x u z y v (l .fits .list)) q turned)
       where
         of : (t : judgements.Turn) → TurnOf s (knownIn s b m c) (plusNumber c) x u (Imports d e) y v t → d .imported < mostImports
-        of (goes k′ ds hs) a = rw (imported-same (a .1)) (a .0 .room)
+        of (goes k′ ds hs ls) a = rw (imported-same (a .1)) (a .0 .room)
         of (refuses o t) a = absurd a
 
         by : (ss : List Stmt) → RowTurns s ws i (c .number + 1) (knownIn s b m c) c x u (Imports d e) y v ss → d .imported < mostImports
@@ -433,7 +434,7 @@ module _ {s toks ws : List ℕ} {i : ℕ} {x0 u0 x u b m : List ℕ} {c : Counts
       let t = subst (Turned s ws i b m x u c y v) e h in
       record {
         come = subst (ComesTo s x0 u0 (outcome.Refused number at) y v) (sym (w .comes))
-            (refused-by number at (w .number) (w .known) (w .found) (w .held) (w .rest) (t (w .number) (w .known) (w .rest) (w .numbered) (w .knows) (w .stands)));
+            (refused-by number at (w .number) (w .known) (w .found) (w .held) (w .looks) (w .rest) (t (w .number) (w .known) (w .rest) (w .numbered) (w .knows) (w .stands)));
       }
 
 -- past the last row no statement is left
@@ -450,6 +451,6 @@ unfolding run
 finished {s} {x0 = x0} {u0} {x} {u} {c = c} l h all a =
     let w = l .runs all a in
     let ts = contents (tokens.tokens s) in
-    let e : judgeAll ts all ≡ judgements.judged (w .found) (w .held) =
-    w .comes ∙ ap (λ (z : List Stmt). run ts z (w .number) (w .known) (w .found) (w .held)) (none-left h (w .stands)) in
+    let e : judgeAll ts all ≡ judgements.judged (w .found) (w .held) (w .looks) =
+    w .comes ∙ ap (λ (z : List Stmt). run ts z (w .number) (w .known) (w .found) (w .held) (w .looks)) (none-left h (w .stands)) in
     record { come = subst (ComesTo s x0 u0 (outcome.Judged c) x u) (sym e) (w .grows) }

@@ -8,9 +8,10 @@ use Rattle.language.specs.Tokens as tokens
 use Rattle.language.specs.Tokens.{Content, contents}
 use Rattle.language.specs.Sentences.{Expr, Stmt, import′, let′, expr′, programSize, nodeWidth}
 use Rattle.language.specs.Judgements as judgements
-use Rattle.language.specs.Judgements.{Known, goes, refuses, stmt}
+use Rattle.language.specs.Judgements.{Known, mostNames, goes, refuses, stmt}
 use Rattle.rows.specs.Rows.{nodeWord}
 use Rattle.findings.specs.declared.Counts.{Counts}
+use Rattle.findings.specs.Findings.{mostCompared, plusSearch}
 use Rattle.judging.specs.Judging.{mostFindings, Knows, Ready, RepAt}
 use Rattle.statements.specs.declared.Turn.{Turn}
 use Rattle.statements.specs.declared.Turn.the-variants.{Went}
@@ -23,34 +24,37 @@ ts s = contents (tokens.tokens s)
 
 module _ (s : List ℕ) (k : Known) (c c′ : Counts) (x u y v : List ℕ) where
   went : (t : judgements.Turn) → GoesOf s k c x u c′ y v t → TurnOf s k c x u (Went c′) y v t
-  went (goes k′ ds hs) g = g
+  went (goes k′ ds hs ls) g = g
   went (refuses m t) g = g
 
   expr-turn : (n : ℕ) (e : Expr) → Exprs s n k e c x u c′ y v → Turns s k c x u (Went c′) y v (stmt (ts s) n k (expr′ e))
   unfolding stmt
   expr-turn n e g = record { turn = went (stmt (ts s) n k (expr′ e)) (g .is) }
 
--- ---- a statement is begun: what was known stays so
+-- ---- a statement is begun, or a name searched: what was known stays so
+
+module _ (c e : Counts) (p : e .used ≡ c .used) (q : e .imported ≡ c .imported) {d : Counts} (b : d ≡ e) {s bindings imports : List ℕ} where
+  pub same-knows : {k : Known} → Knows s bindings imports c k → Knows s bindings imports d k
+  same-knows kn = record { is = rw (b, p, q) (kn .is) }
+
+  pub same-ready : {toks : List ℕ} → Ready s toks bindings imports c → Ready s toks bindings imports d
+  same-ready r =
+      record {
+        lexed = r .lexed;
+        bound = rw (b, p) (r .bound);
+        few = rw (b, p) (r .few);
+        modules = rw (b, q) (r .modules);
+        sound = rw (b, p) (r .sound);
+        keyed = rw (b, p) (r .keyed);
+        keyed-modules = rw (b, q) (r .keyed-modules);
+      }
+
+pub searched-number : (c : Counts) (l : ℕ) {d : Counts} {n : ℕ} → d ≡ plusSearch c l → n ≡ c .number → n ≡ d .number
+searched-number c l b e = e ∙ sym (ap (λ (z : Counts). z .number) b)
 
 module _ (c : Counts) {d : Counts} (b : d ≡ plusNumber c) where
   pub begun-number : {n : ℕ} → n ≡ c .number + 1 → n ≡ d .number
   begun-number e = e ∙ sym (ap (λ (z : Counts). z .number) b)
-
-  module _ {s bindings imports : List ℕ} where
-    pub begun-knows : {k : Known} → Knows s bindings imports c k → Knows s bindings imports d k
-    begun-knows kn = rw b (record { is = kn .is })
-
-    pub begun-ready : {toks : List ℕ} → Ready s toks bindings imports c → Ready s toks bindings imports d
-    begun-ready r =
-        rw b
-        (record {
-          lexed = r .lexed;
-          bound = r .bound;
-          modules = r .modules;
-          sound = r .sound;
-          keyed = r .keyed;
-          keyed-modules = r .keyed-modules;
-        })
 
   -- a turn that was taken from there
   from-there : {s : List ℕ} {k : Known} {x u y v : List ℕ} {r : Turn} {t : judgements.Turn} → Turns s k d x u r y v t → Turns s k (plusNumber c) x u r y v t
@@ -74,16 +78,16 @@ module _ {ws : List ℕ} {i : ℕ} (inside : nodeWidth * i + nodeWidth ≤ lengt
       rw b (record { findings = omega (arith, f .room, one); held = omega (arith, f .held, one) })
 
   tree-fits : {c : Counts} {ss : List Stmt} → StmtsAt ws i ss → 11 < nodeWord ws i 0 → c .errors + c .warnings + programSize ss ≤ mostFindings
-      → c .statements + programSize ss ≤ mostFindings → StmtFits ws i c
-  tree-fits (at-end l) q room held = absurd (omega (arith, inside))
-  tree-fits (no-stmt f h on) q room held = absurd (omega (arith, q))
-  tree-fits (an-import f h on) q room held = absurd (omega (arith, q))
-  tree-fits (a-let {e = e} f h r on) q room held = record { tree = e; rep = r; room = omega (arith, room); held = omega (arith, held) }
-  tree-fits (an-expr {e = e} f h r on) q room held = record { tree = e; rep = r; room = omega (arith, room); held = omega (arith, held) }
+      → c .statements + programSize ss ≤ mostFindings → c .comparisons + mostNames * programSize ss ≤ mostCompared → StmtFits ws i c
+  tree-fits (at-end l) q room held looks = absurd (omega (arith, inside))
+  tree-fits (no-stmt f h on) q room held looks = absurd (omega (arith, q))
+  tree-fits (an-import f h on) q room held looks = absurd (omega (arith, q))
+  tree-fits (a-let {e = e} f h r on) q room held looks = record { tree = e; rep = r; room = omega (arith, room); held = omega (arith, held); looks = omega (arith, looks) }
+  tree-fits (an-expr {e = e} f h r on) q room held looks = record { tree = e; rep = r; room = omega (arith, room); held = omega (arith, held); looks = omega (arith, looks) }
 
   -- of a `let` and of an expression
   pub stmt-fits : {c d : Counts} → d ≡ plusNumber c → RowFits ws i c → 11 < nodeWord ws i 0 → StmtFits ws i d
-  stmt-fits {c} b f q = rw b (tree-fits {c = plusNumber c} (f .stands) q (f .room) (f .held))
+  stmt-fits {c} b f q = rw b (tree-fits {c = plusNumber c} (f .stands) q (f .room) (f .held) (f .looks))
 
   -- what it gives
 

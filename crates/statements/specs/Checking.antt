@@ -21,12 +21,12 @@ use Rattle.rows.specs.Tokens.{tokenAs}
 use Rattle.names.specs.declared.Entry.{Entry}
 use Rattle.names.specs.Names.{keyOf}
 use Rattle.findings.specs.declared.Counts.{Counts}
-use Rattle.findings.specs.Findings.{Adds}
+use Rattle.findings.specs.Findings.{mostCompared, Adds}
 use Rattle.values.specs.declared.Value.{Value}
 use Rattle.values.specs.declared.Judgement.{Judgement}
-use Rattle.values.specs.Values.{valueAs}
+use Rattle.values.specs.Values.{valueAs, judgedAs}
 use Rattle.paths.specs.Paths.{orNone}
-use Rattle.judging.specs.Judging.{mostFindings, Agrees, RepAt}
+use Rattle.judging.specs.Judging.{mostFindings, RepAt}
 use Rattle.statements.specs.declared.Turn.{Turn}
 use Rattle.statements.specs.declared.Turn.the-variants as turn
 use Rattle.statements.specs.declared.Outcome.{Outcome}
@@ -35,25 +35,25 @@ use Rattle.statements.specs.declared.Outcome.the-variants as outcome
 -- ---- counts
 
 abbrev pub noCounts : Counts
-noCounts = record { used = 0; imported = 0; errors = 0; warnings = 0; statements = 0; number = 0 }
+noCounts = record { used = 0; imported = 0; errors = 0; warnings = 0; statements = 0; number = 0; comparisons = 0 }
 
 -- the next statement
 abbrev pub plusNumber : Counts → Counts
 plusNumber c =
-    record { used = c .used; imported = c .imported; errors = c .errors; warnings = c .warnings; statements = c .statements; number = c .number + 1 }
+    record { used = c .used; imported = c .imported; errors = c .errors; warnings = c .warnings; statements = c .statements; number = c .number + 1; comparisons = c .comparisons }
 
 abbrev pub plusStatement : Counts → Counts
-plusStatement c = record { used = c .used; imported = c .imported; errors = c .errors; warnings = c .warnings; statements = c .statements + 1; number = c .number }
+plusStatement c = record { used = c .used; imported = c .imported; errors = c .errors; warnings = c .warnings; statements = c .statements + 1; number = c .number; comparisons = c .comparisons }
 
 abbrev pub plusName : Counts → Counts
-plusName c = record { used = c .used + 1; imported = c .imported; errors = c .errors; warnings = c .warnings; statements = c .statements; number = c .number }
+plusName c = record { used = c .used + 1; imported = c .imported; errors = c .errors; warnings = c .warnings; statements = c .statements; number = c .number; comparisons = c .comparisons }
 
 abbrev pub plusImport : Counts → Counts
-plusImport c = record { used = c .used; imported = c .imported + 1; errors = c .errors; warnings = c .warnings; statements = c .statements; number = c .number }
+plusImport c = record { used = c .used; imported = c .imported + 1; errors = c .errors; warnings = c .warnings; statements = c .statements; number = c .number; comparisons = c .comparisons }
 
--- the counts of findings and statements alone
+-- the counts of findings, statements and comparisons alone
 abbrev pub unnamed : Counts → Counts
-unnamed c = record { used = 0; imported = 0; errors = c .errors; warnings = c .warnings; statements = c .statements; number = 0 }
+unnamed c = record { used = 0; imported = 0; errors = c .errors; warnings = c .warnings; statements = c .statements; number = 0; comparisons = c .comparisons }
 
 -- one finding and one statement more can be counted
 pub record Room (c : Counts) : Type 0 where
@@ -91,17 +91,18 @@ pub record HeldRow (t : Token) (v : Value) (row : ℕ) (x y : List ℕ) : Type 0
 
 -- it goes on, and no name is more: the tables of findings and of held statements from x and u to y and v
 abbrev pub GoesOf : List ℕ → Known → Counts → List ℕ → List ℕ → Counts → List ℕ → List ℕ → judgements.Turn → Type 0
-GoesOf s k c x u c′ y v (goes k′ ds hs) = (k′ ≡ k) × Adds s c x u c′ y v ds hs
+GoesOf s k c x u c′ y v (goes k′ ds hs ls) = (k′ ≡ k) × Adds s c x u c′ y v ds hs ls
 GoesOf s k c x u c′ y v (refuses m t) = ⊥
 
 -- a value that is told of
 pub record Tells (s : List ℕ) (t : ℕ) (v : Value) (c : Counts) (x u : List ℕ) (c′ : Counts) (y w : List ℕ) : Type 0 where
-  pub is : (n : ℕ) (k : Known) (d : values.Value) → n ≡ c .number → v ≡ valueAs d → GoesOf s k c x u c′ y w (discarded (contents (tokens.tokens s)) n k t (narrowed d) [])
+  pub is : (n : ℕ) (k : Known) (d : values.Value) → n ≡ c .number → v ≡ valueAs d → GoesOf s k c x u c′ y w (discarded (contents (tokens.tokens s)) n k t (narrowed d) [] [])
 
 -- an expression as a statement
 pub record Exprs (s : List ℕ) (n : ℕ) (k : Known) (e : Expr) (c : Counts) (x u : List ℕ) (c′ : Counts) (y v : List ℕ) : Type 0 where
   pub is : GoesOf s k c x u c′ y v
-      (told (contents (tokens.tokens s)) n k (firstOf e) (judge (contents (tokens.tokens s)) n k e .out) (judge (contents (tokens.tokens s)) n k e .warns))
+      (told (contents (tokens.tokens s)) n k (firstOf e) (judge (contents (tokens.tokens s)) n k e .out) (judge (contents (tokens.tokens s)) n k e .warns)
+      (judge (contents (tokens.tokens s)) n k e .looks))
 
 -- the expression of the statement in row i can be judged, and a finding and a statement more be counted
 pub record StmtFits (ws : List ℕ) (i : ℕ) (c : Counts) : Type 0 where
@@ -109,6 +110,7 @@ pub record StmtFits (ws : List ℕ) (i : ℕ) (c : Counts) : Type 0 where
   pub rep : RepAt ws (nodeWord ws i 2) tree
   pub room : c .errors + c .warnings + exprSize tree + 1 ≤ mostFindings
   pub held : c .statements < mostFindings
+  pub looks : c .comparisons + mostNames * (exprSize tree + 1) ≤ mostCompared
 
 -- a name that is bound, with its value or with none
 pub record BindsName (s : List ℕ) (k : Known) (c : Counts) (e : Entry) (k′ : Known) : Type 0 where
@@ -129,10 +131,10 @@ pub record ImportsName (s : List ℕ) (k : Known) (c : Counts) (e : Entry) (k′
   pub room : c .imported < mostImports
 
 abbrev pub TurnOf : List ℕ → Known → Counts → List ℕ → List ℕ → Turn → List ℕ → List ℕ → judgements.Turn → Type 0
-TurnOf s k c x u (turn.Went c′) y v (goes k′ ds hs) = (k′ ≡ k) × Adds s c x u c′ y v ds hs
-TurnOf s k c x u (turn.Binds c′ e) y v (goes k′ ds hs) = BindsName s k c e k′ × Adds s c x u c′ y v ds hs
-TurnOf s k c x u (turn.Imports c′ e) y v (goes k′ ds hs) = ImportsName s k c e k′ × Adds s c x u c′ y v ds hs
-TurnOf s k c x u (turn.Refused m t) y v (goes k′ ds hs) = ⊥
+TurnOf s k c x u (turn.Went c′) y v (goes k′ ds hs ls) = (k′ ≡ k) × Adds s c x u c′ y v ds hs ls
+TurnOf s k c x u (turn.Binds c′ e) y v (goes k′ ds hs ls) = BindsName s k c e k′ × Adds s c x u c′ y v ds hs ls
+TurnOf s k c x u (turn.Imports c′ e) y v (goes k′ ds hs ls) = ImportsName s k c e k′ × Adds s c x u c′ y v ds hs ls
+TurnOf s k c x u (turn.Refused m t) y v (goes k′ ds hs ls) = ⊥
 TurnOf s k c x u (turn.Went c′) y v (refuses m t) = ⊥
 TurnOf s k c x u (turn.Binds c′ e) y v (refuses m t) = ⊥
 TurnOf s k c x u (turn.Imports c′ e) y v (refuses m t) = ⊥
@@ -141,16 +143,15 @@ TurnOf s k c x u (turn.Refused m t) y v (refuses m′ t′) = (m ≡ m′) × (t
 pub record Turns (s : List ℕ) (k : Known) (c : Counts) (x u : List ℕ) (r : Turn) (y v : List ℕ) (t : judgements.Turn) : Type 0 where
   pub turn : TurnOf s k c x u r y v t
 
--- a `let` after its value was judged
+-- a `let` after its value was judged: what that came to, and what was added on the way there
 pub record Binds (tok : Token) (t key : ℕ) (j : Judgement) (x′ : List ℕ) (r : Turn) (y : List ℕ) : Type 0 where
-  pub is : (s x u : List ℕ) (n : ℕ) (k : Known) (c : Counts) (e : Expr) → n ≡ c .number → c .used < mostNames → tok ≡ tokenAs (tokenOf s t)
-      → key ≡ keyOf (nameAt (contents (tokens.tokens s)) t) → Agrees s j x x′ c (judge (contents (tokens.tokens s)) n k e)
-      → TurnOf s k c x u r y u
-      (bound (contents (tokens.tokens s)) n k t (judge (contents (tokens.tokens s)) n k e .out) (judge (contents (tokens.tokens s)) n k e .warns))
+  pub is : (s x u : List ℕ) (n : ℕ) (k : Known) (c : Counts) (o : judgements.Judged) (ws : List Diag) (ls : List ℕ) → n ≡ c .number
+      → c .used < mostNames → tok ≡ tokenAs (tokenOf s t) → key ≡ keyOf (nameAt (contents (tokens.tokens s)) t) → j .out ≡ judgedAs s o
+      → ((v : List ℕ) → Adds s c x v (j .counts) x′ v ws [] ls) → TurnOf s k c x u r y u (bound (contents (tokens.tokens s)) n k t o ws ls)
 
 -- a name that was bound before, at the token `first`
 pub record BoundTwice (s : List ℕ) (tok : Token) (first : ℕ) (c : Counts) (x : List ℕ) (c′ : Counts) (y : List ℕ) : Type 0 where
-  pub adds : (n t : ℕ) (u : List ℕ) → n ≡ c .number → tok ≡ tokenAs (tokenOf s t) → Adds s c x u c′ y u (diag n t (alreadyBound first) ∷ []) []
+  pub adds : (n t : ℕ) (u : List ℕ) → n ≡ c .number → tok ≡ tokenAs (tokenOf s t) → Adds s c x u c′ y u (diag n t (alreadyBound first) ∷ []) [] []
 
 -- ---- statements in the node table: the loop goes over all rows
 
@@ -173,6 +174,7 @@ pub record RowFits (ws : List ℕ) (i : ℕ) (c : Counts) : Type 0 where
   pub room : c .errors + c .warnings + programSize list ≤ mostFindings
   pub held : c .statements + programSize list ≤ mostFindings
   pub begun : c .number + programSize list ≤ mostFindings
+  pub looks : c .comparisons + mostNames * programSize list ≤ mostCompared
 
 -- row i of the statements ss that are left: it passes a row of an expression, or takes a turn with the first. Before, the
 -- tables were x and u.
@@ -185,9 +187,9 @@ pub data RowTurns (s ws : List ℕ) (i n : ℕ) (k : Known) (c : Counts) (x u : 
 
 -- what the statements found and held, whatever names they bound
 abbrev pub ComesTo : List ℕ → List ℕ → List ℕ → Outcome → List ℕ → List ℕ → judgements.Outcome → Type 0
-ComesTo s x u (outcome.Judged c) y v (judgements.judged ds hs) = Adds s noCounts x u (unnamed c) y v ds hs
+ComesTo s x u (outcome.Judged c) y v (judgements.judged ds hs ls) = Adds s noCounts x u (unnamed c) y v ds hs ls
 ComesTo s x u (outcome.Judged c) y v (judgements.refused m t) = ⊥
-ComesTo s x u (outcome.Refused m t) y v (judgements.judged ds hs) = ⊥
+ComesTo s x u (outcome.Refused m t) y v (judgements.judged ds hs ls) = ⊥
 ComesTo s x u (outcome.Refused m t) y v (judgements.refused m′ t′) = (m ≡ m′) × (t ≡ t′)
 
 -- the tables of findings and of held statements were x and u, and are y and v after the run

@@ -67,6 +67,7 @@ impl Checker {
             warnings: 0,
             statements: 0,
             number: 0,
+            comparisons: 0,
         }
     }
 }
@@ -353,16 +354,17 @@ fn let_stmt(
     let name = rows::name_at(source, tok);
     let key = names::key_of(name);
     let found = names::find(source, bindings, counts.used, key, name);
+    let then = findings::searched(counts, found.compared);
     let at = found.at;
     if at < counts.used {
         let first = names::word(bindings, at, Entry::TOKEN);
-        return Turn::Went(bound_twice(toks, diags, tok, first, counts));
+        return Turn::Went(bound_twice(toks, diags, tok, first, then));
     }
     if Checker::NAMES <= counts.used {
         return Turn::Refused(Verdict::NAMES, t);
     }
     let e = rows::node_word(nodes, i, NodeRow::FIRST) as usize;
-    let j = judging::judge(source, toks, nodes, bindings, imports, diags, e, counts);
+    let j = judging::judge(source, toks, nodes, bindings, imports, diags, e, then);
     bind(diags, tok, t, key, j)
 }
 

@@ -130,7 +130,7 @@ check-room s room t n k z h l i = go (program cs) refl
 
     judged-in : (ss : List Stmt) (a b : ℕ) → length (nodes ss) ≤ lexAnswer s room .count → (o : Outcome) → judgeAll cs ss ≡ o → P (judgedWithin s k a b o)
     judged-in ss a b m (refused v at) e = (let nine = names-refused cs ss v at .0 e .0 in rw nine (other 9 refl), omega arith)
-    judged-in ss a b m (judged ds hs) e =
+    judged-in ss a b m (judged ds hs ls) e =
         let w = found-few cs ss e in
         let c = all-counted ds in
         by-cases P (eqb (errorsIn ds) 0)

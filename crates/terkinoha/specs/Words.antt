@@ -21,7 +21,7 @@ abbrev pub canonisedWords : Canonised → List ℕ
 canonisedWords a = verdictWords (a .verdict) ++ a .tokens ∷ a .bytes ∷ []
 
 abbrev pub checkedWords : Checked → List ℕ
-checkedWords a = verdictWords (a .verdict) ++ a .tokens ∷ a .nodes ∷ a .errors ∷ a .warnings ∷ a .statements ∷ []
+checkedWords a = verdictWords (a .verdict) ++ a .tokens ∷ a .nodes ∷ a .errors ∷ a .warnings ∷ a .statements ∷ a .comparisons ∷ []
 
 abbrev pub bodyWords : Body → List ℕ
 bodyWords b = b .found ∷ b .start ∷ b .end ∷ b .next ∷ []

@@ -51,7 +51,7 @@ judge-node-word-requires : (t : ℕ) → judge-lts.Need-node-word-requires (judg
 judge-node-word-requires t c κs = (law.row-in ((c .before .before .before .before .before .before .pre .1 .1) .rep), omega arith)
 
 judge-leaf-requires : (t : ℕ) → judge-lts.Need-leaf-requires (judge-cs t) (judge-at t) judge.Post
-judge-leaf-requires t c κs = ((c .before .before .before .before .before .before .before .before .pre .1 .0), law.row-in ((c .before .before .before .before .before .before .before .before .pre .1 .1) .rep))
+judge-leaf-requires t c κs = ((c .before .before .before .before .before .before .before .before .pre .1 .0), (law.row-in ((c .before .before .before .before .before .before .before .before .pre .1 .1) .rep), law.fits-look (c .before .before .before .before .before .before .before .before .pre .1 .1)))
 
 judge-returns : (t : ℕ) → judge-lts.Need-returns (judge-cs t) (judge-at t) judge.Post
 judge-returns t c = λ n k e num kn rep. c .leaf .ensures n k e _ kn rep (omega (arith, (c .before .before .node-word .ensures), c .before .if1 .taken))
@@ -81,7 +81,7 @@ judge-slash-requires : (t : ℕ) → judge-lts.Need-slash-requires (judge-cs t) 
 judge-slash-requires t c κs = let p = law.slash-at ((c .before .before .before .before .before .before .before .before .before .before .before .before .before .before .before .before .pre .1 .1) .rep) (omega (arith, (c .before .before .before .before .before .before .before .before .before .node-word .ensures), c .before .before .before .before .before .before .before .before .if1 .left)) (λ q. c .before .before .before .before .before .before .before .if2 .left ((c .before .before .before .before .before .before .before .before .before .node-word .ensures) ∙ q)) (λ q. c .before .if3 .left ((c .before .before .before .before .before .before .before .before .before .node-word .ensures) ∙ q)) in
     let k = knownIn (c .before .before .before .before .before .before .before .before .before .before .before .before .before .before .before .before .args .source .now) (c .before .before .before .before .before .before .before .before .before .before .before .before .before .before .before .before .args .bindings .now) (c .before .before .before .before .before .before .before .before .before .before .before .before .before .before .before .before .args .imports .now) (c .before .before .before .before .before .before .before .before .before .before .before .before .before .before .before .before .args .counts) in
     let a = c .before .before .before .before .judge .ensures (c .before .before .before .before .before .before .before .before .before .before .before .before .before .before .before .before .args .counts .number) k (p .left) refl (record { is = refl }) (law.at-row (c .before .before .before .before .before .before .node-word2 .ensures) (p .left-rep)) in
-    (omega (arith, c .before .before .before .before .before .before .before .before .before .before .before .before .before .before .before .before .pre .0), (law.ready-on a (c .before .before .before .before .before .before .before .before .before .before .before .before .before .before .before .before .pre .1 .0), law.fits-slash (c .before .before .before .before .before .before .before .before .before .before .before .before .before .before .before .before .args .source .now) (c .before .before .before .before .before .before .before .before .before .before .before .before .before .before .before .before .args .counts .number) k (c .before .before .before .before .before .before .before .before .before .before .before .before .before .before .before .before .args .counts) (c .before .before .before .before .before .before .before .before .before .before .before .before .before .before .before .before .pre .1 .1) p a))
+    (omega (arith, c .before .before .before .before .before .before .before .before .before .before .before .before .before .before .before .before .pre .0), (law.ready-on a (c .before .before .before .before .before .before .before .before .before .before .before .before .before .before .before .before .pre .1 .0), law.fits-slash (c .before .before .before .before .before .before .before .before .before .before .before .before .before .before .before .before .args .source .now) (c .before .before .before .before .before .before .before .before .before .before .before .before .before .before .before .before .args .counts .number) k (c .before .before .before .before .before .before .before .before .before .before .before .before .before .before .before .before .args .counts) (law.known-few (c .before .before .before .before .before .before .before .before .before .before .before .before .before .before .before .before .pre .1 .0)) (c .before .before .before .before .before .before .before .before .before .before .before .before .before .before .before .before .pre .1 .1) p a))
 
 judge-same-length-2 : (t : ℕ) → judge-lts.Need-same-length-2 (judge-cs t) (judge-at t) judge.Post
 judge-same-length-2 t c = search needs

@@ -15,7 +15,7 @@ token-at-requires : tie.Need-token-at-requires
 token-at-requires c κs = some-row (c .before .before .before .before .before .before .before .before .pre .0 .lexed)
 
 local-requires : tie.Need-local-requires
-local-requires c κs = ((c .before .before .before .before .before .before .before .before .before .pre .0) .bound, (c .before .before .before .before .before .before .before .before .before .pre .0) .keyed)
+local-requires c κs = (((c .before .before .before .before .before .before .before .before .before .pre .0) .bound, (c .before .before .before .before .before .before .before .before .before .pre .0) .keyed), ((c .before .before .before .before .before .before .before .before .before .pre .0) .few, c .before .before .before .before .before .before .before .before .before .pre .1 .1))
 
 path-requires : tie.Need-path-requires
 path-requires c κs = ((c .before .before .before .before .before .before .before .before .before .pre .0) .lexed, (c .before .before .before .before .before .before .before .before .before .pre .0) .modules, (c .before .before .before .before .before .before .before .before .before .pre .0) .keyed-modules)
