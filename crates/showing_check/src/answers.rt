@@ -130,7 +130,7 @@ pub fn answer(
     judged(source, tokens, diags, stmts, checked, out, at)
 }
 
-// The findings, each after the number of its statement, and the counts.
+// The findings, each after the number of its statement, and the counts, that of the compared names too.
 fn numbered(
     source: &[u8],
     diags: &[u64],
@@ -146,7 +146,13 @@ fn numbered(
     let text = table.text;
     let found = sum(checked.errors, checked.warnings);
     let p = diagnostic::diagnostics(source, &text, diags, found, true, out, at);
-    diagnostic::counts(checked.errors, checked.warnings, out, p)
+    diagnostic::counts_compared(
+        checked.errors,
+        checked.warnings,
+        checked.comparisons,
+        out,
+        p,
+    )
 }
 
 // The mode `grouped`.

@@ -164,11 +164,30 @@ pub fn diagnostics<'a>(
     p
 }
 
-// The line with the counts.
-pub fn counts(errors: u64, warnings: u64, out: &mut [u8], at: usize) -> usize {
+// How many errors and warnings there were.
+fn found(errors: u64, warnings: u64, out: &mut [u8], at: usize) -> usize {
     let a = output::text(out, at, b"errors");
     let b = output::field(out, a, errors);
     let c = output::text(out, b, b" warnings");
-    let d = output::field(out, c, warnings);
-    output::byte(out, d, b'\n')
+    output::field(out, c, warnings)
+}
+
+// The line with the counts.
+pub fn counts(errors: u64, warnings: u64, out: &mut [u8], at: usize) -> usize {
+    let p = found(errors, warnings, out, at);
+    output::byte(out, p, b'\n')
+}
+
+// The same line, with how many names were compared.
+pub fn counts_compared(
+    errors: u64,
+    warnings: u64,
+    comparisons: u64,
+    out: &mut [u8],
+    at: usize,
+) -> usize {
+    let a = found(errors, warnings, out, at);
+    let b = output::text(out, a, b" comparisons");
+    let c = output::field(out, b, comparisons);
+    output::byte(out, c, b'\n')
 }

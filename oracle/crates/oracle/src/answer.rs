@@ -13,7 +13,7 @@ use resynth::loc::Loc;
 use resynth::parse::{ParseErrorKind, parse as parse_tokens};
 use resynth::stdlib::{STDLIB, WIDE};
 use resynth::str::{Buf, StringLiteralErrorKind};
-use resynth::{Held, call_parts, hold, token};
+use resynth::{Held, call_parts, hold, looks, token};
 
 use crate::{bounds, canon};
 
@@ -785,8 +785,15 @@ pub fn grouped(out: &mut Out, src: &[u8], opts: Options) {
         Ok(stmts) => stmts,
         Err(err) => return refusal(out, &err),
     };
+    let comparisons = looks(root(opts), &stmts).comparisons;
     let held = hold(root(opts), stmts, |number, diag| {
         numbered(out, number, &diag)
     });
-    put!(out, "errors {} warnings {}\n", held.errors, held.warnings);
+    let Held {
+        errors, warnings, ..
+    } = held;
+    put!(
+        out,
+        "errors {errors} warnings {warnings} comparisons {comparisons}\n"
+    );
 }

@@ -2,13 +2,14 @@
 
 use std::io;
 
-pub const KINDS: [&str; 12] = [
+pub const KINDS: [&str; 13] = [
     "short",
     "tokens",
     "programs",
     "calls",
     "damaged",
     "judgements",
+    "names",
     "sizes",
     "blanks",
     "utf8",
@@ -53,6 +54,7 @@ fn random_kind(kind: &str) -> Option<Make> {
         "calls" => |rng, _| calls(rng),
         "damaged" => |rng, _| damaged(rng),
         "judgements" => judgements,
+        "names" => names,
         "blanks" => blanks,
         "utf8" => utf8,
         "numbers" => |rng, _| numbers(rng),
@@ -1010,6 +1012,116 @@ fn judgements(rng: &mut Rng, i: u64) -> Vec<u8> {
         }
     }
     program.text(rng)
+}
+
+// Searches among many names
+
+/// How many names: around where a table or a group of them may end
+const CROWDS: [usize; 16] = [1, 2, 3, 4, 5, 8, 9, 16, 17, 63, 64, 65, 255, 256, 511, 512];
+
+/// Spellings of name i: short, of one length, alike at first, alike at last, and of many lengths
+const SPELLINGS: [fn(usize) -> String; 5] = [
+    |i| format!("w{i}"),
+    |i| format!("w{i:03x}"),
+    |i| format!("same_at_first_{i:03x}"),
+    |i| format!("v{i:03x}_same_at_last"),
+    |i| {
+        format!(
+            "{}{}{}",
+            "ab".repeat(i % 9),
+            ["a", "b", "c_"][i / 9 % 3],
+            i / 27
+        )
+    },
+];
+
+/// The value of name i of n, and a statement after all lets: each name is found, in order and in
+/// the other; none is; each is found, and failed; each is bound again; each is another's value;
+/// both sides of a `/`; one before a `.`
+const CROWD_USES: [fn(&dyn Fn(usize) -> String, usize, usize) -> (String, String); 8] = [
+    |name, i, _| ("7".into(), format!("{};", name(i))),
+    |name, i, n| ("7".into(), format!("{};", name(n - 1 - i))),
+    |name, i, n| ("7".into(), format!("{};", name(n + i))),
+    |name, i, n| (name(n), format!("{};", name(i))),
+    |name, i, n| ("7".into(), format!("let {}={};", name(i), name(n - 1 - i))),
+    |name, i, n| (name((i + n - 1) % n), format!("{};", name(i))),
+    |name, i, n| {
+        (
+            "1.2.3.4".into(),
+            format!("{}/{};", name(i), name(n - 1 - i)),
+        )
+    },
+    |name, i, n| {
+        (
+            ["7", "q"][i % 2].into(),
+            format!("{}.m/{};", name(i), name(n - 1 - i)),
+        )
+    },
+];
+
+/// So many lets, then the uses. Imports of the same names stand before, if they are wanted
+fn crowd(n: usize, spelling: usize, uses: usize, imported: bool) -> Vec<u8> {
+    let name = SPELLINGS[spelling];
+    let all = (0..n).map(|i| CROWD_USES[uses](&name, i, n));
+    let imports = if imported { n.min(64) } else { 0 };
+    let mut text: String = (0..imports)
+        .map(|i| format!("import {};", name(i)))
+        .collect();
+    let mut after = String::new();
+    for (i, (value, used)) in all.enumerate() {
+        text += &format!("let {}={value};", name(i));
+        after += &used;
+    }
+    (text + &after).into_bytes()
+}
+
+/// Any of these, in any order: a use may stand before its let, and what is bound may fail
+fn scattered(rng: &mut Rng) -> Vec<u8> {
+    let name = SPELLINGS[rng.below(SPELLINGS.len())];
+    let most = [4, 20, 80, 300][rng.below(4)];
+    let n = 1 + rng.below(most);
+    let mut text = String::from(rng.pick(&["", "import bench;", "import nope;"]));
+    let mut bound = 0;
+    while bound < n {
+        let fresh = name(bound);
+        // about those bound so far, a few later ones too
+        let mut any = || name(rng.below(bound + 2));
+        let (a, b, c) = (any(), any(), any());
+        let turn = rng.below(12);
+        text += &match turn {
+            0 => format!("{a};"),
+            1 => format!("{a}/{b}/{c};"),
+            2 => format!("{a}.{b}/{c};"),
+            3 => format!("let {a}={b}/{c};"),
+            4 => format!("import {a};{a}::{b};"),
+            5 => format!("bench::LOOP/{a};nope::x/{b};"),
+            6 => format!("let {fresh}={a}/{b};"),
+            7 => format!("let {fresh}={a};"),
+            8 => format!("let {fresh}={fresh};"),
+            9 => format!("let {fresh}=1.2.3.4;"),
+            10 => format!("let {fresh}=bench::LOOP;"),
+            _ => format!("let {fresh}=7;"),
+        };
+        bound += usize::from(turn > 5);
+    }
+    text.into_bytes()
+}
+
+fn names(rng: &mut Rng, i: u64) -> Vec<u8> {
+    let shapes = CROWDS.len() * CROWD_USES.len();
+    match i as usize {
+        i if i < shapes => {
+            let (size, uses) = (i / CROWD_USES.len(), i % CROWD_USES.len());
+            crowd(CROWDS[size], i % SPELLINGS.len(), uses, i % 3 == 0)
+        }
+        _ if rng.once_in(3) => {
+            let n = 1 + rng.below(512);
+            let spelling = rng.below(SPELLINGS.len());
+            let uses = rng.below(CROWD_USES.len());
+            crowd(n, spelling, uses, rng.once_in(2))
+        }
+        _ => scattered(rng),
+    }
 }
 
 // Damaged copies

@@ -5,7 +5,7 @@ use std::process::ExitCode;
 
 use resynth::lex::{LexErrorKind, LexemeKind, Scanner, Tok, Token};
 use resynth::str::Buf;
-use resynth::{check_in, hold};
+use resynth::{all_uses, check_in, hold, looks};
 
 use crate::answer::{self, Options, Refusal};
 use crate::generate::generate;
@@ -220,9 +220,27 @@ fn numbered(line: &str) -> Option<(usize, &str, (usize, usize))> {
     Some((number.parse().ok()?, rest, place))
 }
 
-/// What `grouped` says of each diagnostic, its number aside, is what `check` says. Numbers never fall,
-/// each has one error at most, and each is that of the `;` which ends the statement, counted in the
-/// tokens.
+/// No more searches than lets and local uses, and as many where no error stops one; each compares no
+/// more than all names. They are counted in a run that finds the errors of the other.
+fn looks_few(src: &[u8], opts: Options, report: &mut Report) {
+    let Ok(stmts) = answer::tree(src, opts) else {
+        return;
+    };
+    let all = all_uses(&stmts);
+    let looks = looks(answer::root(opts), &stmts);
+    let errors = hold(answer::root(opts), stmts, |_, _| {}).errors;
+    let same = looks.errors == errors
+        && looks.comparisons <= looks.searches * looks.names.len()
+        && looks.searches <= all
+        && (errors > 0 || looks.searches == all);
+    if !same {
+        report.difference("comparisons", src);
+    }
+}
+
+/// What `grouped` says of each diagnostic, its number aside, is what `check` says, and so are the
+/// counts before `comparisons`. Numbers never fall, each has one error at most, and each is that of
+/// the `;` which ends the statement, counted in the tokens.
 fn groups_agree(src: &[u8], opts: Options, report: &mut Report) {
     let told = |mode: crate::Mode| {
         let mut out = Vec::new();
@@ -234,6 +252,10 @@ fn groups_agree(src: &[u8], opts: Options, report: &mut Report) {
     let findings = check.lines().filter(|line| !line.starts_with("stmt "));
     let plain = grouped
         .lines()
+        .map(|line| {
+            line.split_once(" comparisons ")
+                .map_or(line, |(counts, _)| counts)
+        })
         .map(|line| numbered(line).map_or(line, |(_, rest, _)| rest));
     let found: Vec<_> = grouped.lines().filter_map(numbered).collect();
     let errors: Vec<usize> = found
@@ -321,7 +343,8 @@ pub fn selfcheck(seed: u64, count: u64) -> ExitCode {
     characters(&mut report);
 
     let mut sources = 0u64;
-    let random = ["mixed", "programs", "calls", "judgements", "lines"].map(|kind| (kind, seed));
+    let random =
+        ["mixed", "programs", "calls", "judgements", "names", "lines"].map(|kind| (kind, seed));
     let short = [0, 1, 2, 3, 4].map(|alphabet| ("short", alphabet));
     for (kind, seed) in random.into_iter().chain(short) {
         generate(kind, seed, count, &mut |src| {
@@ -340,6 +363,7 @@ pub fn selfcheck(seed: u64, count: u64) -> ExitCode {
                     };
                     checks_agree(src, opts, &mut report);
                     groups_agree(src, opts, &mut report);
+                    looks_few(src, opts, &mut report);
                 }
             }
             Ok(())

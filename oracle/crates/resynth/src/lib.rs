@@ -19,7 +19,7 @@ pub mod str;
 pub mod sym;
 pub mod val;
 
-pub use check::bind::{Held, hold};
+pub use check::bind::{Held, Looks, all_uses, hold, looks};
 
 /// `check_in`, as it is
 pub fn check_in(

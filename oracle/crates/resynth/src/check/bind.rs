@@ -1,10 +1,13 @@
 //! Stands where check.rs says `mod bind;`. It holds resynth's own bind.rs one level lower, and
 //! beside it what a child of `check` can see: the statements as `Checker::run` holds them before
-//! `eliminate_dead_lets`.
+//! `eliminate_dead_lets`, and in looks.rs the count of compared names.
 
+#[path = "looks.rs"]
+mod looks;
 #[path = "resynth_bind.rs"]
 mod resynth_bind;
 
+pub use looks::{Looks, all_uses, looks};
 pub(crate) use resynth_bind::{ArgIn, Bound};
 
 use std::cell::Cell;
