@@ -1,8 +1,9 @@
 /* show: prints what Terkinoha finds in a script.
  *
- *     show check|tokens|tree|text FILE    FILE may be `-` for standard input
+ *     show check|stats|tokens|tree|text FILE    FILE may be `-` for standard input
  *
- * check: what is wrong with the script, and how many errors and warnings that are. tokens: a token to a line, with its
+ * check: what is wrong with the script, and how many errors and warnings that are. stats: the same, and how many names
+ * were compared with one that was wanted. tokens: a token to a line, with its
  * place. tree: a statement to a line, operator first. text: the canonical text.
  * A finding or a refusal is printed as FILE:LINE:COLUMN: error: TEXT, with the script's line and a caret below it. The
  * findings of one statement stand together, and an empty line between those of two.
@@ -339,7 +340,7 @@ static void put_findings(const struct script *script, const terkinoha_diagnostic
 }
 
 /* Checks with tables of `room` rows: a script never has more findings, nodes or statements than tokens. */
-static int show_check(const struct script *script, size_t room)
+static int show_check(const struct script *script, size_t room, int stats)
 {
     terkinoha_token *tokens = (terkinoha_token *)lend(room, sizeof *tokens);
     terkinoha_node *nodes = (terkinoha_node *)lend(room, sizeof *nodes);
@@ -353,6 +354,8 @@ static int show_check(const struct script *script, size_t room)
     } else {
         put_findings(script, found, checked.errors + checked.warnings);
         printf("errors %" PRIu64 " warnings %" PRIu64 "\n", checked.errors, checked.warnings);
+        if (stats)
+            printf("comparisons %" PRIu64 "\n", checked.comparisons);
     }
     free(statements);
     free(found);
@@ -533,8 +536,8 @@ static int show(const char *mode, const struct script *script)
         show_tokens(script, tokens, lexed.tokens);
     free(tokens);
 
-    if (status == 0 && strcmp(mode, "check") == 0)
-        status = show_check(script, lexed.tokens);
+    if (status == 0 && (strcmp(mode, "check") == 0 || strcmp(mode, "stats") == 0))
+        status = show_check(script, lexed.tokens, strcmp(mode, "stats") == 0);
     if (status == 0 && strcmp(mode, "tree") == 0)
         status = show_tree(script, lexed.tokens);
     if (status == 0 && strcmp(mode, "text") == 0)
@@ -553,13 +556,13 @@ static void finish(FILE *out, const char *name)
 
 int main(int argc, char **argv)
 {
-    static const char *const modes[] = {"check", "tokens", "tree", "text"};
+    static const char *const modes[] = {"check", "stats", "tokens", "tree", "text"};
     const char *mode = argc == 3 ? argv[1] : "";
     size_t known = 0;
-    while (known < 4 && strcmp(mode, modes[known]) != 0)
+    while (known < 5 && strcmp(mode, modes[known]) != 0)
         known++;
-    if (known == 4) {
-        fprintf(stderr, "usage: show check|tokens|tree|text FILE\n");
+    if (known == 5) {
+        fprintf(stderr, "usage: show check|stats|tokens|tree|text FILE\n");
         return 2;
     }
     setvbuf(stderr, NULL, _IOLBF, BUFSIZ); /* a line at a time, and not a character */

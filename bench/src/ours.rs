@@ -35,6 +35,7 @@ pub struct Checked {
     pub errors: u64,
     pub warnings: u64,
     pub statements: u64,
+    pub comparisons: u64,
 }
 
 #[link(name = "terkinoha", kind = "static")]

@@ -654,7 +654,7 @@ static void try_empty(void)
                         (terkinoha_diagnostic *)(void *)lent.filled[FINDINGS].at, 0,
                         (terkinoha_statement *)(void *)lent.filled[STATEMENTS].at, 0);
     CHECK(same_verdict(checked.verdict, TERKINOHA_DONE, 0, 0, 0, 0) && checked.tokens == 1);
-    CHECK(checked.nodes + checked.errors + checked.warnings + checked.statements == 0);
+    CHECK(checked.nodes + checked.errors + checked.warnings + checked.statements + checked.comparisons == 0);
     checked = terkinoha_check(NULL, 0, NULL, 0, NULL, 0, NULL, 0, NULL, 0);
     CHECK(same_verdict(checked.verdict, TERKINOHA_TOKEN_ROOM, 0, 0, 0, 0) && checked.tokens == 0);
     give_back(CHECK_SOURCE, lent);

@@ -116,6 +116,7 @@ static terkinoha_checked check(const uint8_t *source, size_t size, size_t t, siz
     LEFT(DIAGNOSTICS, terkinoha_diagnostic, d, (found < d ? found : d), checked.verdict.number);
     LEFT(STATEMENTS, terkinoha_statement, k, checked.statements, checked.verdict.number);
     must(checked.errors == 0 || checked.statements == 0, "statements beside an error");
+    must(checked.verdict.number == TERKINOHA_DONE || checked.comparisons == 0, "comparisons of a refusal");
     numbered(checked.tokens, found < d ? found : d);
     return checked;
 }
@@ -140,7 +141,8 @@ static void text_stays(const uint8_t *source, size_t size, size_t t)
     memcpy(of_source, findings(), sizeof of_source);
     terkinoha_checked b = check((const uint8_t *)text, one.bytes, t, t, ROWS, t);
     must(a.verdict.number == b.verdict.number && a.verdict.kind == b.verdict.kind && a.nodes == b.nodes &&
-             a.errors == b.errors && a.warnings == b.warnings && a.statements == b.statements,
+             a.errors == b.errors && a.warnings == b.warnings && a.statements == b.statements &&
+             a.comparisons == b.comparisons,
          "a text that is checked otherwise");
     for (size_t i = 0; i < ROWS; i++) {
         const terkinoha_diagnostic *of_text = &findings()[i];

@@ -253,6 +253,7 @@ static int done(terkinoha_checked a, uint64_t errors, uint64_t warnings, uint64_
 static int refused(terkinoha_checked a, uint64_t number, uint64_t line, uint64_t column)
 {
     return same(a.verdict, number, 0, line, column) && a.tokens == 0 && a.nodes == 0 && counts(a, 0, 0, 0) &&
+           a.comparisons == 0 &&
            tokens[0].kind == 0 && nodes[0].kind == 0 && found[0].kind == 0 && statements[0].kind == 0;
 }
 
@@ -389,6 +390,31 @@ static void try_kinds(void)
     };
     CHECK(done(check(source, enough), 12, 4, 0));
     CHECK(memcmp(found, rows, sizeof rows) == 0);
+}
+
+/* How many names are compared, counted by hand: of each let and each use that is judged, in their order. */
+static void try_comparisons(void)
+{
+    static const struct {
+        const char *source;
+        uint64_t comparisons;
+    } cases[] = {
+        {"", 0},
+        {"let a=1;", 0},
+        {"let a=1; let b=a; b;", 0 + 1 + 1 + 2},
+        /* bound already: it stops at the match, and the value is not judged */
+        {"let a=1; let b=2; let a=b;", 0 + 1 + 1},
+        /* a miss looks at all; the right of `/` is not judged where the left errs */
+        {"let a=1; let b=2; x; x/a; 1.2.3.4/b;", 0 + 1 + 2 + 2 + 2},
+        /* a failed name is bound, and found; imports take no search */
+        {"import bench; let a=x; a; bench::HTTP; import q;", 0 + 0 + 1},
+    };
+    static const struct rooms small = {MOST, MOST, 0, MOST};
+    for (size_t i = 0; i < sizeof cases / sizeof *cases; i++) {
+        terkinoha_checked a = check(cases[i].source, enough);
+        CHECK(a.verdict.number == TERKINOHA_DONE && a.comparisons == cases[i].comparisons);
+        CHECK(check(cases[i].source, small).comparisons == a.comparisons);
+    }
 }
 
 /* Statements are numbered, and not lines: of six the second and the third have no finding, and the fifth has two. In canonical
@@ -558,6 +584,7 @@ int main(void)
     try_checkings();
     try_finding_rows();
     try_kinds();
+    try_comparisons();
     try_numbers();
     try_statement_rows();
     try_refusals();

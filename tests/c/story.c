@@ -16,7 +16,7 @@
 /* All that one call leaves. */
 struct left {
     terkinoha_verdict verdict;
-    uint64_t counts[5];
+    uint64_t counts[6];
     terkinoha_lexeme lexemes[ROOM];
     terkinoha_token tokens[ROOM];
     terkinoha_node nodes[ROOM];
@@ -42,6 +42,7 @@ static void check(const char *source, size_t room, struct left *left)
     left->counts[2] = a.errors;
     left->counts[3] = a.warnings;
     left->counts[4] = a.statements;
+    left->counts[5] = a.comparisons;
 }
 
 /* One call. What it lends is full of garbage at first. */
