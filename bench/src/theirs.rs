@@ -29,7 +29,7 @@ pub fn parse(source: &str) -> Vec<Stmt> {
 /// What the checker holds after its loop, and what it found, in room that was known beforehand as ours is
 pub fn check(source: &str, room: usize) -> (Held, Vec<Diagnostic>) {
     let mut found = Vec::with_capacity(room);
-    let held = hold(&STDLIB, parse(source), |diag| found.push(diag));
+    let held = hold(&STDLIB, parse(source), |_, diag| found.push(diag));
     (held, found)
 }
 
