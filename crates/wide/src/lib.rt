@@ -1,6 +1,6 @@
 // Numbers from 0 to 2^127 - 1 in two 64-bit words: what `i128` is in the Rust.
 ghost use mathlib.Core.Path.{_≡_};
-ghost use Prim.Native.Nat.{_-_, _/_, _%_, _<_};
+ghost use Prim.Native.Nat.{_+_, _*_, _-_, _/_, _%_, _<_, _≤_};
 ghost use mathlib.Core.List.{_++_};
 ghost use lib.Dec.{eqb};
 ghost use lib.ListN.{length, replicate};
@@ -54,7 +54,48 @@ impl Wide {
         Wide { hi: 0, lo: 0 }
     }
 
-    // Ten times the number, plus a digit.
+    // Twice the number. The highest bit of the lower word goes to the upper word.
+    fn times2(self) -> Wide
+        requires { ⌜ self .hi < 1152921504606846976 ⌝ }
+        ensures { λ r. ⌜ (valueOf r ≡ valueOf self * 2) × (r .hi < 2305843009213693952) ⌝ }
+    {
+        let hi = self.hi;
+        let lo = self.lo;
+        Wide {
+            hi: hi * 2 + lo / 9223372036854775808,
+            lo: (lo % 9223372036854775808) * 2,
+        }
+    }
+
+    // Eight times the number. The highest three bits of the lower word go to the upper word.
+    fn times8(self) -> Wide
+        requires { ⌜ self .hi < 1152921504606846976 ⌝ }
+        ensures { λ r. ⌜ (valueOf r ≡ valueOf self * 8) × (r .hi < 9223372036854775808) ⌝ }
+    {
+        let hi = self.hi;
+        let lo = self.lo;
+        Wide {
+            hi: hi * 8 + lo / 2305843009213693952,
+            lo: (lo % 2305843009213693952) * 8,
+        }
+    }
+
+    // The sum of two numbers below 2^127. The lower words carry where what is left of their sum is less than either.
+    fn plus(self, other: Wide) -> Wide
+        requires { ⌜ (self .hi < 9223372036854775808) × (other .hi < 9223372036854775808) ⌝ }
+        ensures { λ r. ⌜ (valueOf r ≡ valueOf self + valueOf other) × (r .hi ≤ self .hi + other .hi + 1) ⌝ }
+    {
+        let hi = self.hi + other.hi;
+        let lo = std::num::wrapping_add_u64(self.lo, other.lo);
+        if lo < other.lo {
+            return Wide { hi: hi + 1, lo: lo };
+        }
+        Wide { hi: hi, lo: lo }
+    }
+
+    // Ten times the number, plus a digit: two shifted copies, eight times the number and twice the number, and no product. Of a
+    // plain sum of both a compiler makes a product again, for which a machine without one of 64 bits calls a helper. So the lesser
+    // copy is compared too, here with a bound and in `plus` with the sum: the copies stay apart (`tests/c/multiply`).
     pub fn times10_plus(self, d: u64) -> Scaled
         requires { ⌜ d < 10 ⌝ }
         ensures { λ r. ⌜ r ≡ scaled 10 (valueOf self) d ⌝ }
@@ -62,26 +103,22 @@ impl Wide {
         let hi = self.hi;
         let lo = self.lo;
         // most numbers are small: the lower word is enough
-        if (hi == 0) & (lo < 1844674407370955161) {
+        let twice = std::num::wrapping_add_u64(std::num::wrapping_add_u64(lo, lo), d);
+        if (hi == 0) & ((lo < 2305843009213693952) & (twice < 2305843009213693952)) {
             return Scaled::Fits(Wide {
                 hi: 0,
-                lo: lo * 10 + d,
+                lo: lo * 8 + twice,
             });
         }
-        // past 2^63 / 10 the answer is known, and `h` below might not fit
-        if 922337203685477580 < hi {
+        // from 2^60 in the upper word on the answer is known; below it both copies and their sum fit two words
+        if 1152921504606846975 < hi {
             return Scaled::Over;
         }
-        // by halves of 32 bits, so that no product needs more than 64 bits
-        let p0 = (lo % 4294967296) * 10 + d;
-        let p1 = (lo / 4294967296) * 10 + p0 / 4294967296;
-        let h = hi * 10 + p1 / 4294967296;
+        let lesser = self.times2().plus(Wide { hi: 0, lo: d });
+        let all = self.times8().plus(lesser);
         // 2^63 in the upper word is 2^127
-        if h < 9223372036854775808 {
-            return Scaled::Fits(Wide {
-                hi: h,
-                lo: (p1 % 4294967296) * 4294967296 + p0 % 4294967296,
-            });
+        if all.hi < 9223372036854775808 {
+            return Scaled::Fits(all);
         }
         Scaled::Over
     }
@@ -158,20 +195,24 @@ impl Wide {
         let lo = self.lo;
         // most numbers are small: the lower word is enough
         if hi == 0 {
+            let tenth = lo / 10;
             return Quotient {
-                rest: Wide { hi: 0, lo: lo / 10 },
-                digit: lo % 10,
+                rest: Wide { hi: 0, lo: tenth },
+                digit: last_digit(lo, tenth),
             };
         }
-        let p1 = (hi % 10) * 4294967296 + lo / 4294967296;
-        let p0 = (p1 % 10) * 4294967296 + lo % 4294967296;
+        let high = hi / 10;
+        let p1 = last_digit(hi, high) * 4294967296 + lo / 4294967296;
+        let middle = p1 / 10;
+        let p0 = last_digit(p1, middle) * 4294967296 + lo % 4294967296;
+        let low = p0 / 10;
         let rest = Wide {
-            hi: hi / 10,
-            lo: (p1 / 10) * 4294967296 + p0 / 10,
+            hi: high,
+            lo: middle * 4294967296 + low,
         };
         Quotient {
             rest,
-            digit: p0 % 10,
+            digit: last_digit(p0, low),
         }
     }
 
@@ -235,6 +276,17 @@ impl Wide {
             }
         }
     }
+}
+
+// The last digit of a number, which is ten times `tenth` and that digit. With six times `tenth` more it is 16 times `tenth` and the
+// digit, so its lowest four bits are the digit. Of the remainder by ten a compiler makes a product, where it has divided already.
+fn last_digit(n: u64, tenth: u64) -> u64
+    requires { ⌜ tenth ≡ n / 10 ⌝ }
+    ensures { λ r. ⌜ r ≡ n % 10 ⌝ }
+{
+    let low = (n % 16) as u8;
+    let more = (tenth % 16) as u8;
+    ((low + more * 6) % 16) as u64
 }
 
 // A digit below 16 as ASCII.
