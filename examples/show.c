@@ -290,6 +290,52 @@ static void tell_name(const struct script *script, const terkinoha_diagnostic *f
     }
 }
 
+/* How many arguments a call has, and how many its function takes. */
+static void put_counts(const terkinoha_diagnostic *found)
+{
+    put_item(found->start, found->end);
+    fprintf(stderr, " takes %" PRIu64 " argument%s, %" PRIu64 " %s given", found->second, found->second == 1 ? "" : "s",
+            found->first, found->first == 1 ? "is" : "are");
+}
+
+/* What is said of a call. */
+static void tell_call(const terkinoha_diagnostic *found)
+{
+    switch (found->kind) {
+    case TERKINOHA_FINDING_NOT_CALLABLE:
+        fputs("only a function can be called, and this is ", stderr);
+        put_type(found);
+        break;
+    case TERKINOHA_FINDING_TOO_MANY_ARGS:
+    case TERKINOHA_FINDING_TOO_FEW_ARGS:
+        put_counts(found);
+        break;
+    case TERKINOHA_FINDING_ARG_TYPE:
+        fprintf(stderr, "`%s` of `%s` must be %s, and is ", terkinoha_param_name(found->first, found->second),
+                terkinoha_entry_name(found->first), terkinoha_type_text(found->third));
+        put_type(found);
+        break;
+    case TERKINOHA_FINDING_VOID_VALUE:
+        fputs("this call gives no value", stderr);
+        break;
+    case TERKINOHA_FINDING_OVERFLOW:
+        put_type(found);
+        fprintf(stderr, " may not fit %s: it is cut in the run", terkinoha_type_text(found->first));
+        break;
+    }
+}
+
+/* What an integer type keeps of the low word of a value. */
+static uint64_t cut_to(uint64_t type, uint64_t low)
+{
+    switch (type) {
+    case TERKINOHA_TYPE_U8: return low & 0xFF;
+    case TERKINOHA_TYPE_U16: return low & 0xFFFF;
+    case TERKINOHA_TYPE_U32: return low & 0xFFFFFFFF;
+    default: return low;
+    }
+}
+
 /* What is said of any finding. */
 static void tell(const struct script *script, const terkinoha_diagnostic *found)
 {
@@ -313,7 +359,15 @@ static void tell(const struct script *script, const terkinoha_diagnostic *found)
     case TERKINOHA_FINDING_TRUNCATED:
         put_integer(found->second, found->first);
         fprintf(stderr, " does not fit %s: it is cut to %" PRIu64, terkinoha_type_text(found->type),
-                found->first & 65535);
+                cut_to(found->type, found->first));
+        break;
+    case TERKINOHA_FINDING_NOT_CALLABLE:
+    case TERKINOHA_FINDING_TOO_MANY_ARGS:
+    case TERKINOHA_FINDING_TOO_FEW_ARGS:
+    case TERKINOHA_FINDING_ARG_TYPE:
+    case TERKINOHA_FINDING_VOID_VALUE:
+    case TERKINOHA_FINDING_OVERFLOW:
+        tell_call(found);
         break;
     default:
         tell_name(script, found);
@@ -339,7 +393,7 @@ static void put_findings(const struct script *script, const terkinoha_diagnostic
     }
 }
 
-/* Checks with tables of `room` rows: a script never has more findings, nodes or statements than tokens. */
+/* Checks with tables of `room` rows: a script never has more findings, nodes or rows of statements than tokens. */
 static int show_check(const struct script *script, size_t room, int stats)
 {
     terkinoha_token *tokens = (terkinoha_token *)lend(room, sizeof *tokens);

@@ -24,7 +24,7 @@
  *   to return. Nothing is kept between calls: the same bytes and sizes give the same answer,
  *   whatever was called before, and calls may run on any threads at the same time. What calls
  *   answer and leave is proved of their code; the README says how. Measured: a call needs less than
- *   32 KiB of stack, terkinoha_check less than 128 KiB.
+ *   32 KiB of stack, and a check takes less than 256 KiB of stack, however its calls are nested.
  *
  * What a host owes
  *
@@ -40,7 +40,8 @@
  *   bytes these rooms are always enough, and no call is refused for room (numbers 4, 6 and 11):
  *   - lexemes: `size` rows;
  *   - tokens: `size` + 1 rows;
- *   - nodes and statements: as many rows as the source has tokens;
+ *   - nodes and statements: as many rows as the source has tokens. A statement takes a row, and so
+ *     does each part of its expression, but there are never more of these rows than nodes;
  *   - diagnostics: any number of rows; as many as the source has tokens keep them all;
  *   - canonical text: TERKINOHA_MOST_BYTES bytes; number 10 then means a longer text.
  *   Most scripts need far less. A host that minds memory takes two steps: it lexes with room for
@@ -66,9 +67,9 @@ extern "C" {
 
 /* ---- numbers --------------------------------------------------------------------------------- */
 
-/* What a call came to. Smaller numbers go first, but between 5 and 7 the earlier token decides.
- * Scan gives 0, 1, 2 and 4; lex 0 to 4; parse 0 to 7; check 0 to 9 and 11; canonicalise 0 to 4 and
- * 10.
+/* What a call came to. Smaller numbers go first, but between 5 and 7, and between 8 and 9, the
+ * earlier token decides. Scan gives 0, 1, 2 and 4; lex 0 to 4; parse 0 to 7; check 0 to 9 and 11;
+ * canonicalise 0 to 4 and 10.
  */
 enum terkinoha_number {
     /* exactly when: done; no place */
@@ -90,7 +91,8 @@ enum terkinoha_number {
     TERKINOHA_NODE_ROOM = 6,
     /* exactly when: a 33rd open list or a 65th step; place: that token */
     TERKINOHA_TOO_DEEP = 7,
-    /* exactly when: the tree holds a call; place: the first call's `(` */
+    /* exactly when: a call with a named argument whose callee was judged to be a function;
+     * place: its `(`. Errors that were found before do not matter */
     TERKINOHA_CALLS = 8,
     /* exactly when: a 513th distinct let name or 65th distinct import name, failed ones counted;
      * place: the earlier such name */
@@ -168,7 +170,7 @@ typedef struct terkinoha_checked {
     uint64_t nodes;
     uint64_t errors;
     uint64_t warnings;
-    uint64_t statements;  /* how many rows of the table are statements */
+    uint64_t statements;  /* how many rows of the table are statements and their parts */
     uint64_t comparisons; /* how many bound names were compared with a wanted one */
 } terkinoha_checked;
 
@@ -287,8 +289,11 @@ enum terkinoha_severity {
     TERKINOHA_SEVERITY_WARNING = 2
 };
 
-/* The types of values. 16 is an integer that has no size yet. */
+/* The types of values. 1 is what a call of a function gives that returns nothing; 16 is an integer
+ * that has no size yet.
+ */
 enum terkinoha_type {
+    TERKINOHA_TYPE_VOID = 1,
     TERKINOHA_TYPE_BOOL = 2,
     TERKINOHA_TYPE_U8 = 3,
     TERKINOHA_TYPE_U16 = 4,
@@ -297,6 +302,9 @@ enum terkinoha_type {
     TERKINOHA_TYPE_IP4 = 7,
     TERKINOHA_TYPE_SOCK4 = 8,
     TERKINOHA_TYPE_BYTES = 9,
+    TERKINOHA_TYPE_PKT = 10,
+    TERKINOHA_TYPE_PKT_GEN = 11,
+    TERKINOHA_TYPE_TIME_JUMP = 12,
     TERKINOHA_TYPE_FUNCTION = 14,
     TERKINOHA_TYPE_INTEGER = 16
 };
@@ -308,12 +316,21 @@ enum terkinoha_text_place {
     TERKINOHA_TEXT_TABLE = 2   /* in TERKINOHA_TABLE_TEXT */
 };
 
-/* The names and bytes of the constant table, whose entries are numbered from 1. */
-#define TERKINOHA_TABLE_TEXT "benchHTTPLOOPBIGONBANNERokpingdeepZERO"
+/* The names and bytes of the constant table, whose entries are numbered from 1. Its functions, which
+ * take just the arguments that are named here, in this order:
+ *
+ *     ping(to: Ip4) gives Pkt              pause(time: u32) gives TimeJump
+ *     burst(to: Sock4, body: bytes) gives PktGen
+ *     mark(on: bool) gives void            pick(port: u16) gives u32
+ *     host(number: u8) gives Ip4
+ */
+#define TERKINOHA_TABLE_TEXT "benchHTTPLOOPBIGONBANNERokpingdeepZEROpausetimebursttobodymarkonpickporthostnumber"
 
 /* The kinds of findings. Beside each is what `type`, `first`, `second` and `third` are; what is not
  * named is 0. "Shows" says what the text is: that of a name in the source, at the finding's place.
- * Where `type` is a function, the text is the function's name in the table's text.
+ * Where `type` is a function, the text is the function's name in the table's text. A call stands at
+ * its called name: a path's last name, a name that was bound, a member's name, else the first token of
+ * what is called. What is found of a value stands at its first token, but of a call at its called name.
  */
 enum terkinoha_finding {
     /* no `let` has bound the name. Shows the name */
@@ -336,6 +353,20 @@ enum terkinoha_finding {
     /* an operand has the wrong type. type: the one found. first: 1 for the left side, 2 for the
      * right. second: the type wanted. third: the operator, 1 for `/` */
     TERKINOHA_FINDING_OPERAND_TYPE = 10,
+    /* what is called is no function; at the called name. type: what is called */
+    TERKINOHA_FINDING_NOT_CALLABLE = 11,
+    /* a call has more arguments than its function takes; at the first that is too many. type: the
+     * function. first: how many there are. second: how many it takes */
+    TERKINOHA_FINDING_TOO_MANY_ARGS = 12,
+    /* a call has fewer arguments than its function takes; at the called name. type: the function.
+     * first: how many there are. second: how many it takes */
+    TERKINOHA_FINDING_TOO_FEW_ARGS = 13,
+    /* an argument has the wrong type; at its first token. type: the one found. first: the function's
+     * entry in the constant table. second: the parameter's number, from 0, whose name
+     * `terkinoha_param_name` gives. third: the type wanted */
+    TERKINOHA_FINDING_ARG_TYPE = 19,
+    /* a call that gives nothing is used as a value; at its called name */
+    TERKINOHA_FINDING_VOID_VALUE = 21,
     /* an integer that no type holds */
     TERKINOHA_FINDING_INTEGRAL_TOO_LARGE = 22,
     /* a warning: imported again. Shows the name */
@@ -344,7 +375,10 @@ enum terkinoha_finding {
     TERKINOHA_FINDING_DISCARDED_VALUE = 24,
     /* a warning: an integer was cut. type: the one it was cut to. first, second: the integer, low
      * word and high word */
-    TERKINOHA_FINDING_TRUNCATED = 25
+    TERKINOHA_FINDING_TRUNCATED = 25,
+    /* a warning: a value that is known only in the run may be cut, for its type is wider than the one
+     * wanted; at its first token. type: the one found. first: the type wanted */
+    TERKINOHA_FINDING_OVERFLOW = 26
 };
 
 /* A row of a diagnostic table, in the order in which the script is judged. The table's first rows,
@@ -380,20 +414,60 @@ typedef struct terkinoha_diagnostic {
     uint64_t statement; /* the number of its statement, from 1 */
 } terkinoha_diagnostic;
 
+/* What a row of a statement table is: 1 to 5 a statement, 6 to 9 a part of an expression. */
 enum terkinoha_statement_kind {
-    TERKINOHA_STATEMENT_DISCARD = 1 /* a value that is discarded */
+    TERKINOHA_STATEMENT_LET = 1,     /* a value is put into a new slot */
+    TERKINOHA_STATEMENT_EMIT = 2,    /* packets are sent */
+    TERKINOHA_STATEMENT_WAIT = 3,    /* time passes */
+    TERKINOHA_STATEMENT_EVAL = 4,    /* a call that gives nothing */
+    TERKINOHA_STATEMENT_DISCARD = 5, /* a value that is discarded */
+    TERKINOHA_PART_CALLEE = 6,       /* what a call calls */
+    TERKINOHA_PART_ARGUMENT = 7,     /* an argument of a call */
+    TERKINOHA_PART_LEFT = 8,         /* what stands left of a `/` */
+    TERKINOHA_PART_RIGHT = 9         /* what stands right of a `/` */
 };
 
-/* A row of a statement table: what a run would do, in order. `low` and `high` are: of an integer it
- * and 0; of a bool 1 or 0; of an address it, its first byte highest; of an address with a port both;
- * of bytes of the source the row of the string's token; of bytes of the table, and of a function,
- * start and end of the text.
+/* What an expression is. */
+enum terkinoha_form {
+    TERKINOHA_FORM_CONSTANT = 1, /* a value that is known before the run */
+    TERKINOHA_FORM_SLOT = 2,     /* what a `let` has put into a slot */
+    TERKINOHA_FORM_CALL = 3,
+    TERKINOHA_FORM_SLASH = 4     /* `/`, of which one operand at least is not known before the run */
+};
+
+/* A row of a statement table: what a run would do, in order. A `let` of a constant and a `let` of a
+ * name that has a slot hold no statement: they only bind a name. Any other `let` takes the next slot,
+ * from 0 on, and stands at its name.
+ *
+ * The row of a statement has its outermost expression. The parts of an expression follow its row: of
+ * a call what it calls and then its arguments, of a `/` its left and then its right operand, each with
+ * its own parts after it. So a statement ends where the next row of kind 1 to 5 begins, and one walk
+ * finds every part: a call has 1 part and as many more as it has arguments, a `/` has 2, and the other
+ * forms have none. Of `bench::pick(bench::pick(1));` the rows are
+ *
+ *     Discard  call of pick, 1 argument
+ *     callee   constant: function pick
+ *     argument call of pick, 1 argument
+ *     callee   constant: function pick
+ *     argument constant: u16 1
+ *
+ * `low` and `high` are, by the form:
+ * - of a constant that is an integer it and 0; of a bool 1 or 0; of an address it, its first byte
+ *   highest; of an address with a port both; of bytes of the source the row of the string's token; of
+ *   bytes of the table, and of a function, start and end of the text;
+ * - of a slot its number and 0;
+ * - of a call the entry of its function in the constant table, and how many arguments it has;
+ * - of a `/` both are 0.
  */
 typedef struct terkinoha_statement {
-    uint64_t line;
+    uint64_t line; /* of a statement; of a part that of its expression */
     uint64_t column;
     uint64_t kind; /* enum terkinoha_statement_kind */
-    uint64_t type; /* enum terkinoha_type */
+    uint64_t slot; /* of a `let` the slot that it takes; of an argument its parameter's number, from 0; else 0 */
+    uint64_t form; /* enum terkinoha_form */
+    uint64_t expression_line; /* of a call that of its called name, else of its first token */
+    uint64_t expression_column;
+    uint64_t type; /* of the expression: enum terkinoha_type */
     uint64_t text; /* where its text lies: enum terkinoha_text_place */
     uint64_t low;
     uint64_t high;
@@ -406,7 +480,7 @@ typedef struct terkinoha_statement {
 #define TERKINOHA_TOKEN_WORDS 7
 #define TERKINOHA_NODE_WORDS 5
 #define TERKINOHA_DIAGNOSTIC_WORDS 12
-#define TERKINOHA_STATEMENT_WORDS 7
+#define TERKINOHA_STATEMENT_WORDS 11
 
 /* A struct is just its words: a compiler that puts anything between them is refused here. */
 #define TERKINOHA_ASSERT_WORDS(type, words) \
@@ -494,8 +568,8 @@ terkinoha_canonicalise(const void *source, size_t source_size, terkinoha_token *
 }
 
 /* Checks a source: its tokens and nodes, what is wrong with it, and the statements that it comes to.
- * Errors and warnings are counted in full; the diagnostic table never causes a refusal. A script
- * with a call is refused (8): calls are the host's to check.
+ * Errors and warnings are counted in full; the diagnostic table never causes a refusal. Arguments are
+ * given by their places: a call that names one is refused (8) where what it calls is a function.
  */
 TERKINOHA_MUST_USE static inline terkinoha_checked
 terkinoha_check(const void *source, size_t source_size, terkinoha_token *tokens, size_t token_room,
@@ -570,7 +644,7 @@ static inline const char *terkinoha_verdict_text(terkinoha_verdict verdict)
                                                                  : "unexpected token";
     case TERKINOHA_NODE_ROOM: return "more nodes than the table has room for";
     case TERKINOHA_TOO_DEEP: return "more than 32 open argument lists, or 64 steps in one expression";
-    case TERKINOHA_CALLS: return "a call, which cannot be checked";
+    case TERKINOHA_CALLS: return "a named argument, which cannot be checked";
     case TERKINOHA_NAMES: return "more than 512 let names, or 64 import names";
     case TERKINOHA_TEXT_ROOM: return "canonical text longer than its room, or 65536 bytes";
     case TERKINOHA_STATEMENT_ROOM: return "more statements than the table has room for";
@@ -638,10 +712,16 @@ static inline const char *terkinoha_finding_text(uint64_t kind)
     case TERKINOHA_FINDING_ALREADY_BOUND: return "name is already bound";
     case TERKINOHA_FINDING_NO_MEMBERS: return "value has no members";
     case TERKINOHA_FINDING_OPERAND_TYPE: return "operand has the wrong type";
+    case TERKINOHA_FINDING_NOT_CALLABLE: return "value cannot be called";
+    case TERKINOHA_FINDING_TOO_MANY_ARGS: return "too many arguments";
+    case TERKINOHA_FINDING_TOO_FEW_ARGS: return "too few arguments";
+    case TERKINOHA_FINDING_ARG_TYPE: return "argument has the wrong type";
+    case TERKINOHA_FINDING_VOID_VALUE: return "call gives no value";
     case TERKINOHA_FINDING_INTEGRAL_TOO_LARGE: return "integer too large for any type";
     case TERKINOHA_FINDING_MULTIPLE_IMPORTS: return "module is imported again";
     case TERKINOHA_FINDING_DISCARDED_VALUE: return "value is discarded";
     case TERKINOHA_FINDING_TRUNCATED: return "integer is cut to fit";
+    case TERKINOHA_FINDING_OVERFLOW: return "value may be cut to fit";
     default: return "unknown finding";
     }
 }
@@ -659,7 +739,26 @@ static inline const char *terkinoha_entry_name(uint64_t entry)
     case 7: return "ping";
     case 8: return "deep";
     case 9: return "ZERO";
+    case 10: return "pause";
+    case 11: return "burst";
+    case 12: return "mark";
+    case 13: return "pick";
+    case 14: return "host";
     default: return "unknown entry";
+    }
+}
+
+/* Of a parameter of a function, by the function's entry and the parameter's number from 0: its name. */
+static inline const char *terkinoha_param_name(uint64_t entry, uint64_t param)
+{
+    switch (entry) {
+    case 7: return param == 0 ? "to" : "unknown parameter";
+    case 10: return param == 0 ? "time" : "unknown parameter";
+    case 11: return param == 0 ? "to" : param == 1 ? "body" : "unknown parameter";
+    case 12: return param == 0 ? "on" : "unknown parameter";
+    case 13: return param == 0 ? "port" : "unknown parameter";
+    case 14: return param == 0 ? "number" : "unknown parameter";
+    default: return "unknown parameter";
     }
 }
 
@@ -667,6 +766,7 @@ static inline const char *terkinoha_entry_name(uint64_t entry)
 static inline const char *terkinoha_type_text(uint64_t type)
 {
     switch (type) {
+    case TERKINOHA_TYPE_VOID: return "void";
     case TERKINOHA_TYPE_BOOL: return "bool";
     case TERKINOHA_TYPE_U8: return "u8";
     case TERKINOHA_TYPE_U16: return "u16";
@@ -675,6 +775,9 @@ static inline const char *terkinoha_type_text(uint64_t type)
     case TERKINOHA_TYPE_IP4: return "Ip4";
     case TERKINOHA_TYPE_SOCK4: return "Sock4";
     case TERKINOHA_TYPE_BYTES: return "bytes";
+    case TERKINOHA_TYPE_PKT: return "Pkt";
+    case TERKINOHA_TYPE_PKT_GEN: return "PktGen";
+    case TERKINOHA_TYPE_TIME_JUMP: return "TimeJump";
     case TERKINOHA_TYPE_FUNCTION: return "function";
     case TERKINOHA_TYPE_INTEGER: return "integer";
     default: return "unknown type";

@@ -86,7 +86,10 @@ pub const LEXEME_WORDS: usize = 6;
 pub const TOKEN_WORDS: usize = 7;
 pub const NODE_WORDS: usize = 5;
 pub const DIAGNOSTIC_WORDS: usize = 12;
-pub const STATEMENT_WORDS: usize = 7;
+pub const STATEMENT_WORDS: usize = 11;
+
+/// The last kind of a row that is a statement's own; those after it are of its parts
+pub const LAST_STATEMENT: u64 = 5;
 
 /// The largest source, which no script has more tokens or nodes than, `Eof` aside
 pub const MOST: usize = 65_536;

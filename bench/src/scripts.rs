@@ -5,10 +5,10 @@ use std::fmt::Write;
 /// What stands at the start of scripts with calls
 const LIBRARIES: &str = "import ipv4;\nimport dns;\nimport tls;\n\n";
 
-/// A script with a call is not checked
+/// These call functions that the constant table does not have, so they are not checked
 const WITH_CALLS: [&str; 6] = ["utf8", "scan by line", "scan whole", "lex", "parse", "canonicalise"];
 
-pub const KINDS: [Kind; 8] = [
+pub const KINDS: [Kind; 9] = [
     Kind { name: "realistic", sizes: &[1, 16, 64], calls: &WITH_CALLS, start: LIBRARIES, block: realistic },
     Kind { name: "comments", sizes: &[16, 64], calls: &WITH_CALLS, start: LIBRARIES, block: comments },
     Kind { name: "strings", sizes: &[16, 64], calls: &WITH_CALLS, start: LIBRARIES, block: strings },
@@ -16,6 +16,7 @@ pub const KINDS: [Kind; 8] = [
     Kind { name: "long names", sizes: &[16, 64], calls: &WITH_CALLS, start: LIBRARIES, block: long_names },
     Kind { name: "accents", sizes: &[16, 64], calls: &WITH_CALLS, start: LIBRARIES, block: accents },
     Kind { name: "no calls", sizes: &[1, 16, 64], calls: &["check"], start: "import bench;\n\n", block: no_calls },
+    Kind { name: "calls", sizes: &[1, 16, 64], calls: &["check"], start: "import bench;\n\n", block: calls },
     Kind { name: "500 names", sizes: &[64], calls: &["check"], start: "import bench;\n\n", block: many_names },
 ];
 
@@ -194,7 +195,7 @@ fn accents(rng: &mut Rng, out: &mut String) {
     put!(out, "let a{} = {}/{}; // {}\n", rng.below(900), quad(rng), rng.below(65536), rng.pick(&REMARKS));
 }
 
-// Scripts to check: they have no calls, and no errors
+// Scripts to check: they have no errors
 
 /// How many groups of three `let`s a script has so far
 fn groups(out: &str) -> u64 {
@@ -242,6 +243,45 @@ fn no_calls(rng: &mut Rng, out: &mut String) {
         1 => put!(out, "{name}_host/{};\n\n", 1024 + rng.below(60000)),
         _ => put!(out, "{}:{};\n\n", quad(rng), 1024 + rng.below(60000)),
     }
+}
+
+/// An address, a port and both as one, some of them known only in the run
+fn called_group(rng: &mut Rng, out: &mut String) {
+    let name = named(groups(out));
+    match rng.below(3) {
+        0 => put!(out, "let {name}_host = bench::host({});\n", rng.below(256)),
+        _ => put!(out, "let {name}_host = {};\n", quad(rng)),
+    }
+    match rng.below(3) {
+        0 => put!(out, "let {name}_port = bench::HTTP;\n"),
+        _ => put!(out, "let {name}_port = {};\n", rng.below(65536)),
+    }
+    put!(out, "let {name} = {name}_host/{name}_port;\n");
+}
+
+/// What scripts mostly are: packets that are sent, with pauses between them
+fn calls(rng: &mut Rng, out: &mut String) {
+    let known = groups(out);
+    if known == 0 || rng.below(5) < 1 {
+        put!(out, "# {}\n", rng.pick(&REMARKS));
+        called_group(rng, out);
+        out.push('\n');
+        return;
+    }
+    let near = if rng.below(4) == 0 { known } else { known.min(8) };
+    let name = named(known - 1 - rng.below(near));
+    match rng.below(5) {
+        0 => put!(out, "bench::ping({name}_host); // {}\n", rng.pick(&REMARKS)),
+        1 => put!(out, "bench::ping(bench::host({}));\n", rng.below(256)),
+        2 => put!(out, "bench::pause(bench::pick({name}_port));\n"),
+        3 => put!(out, "bench::mark({});\n", if rng.below(2) == 0 { "true" } else { "bench::ON" }),
+        _ => put!(out, "bench::burst({}/{name}_port, bench::BANNER);\n", quad(rng)),
+    }
+    put!(out, "bench::burst({name},\n    \"GET /{name}.html HTTP/1.1|0d 0a|\"\n");
+    for _ in 0..1 + rng.below(3) {
+        put!(out, "    \"{}|0d 0a|\"\n", rng.pick(&HEADERS));
+    }
+    put!(out, "    \"|0d 0a|\");\nbench::pause({});\n\n", rng.below(100_000));
 }
 
 /// Nearly as many names as may be bound, then uses of any of them

@@ -5,7 +5,7 @@ use std::collections::VecDeque;
 use resynth::ast::{Expr, ExprKind, Stmt};
 use resynth::check::{Diagnostic, DiagnosticKind};
 use resynth::lex::{LexemeKind, Lexer, Scanner, Tok, Token};
-use resynth::stdlib::STDLIB;
+use resynth::stdlib::WIDE;
 use resynth::{Held, hold};
 
 /// How many lexemes a line has
@@ -29,7 +29,7 @@ pub fn parse(source: &str) -> Vec<Stmt> {
 /// What the checker holds after its loop, and what it found, in room that was known beforehand as ours is
 pub fn check(source: &str, room: usize) -> (Held, Vec<Diagnostic>) {
     let mut found = Vec::with_capacity(room);
-    let held = hold(&STDLIB, parse(source), |_, diag| found.push(diag));
+    let held = hold(&WIDE, parse(source), |_, diag| found.push(diag));
     (held, found)
 }
 

@@ -273,7 +273,48 @@ static int shows_type(const terkinoha_diagnostic *d)
     if (d->type == TERKINOHA_TYPE_FUNCTION)
         return d->text == TERKINOHA_TEXT_TABLE && is_part_of_table(d->start, d->end);
     return d->text == TERKINOHA_TEXT_NONE && d->start == 0 && d->end == 0 &&
-           ((TERKINOHA_TYPE_BOOL <= d->type && d->type <= TERKINOHA_TYPE_BYTES) || d->type == TERKINOHA_TYPE_INTEGER);
+           ((TERKINOHA_TYPE_BOOL <= d->type && d->type <= TERKINOHA_TYPE_TIME_JUMP) || d->type == TERKINOHA_TYPE_INTEGER);
+}
+
+/* The functions of the constant table: the entry, what it gives, and how many parameters of which types it has. */
+struct function {
+    uint64_t entry, gives, params, types[2];
+};
+
+static const struct function *function_of(uint64_t entry)
+{
+    static const struct function functions[] = {
+        {7, TERKINOHA_TYPE_PKT, 1, {TERKINOHA_TYPE_IP4, 0}},
+        {10, TERKINOHA_TYPE_TIME_JUMP, 1, {TERKINOHA_TYPE_U32, 0}},
+        {11, TERKINOHA_TYPE_PKT_GEN, 2, {TERKINOHA_TYPE_SOCK4, TERKINOHA_TYPE_BYTES}},
+        {12, TERKINOHA_TYPE_VOID, 1, {TERKINOHA_TYPE_BOOL, 0}},
+        {13, TERKINOHA_TYPE_U32, 1, {TERKINOHA_TYPE_U16, 0}},
+        {14, TERKINOHA_TYPE_IP4, 1, {TERKINOHA_TYPE_U8, 0}},
+    };
+    for (size_t i = 0; i < sizeof functions / sizeof *functions; i++)
+        if (functions[i].entry == entry)
+            return &functions[i];
+    return NULL;
+}
+
+/* The function whose name a finding shows, and that its counts are those of a call that has too many arguments or too few. */
+static int counts_arguments(const terkinoha_diagnostic *d, int many)
+{
+    for (uint64_t entry = 7; entry <= 14; entry++) {
+        const struct function *f = function_of(entry);
+        const char *name = terkinoha_entry_name(entry);
+        if (f != NULL && d->end - d->start == strlen(name) &&
+            memcmp(TERKINOHA_TABLE_TEXT + d->start, name, strlen(name)) == 0)
+            return d->second == f->params && (many ? d->first > d->second : d->first < d->second) && d->third == 0;
+    }
+    return 0;
+}
+
+/* An argument of another type than its parameter has. */
+static int is_wrong_argument(const terkinoha_diagnostic *d)
+{
+    const struct function *f = function_of(d->first);
+    return f != NULL && d->second < f->params && d->third == f->types[d->second] && d->type != d->third;
 }
 
 static int shows_nothing(const terkinoha_diagnostic *d)
@@ -283,7 +324,13 @@ static int shows_nothing(const terkinoha_diagnostic *d)
 
 static int is_integral(uint64_t type)
 {
-    return type <= TERKINOHA_TYPE_U64 || type == TERKINOHA_TYPE_INTEGER;
+    return (TERKINOHA_TYPE_BOOL <= type && type <= TERKINOHA_TYPE_U64) || type == TERKINOHA_TYPE_INTEGER;
+}
+
+/* The largest number of an integer type. */
+static uint64_t most_of(uint64_t type)
+{
+    return type == TERKINOHA_TYPE_U8 ? UINT8_MAX : type == TERKINOHA_TYPE_U16 ? UINT16_MAX : UINT32_MAX;
 }
 
 static int fields(const terkinoha_diagnostic *d, uint64_t first, uint64_t second, uint64_t third)
@@ -309,11 +356,22 @@ static int is_finding(const terkinoha_diagnostic *d, const terkinoha_token *toke
     case TERKINOHA_FINDING_OPERAND_TYPE:
         return shows_type(d) && (d->first == 1 ? fields(d, 1, TERKINOHA_TYPE_IP4, 1) && d->type != TERKINOHA_TYPE_IP4
                                                : fields(d, 2, TERKINOHA_TYPE_U16, 1) && !is_integral(d->type));
+    case TERKINOHA_FINDING_NOT_CALLABLE:
+        return shows_type(d) && d->type != TERKINOHA_TYPE_FUNCTION && fields(d, 0, 0, 0);
+    case TERKINOHA_FINDING_TOO_MANY_ARGS:
+    case TERKINOHA_FINDING_TOO_FEW_ARGS:
+        return shows_type(d) && d->type == TERKINOHA_TYPE_FUNCTION &&
+               counts_arguments(d, d->kind == TERKINOHA_FINDING_TOO_MANY_ARGS);
+    case TERKINOHA_FINDING_ARG_TYPE: return shows_type(d) && is_wrong_argument(d);
+    case TERKINOHA_FINDING_VOID_VALUE:
     case TERKINOHA_FINDING_INTEGRAL_TOO_LARGE: return shows_nothing(d) && fields(d, 0, 0, 0);
     case TERKINOHA_FINDING_DISCARDED_VALUE:
         return shows_type(d) && d->type != TERKINOHA_TYPE_INTEGER && fields(d, 0, 0, 0);
     case TERKINOHA_FINDING_TRUNCATED:
-        return shows_type(d) && d->type == TERKINOHA_TYPE_U16 && (d->first > 65535 || d->second != 0) && d->third == 0;
+        return shows_type(d) && TERKINOHA_TYPE_U8 <= d->type && d->type <= TERKINOHA_TYPE_U32 &&
+               (d->first > most_of(d->type) || d->second != 0) && d->third == 0;
+    case TERKINOHA_FINDING_OVERFLOW:
+        return shows_type(d) && d->type == TERKINOHA_TYPE_U32 && d->first < d->type && fields(d, d->first, 0, 0);
     default: return 0;
     }
 }
@@ -401,22 +459,80 @@ static int is_value(struct lent lent, uint64_t tokens, const terkinoha_statement
     }
 }
 
-/* Each discards a value. Where all findings are kept, there is one for each statement, with its place and type. */
+/* How many parts follow the row of an expression. */
+static uint64_t parts_of(const terkinoha_statement *s)
+{
+    return s->form == TERKINOHA_FORM_CALL ? 1 + s->high : s->form == TERKINOHA_FORM_SLASH ? 2 : 0;
+}
+
+/* What the header says of a form, where so many slots were made before. */
+static int is_expression(struct lent lent, uint64_t tokens, const terkinoha_statement *s, uint64_t slots)
+{
+    const struct function *f = s->form == TERKINOHA_FORM_CALL ? function_of(s->low) : NULL;
+    switch (s->form) {
+    case TERKINOHA_FORM_CONSTANT: return is_value(lent, tokens, s);
+    case TERKINOHA_FORM_SLOT: return s->text == 0 && s->low < slots && s->high == 0;
+    case TERKINOHA_FORM_CALL: return s->text == 0 && f != NULL && s->type == f->gives && s->high == f->params;
+    case TERKINOHA_FORM_SLASH: return s->text == 0 && s->type == TERKINOHA_TYPE_SOCK4 && s->low == 0 && s->high == 0;
+    default: return 0;
+    }
+}
+
+/* The kind of a statement by the type of its value. */
+static int is_deed(const terkinoha_statement *s)
+{
+    switch (s->type) {
+    case TERKINOHA_TYPE_PKT:
+    case TERKINOHA_TYPE_PKT_GEN: return s->kind == TERKINOHA_STATEMENT_EMIT;
+    case TERKINOHA_TYPE_TIME_JUMP: return s->kind == TERKINOHA_STATEMENT_WAIT;
+    case TERKINOHA_TYPE_VOID: return s->kind == TERKINOHA_STATEMENT_EVAL;
+    default: return s->kind == TERKINOHA_STATEMENT_DISCARD;
+    }
+}
+
+/* A part: it has its expression's place in its first words, and stands after what it is a part of. */
+static int is_part(const terkinoha_statement *s)
+{
+    if (s->line != s->expression_line || s->column != s->expression_column)
+        return 0;
+    switch (s->kind) {
+    case TERKINOHA_PART_CALLEE: return s[-1].form == TERKINOHA_FORM_CALL && s->type == TERKINOHA_TYPE_FUNCTION && s->slot == 0;
+    case TERKINOHA_PART_ARGUMENT: return s->slot < 2 && s->type != TERKINOHA_TYPE_VOID;
+    case TERKINOHA_PART_LEFT: return s[-1].form == TERKINOHA_FORM_SLASH && s->type == TERKINOHA_TYPE_IP4 && s->slot == 0;
+    case TERKINOHA_PART_RIGHT: return s->slot == 0 && is_integral(s->type);
+    default: return 0;
+    }
+}
+
+/* Slots are numbered from 0, each statement has all of its parts, and each place is a token's. Where all findings are kept, there is
+ * one for each value that is discarded, with its place and type.
+ */
 static void check_statements(struct lent lent, struct outcome outcome)
 {
     const terkinoha_statement *rows = (const terkinoha_statement *)(const void *)lent.filled[STATEMENTS].at;
     const terkinoha_diagnostic *found = (const terkinoha_diagnostic *)(const void *)lent.filled[FINDINGS].at;
-    uint64_t at = 0, all = kept(CHECK_SOURCE, lent, outcome, FINDINGS);
+    uint64_t at = 0, all = kept(CHECK_SOURCE, lent, outcome, FINDINGS), slots = 0, waiting = 0;
     for (uint64_t i = 0; i < outcome.counts[STATEMENTS]; i++) {
-        CHECK(rows[i].kind == TERKINOHA_STATEMENT_DISCARD && is_value(lent, outcome.counts[ROWS], &rows[i]));
+        const terkinoha_statement *s = &rows[i];
+        int part = s->kind > TERKINOHA_STATEMENT_DISCARD;
+        CHECK(token_at(lent, outcome.counts[ROWS], s->line, s->column) != NULL);
+        CHECK(token_at(lent, outcome.counts[ROWS], s->expression_line, s->expression_column) != NULL);
+        CHECK(is_expression(lent, outcome.counts[ROWS], s, slots));
+        CHECK(part ? waiting > 0 && is_part(s) : waiting == 0);
+        waiting += parts_of(s) - (uint64_t)part;
+        if (s->kind == TERKINOHA_STATEMENT_LET)
+            CHECK(s->slot == slots++ && parts_of(s) > 0 && s->type != TERKINOHA_TYPE_VOID);
+        else
+            CHECK(part || (is_deed(s) && s->slot == 0));
+        if (s->kind != TERKINOHA_STATEMENT_DISCARD)
+            continue;
         while (at < all && found[at].kind != TERKINOHA_FINDING_DISCARDED_VALUE)
             at++;
-        CHECK(at < all ? found[at].line == rows[i].line && found[at].column == rows[i].column &&
-                             found[at].type == rows[i].type
+        CHECK(at < all ? found[at].line == s->line && found[at].column == s->column && found[at].type == s->type
                        : all < outcome.counts[FINDINGS]);
         at++;
     }
-    CHECK(outcome.counts[STATEMENTS] <= outcome.counts[ROWS]);
+    CHECK(waiting == 0 && outcome.counts[STATEMENTS] <= outcome.counts[SECOND]); /* no more rows than nodes */
 }
 
 static void check_found(int entry, struct lent lent, struct outcome outcome)
@@ -709,7 +825,7 @@ static size_t script(size_t size)
     return at;
 }
 
-/* A script that parses: statements of which checking finds something to say; a call in some. */
+/* A script that parses: statements of which checking finds something to say; calls in many. */
 static size_t statements(size_t size)
 {
     static const char *const starts[] = {"let a = ", "let b = ", "let c = ", "let dd = ", "let e=", "", "", " ", "\n"};
@@ -717,10 +833,12 @@ static size_t statements(size_t size)
         "a", "b", "c", "dd", "e", "f", "1", "0x100", "65536", "18446744073709551616", "true", "\"x\"", "\"x\"\n\"y\"",
         "1.2.3.4", "1.2.3.4:80", "bench", "nope::x", "bench::HTTP", "bench::LOOP", "bench::BIG", "bench::ON",
         "bench::BANNER", "bench::ping", "bench::deep", "bench::deep::ZERO", "bench::deep::ONE", "bench::HTTP::x",
-        "bench::none::x", "1.2.3.4/80", "bench::LOOP/bench::BIG"};
+        "bench::none::x", "1.2.3.4/80", "bench::LOOP/bench::BIG", "bench::pick(a)", "bench::host(bench::pick(7))",
+        "bench::ping(bench::host(300))", "bench::burst(b, \"x\")", "bench::pause(c)", "bench::mark(dd)", "bench::host(1)/e",
+        "bench::burst(bench::host(1)/a, bench::ping(b))", "bench::ping(a, b)", "bench::burst()", "bench::pick(a: 1)"};
     static const char *const steps[] = {".m", "/80", "/70000", "/a", "/b/c", "/true", "/bench::ping", "/\"x\""};
     static const char *const imports[] = {"import bench;\n", "import bench;", "import nope;\n", "import a;\n"};
-    int calls = random_below(8) == 0;
+    int calls = random_below(2) == 0;
     size_t at = random_below(4) == 0 ? 0 : put(0, "import bench;\n");
     while (at + 60 < size) {
         if (random_below(6) == 0) {
@@ -737,12 +855,14 @@ static size_t statements(size_t size)
     return at;
 }
 
-/* Two that are good: one parses, one checks with no error. */
+/* Three that are good: one parses, two check with no error, of which one has calls. */
 static const char *const good_scripts[] = {
     "import bench;\nlet a = 1.2.3.4/80; # web\nf(a, b: \"x\" \"y\",).m(g(1, 0x1f));\n"
     "let p = bench::deep::ZERO;\n1.2.3.4:80;\n\"\xc3\xa9\"\n\"z\";\n",
     "import bench;\nlet a = 1.2.3.4;\nlet p = 70000; # cut\na/p; a/bench::HTTP;\nbench::ping;\n\"x\" \"y\";\n"
-    "let q = bench::deep::ZERO;\n1.2.3.4:80;\nq;\ntrue;\nbench::BANNER;\n65536;\n"};
+    "let q = bench::deep::ZERO;\n1.2.3.4:80;\nq;\ntrue;\nbench::BANNER;\n65536;\n",
+    "import bench;\nlet h = bench::host(300);\nlet k = h/bench::pick(70000);\nbench::burst(k, bench::ping(h));\n"
+    "bench::pause(bench::pick(1)); bench::mark(h); let g = k; g;\nbench::burst(h/80, \"x\" \"y\");\n"};
 
 /* One of them with a byte changed, left out or put in. */
 static size_t damaged(void)

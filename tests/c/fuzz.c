@@ -105,6 +105,23 @@ static void numbered(uint64_t tokens, size_t rows)
     }
 }
 
+/* Each statement has all of its parts, and slots are made in their order before they are read. */
+static void parted(uint64_t count)
+{
+    const terkinoha_statement *rows = (const terkinoha_statement *)(areas[STATEMENTS] + BESIDE);
+    uint64_t waiting = 0, slots = 0;
+    for (uint64_t i = 0; i < count; i++) {
+        const terkinoha_statement *s = &rows[i];
+        uint64_t part = s->kind > TERKINOHA_STATEMENT_DISCARD;
+        must((waiting > 0) == (part == 1), "a part that is of no expression, or one that is missing");
+        waiting += (s->form == TERKINOHA_FORM_CALL ? 1 + s->high : s->form == TERKINOHA_FORM_SLASH ? 2 : 0) - part;
+        must(s->form != TERKINOHA_FORM_SLOT || s->low < slots, "a slot that is read before it is made");
+        if (s->kind == TERKINOHA_STATEMENT_LET)
+            must(s->slot == slots++, "a slot out of its order");
+    }
+    must(waiting == 0, "a statement that lacks a part");
+}
+
 static terkinoha_checked check(const uint8_t *source, size_t size, size_t t, size_t n, size_t d, size_t k)
 {
     terkinoha_checked checked =
@@ -117,7 +134,9 @@ static terkinoha_checked check(const uint8_t *source, size_t size, size_t t, siz
     LEFT(STATEMENTS, terkinoha_statement, k, checked.statements, checked.verdict.number);
     must(checked.errors == 0 || checked.statements == 0, "statements beside an error");
     must(checked.verdict.number == TERKINOHA_DONE || checked.comparisons == 0, "comparisons of a refusal");
+    must(checked.statements <= checked.nodes, "more rows of statements than nodes");
     numbered(checked.tokens, found < d ? found : d);
+    parted(checked.statements);
     return checked;
 }
 

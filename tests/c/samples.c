@@ -261,7 +261,7 @@ struct checking {
     const char *source;
     uint64_t errors, warnings;
     uint64_t rows[2][5]; /* of each finding its line, column, kind, type and statement */
-    uint64_t value[3];   /* of the only statement its type and value */
+    uint64_t value[3];   /* of the only statement, which is a constant, its type and value */
 };
 
 #define NONE {0, 0, 0, 0, 0}
@@ -328,7 +328,8 @@ static void try_checkings(void)
             CHECK(found[j].line == row[0] && found[j].column == row[1]);
             CHECK(found[j].kind == row[2] && found[j].type == row[3] && found[j].statement == row[4]);
         }
-        CHECK(statements[0].kind == held && statements[0].type == c->value[0]);
+        CHECK(statements[0].kind == held * TERKINOHA_STATEMENT_DISCARD && statements[0].type == c->value[0]);
+        CHECK(statements[0].form == held * TERKINOHA_FORM_CONSTANT);
         CHECK(statements[0].low == c->value[1] && statements[0].high == c->value[2]);
     }
 }
@@ -408,6 +409,8 @@ static void try_comparisons(void)
         {"let a=1; let b=2; x; x/a; 1.2.3.4/b;", 0 + 1 + 2 + 2 + 2},
         /* a failed name is bound, and found; imports take no search */
         {"import bench; let a=x; a; bench::HTTP; import q;", 0 + 0 + 1},
+        /* callees and arguments, left to right, and none after one that errs */
+        {"import bench; let a=1; let f=bench::pick; f(f(a)); f(x, a); a(f);", 0 + 1 + (2 + 2 + 1) + (2 + 2) + 1},
     };
     static const struct rooms small = {MOST, MOST, 0, MOST};
     for (size_t i = 0; i < sizeof cases / sizeof *cases; i++) {
@@ -439,23 +442,88 @@ static void try_statement_rows(void)
 {
     static const char source[] = "import bench;\nbench::HTTP;\nbench::LOOP;\nbench::BIG;\nbench::ON;\nbench::BANNER;\n"
                                  "bench::ping;\nbench::deep::ZERO;\n\"a\"\n\"b\";\n1.2.3.4:80;\n5000000000;\n";
+#define DISCARD(line, type, text, low, high) \
+    {line, 1, TERKINOHA_STATEMENT_DISCARD, 0, TERKINOHA_FORM_CONSTANT, line, 1, TERKINOHA_TYPE_##type, text, low, high}
     static const uint64_t rows[][TERKINOHA_STATEMENT_WORDS] = {
-        {2, 1, 1, TERKINOHA_TYPE_U16, 0, 80, 0},
-        {3, 1, 1, TERKINOHA_TYPE_IP4, 0, 0x7F000001, 0},
-        {4, 1, 1, TERKINOHA_TYPE_U32, 0, 70000, 0},
-        {5, 1, 1, TERKINOHA_TYPE_BOOL, 0, 1, 0},
-        {6, 1, 1, TERKINOHA_TYPE_BYTES, 2, 24, 26},
-        {7, 1, 1, TERKINOHA_TYPE_FUNCTION, 2, 26, 30},
-        {8, 1, 1, TERKINOHA_TYPE_U8, 0, 0, 0},
-        {9, 1, 1, TERKINOHA_TYPE_BYTES, 1, 33, 0},
-        {11, 1, 1, TERKINOHA_TYPE_SOCK4, 0, 0x01020304, 80},
-        {12, 1, 1, TERKINOHA_TYPE_U64, 0, 5000000000, 0},
-        {0, 0, 0, 0, 0, 0, 0},
+        DISCARD(2, U16, 0, 80, 0),
+        DISCARD(3, IP4, 0, 0x7F000001, 0),
+        DISCARD(4, U32, 0, 70000, 0),
+        DISCARD(5, BOOL, 0, 1, 0),
+        DISCARD(6, BYTES, 2, 24, 26),
+        DISCARD(7, FUNCTION, 2, 26, 30),
+        DISCARD(8, U8, 0, 0, 0),
+        DISCARD(9, BYTES, 1, 33, 0),
+        DISCARD(11, SOCK4, 0, 0x01020304, 80),
+        DISCARD(12, U64, 0, 5000000000, 0),
+        {0, 0, 0, 0, 0, 0, 0, 0, 0, 0, 0},
     };
     CHECK(done(check(source, enough), 0, 10, 10));
     CHECK(memcmp(statements, rows, sizeof rows) == 0);
     CHECK(tokens[33].kind == TERKINOHA_STRING_LITERAL && tokens[33].low == 2);
     CHECK(memcmp(TERKINOHA_TABLE_TEXT + 24, "ok", 2) == 0 && memcmp(TERKINOHA_TABLE_TEXT + 26, "ping", 4) == 0);
+}
+
+/* ---- calls ---- */
+
+/* What is found of calls, each after an import: the rows of one statement. */
+static void try_call_findings(void)
+{
+    static const struct {
+        const char *call;
+        uint64_t row[TERKINOHA_DIAGNOSTIC_WORDS];
+    } cases[] = {
+        {"bench::ping(bench::ping);", {2, 13, 1, TERKINOHA_FINDING_ARG_TYPE, 2, 26, 30, TERKINOHA_TYPE_FUNCTION, 7, 0, TERKINOHA_TYPE_IP4, 2}},
+        {"bench::burst(1.2.3.4:5, f);", {2, 25, 1, TERKINOHA_FINDING_UNKNOWN_NAME, 1, 38, 39, 0, 0, 0, 0, 2}},
+        {"bench::burst(1.2.3.4:5, bench::burst);", {2, 25, 1, TERKINOHA_FINDING_ARG_TYPE, 2, 47, 52, TERKINOHA_TYPE_FUNCTION, 11, 1, TERKINOHA_TYPE_BYTES, 2}},
+        {"bench::ping(1.2.3.4, 5);", {2, 22, 1, TERKINOHA_FINDING_TOO_MANY_ARGS, 2, 26, 30, TERKINOHA_TYPE_FUNCTION, 2, 1, 0, 2}},
+        {"bench::burst(1.2.3.4:80);", {2, 8, 1, TERKINOHA_FINDING_TOO_FEW_ARGS, 2, 47, 52, TERKINOHA_TYPE_FUNCTION, 1, 2, 0, 2}},
+        {"bench::ping(1.2.3.4)(2);", {2, 1, 1, TERKINOHA_FINDING_NOT_CALLABLE, 0, 0, 0, TERKINOHA_TYPE_PKT, 0, 0, 0, 2}},
+        {"let v = bench::mark(1);", {2, 16, 1, TERKINOHA_FINDING_VOID_VALUE, 0, 0, 0, 0, 0, 0, 0, 2}},
+        {"bench::pick(bench::pick(1));", {2, 13, 2, TERKINOHA_FINDING_OVERFLOW, 0, 0, 0, TERKINOHA_TYPE_U32, TERKINOHA_TYPE_U16, 0, 0, 2}},
+        {"bench::host(300);", {2, 13, 2, TERKINOHA_FINDING_TRUNCATED, 0, 0, 0, TERKINOHA_TYPE_U8, 300, 0, 0, 2}},
+        {"bench::pause(bench::ping(1.2.3.4));", {2, 14, 1, TERKINOHA_FINDING_ARG_TYPE, 0, 0, 0, TERKINOHA_TYPE_PKT, 10, 0, TERKINOHA_TYPE_U32, 2}},
+    };
+    char source[256];
+    for (size_t i = 0; i < sizeof cases / sizeof *cases; i++) {
+        snprintf(source, sizeof source, "import bench;\n%s", cases[i].call);
+        CHECK(check(source, enough).verdict.number == TERKINOHA_DONE);
+        CHECK(memcmp(found, cases[i].row, sizeof cases[i].row) == 0);
+    }
+}
+
+/* Statements of each kind, with the rows of their parts. */
+static void try_parts(void)
+{
+    static const char source[] = "import bench;\nlet h = bench::host(7);\nlet k = h;\nbench::burst(k/bench::pick(8), \"a\");\n"
+                                 "bench::pause(1);\nbench::mark(0);\nk;\n";
+    static const uint64_t rows[][TERKINOHA_STATEMENT_WORDS] = {
+        {2, 5, TERKINOHA_STATEMENT_LET, 0, TERKINOHA_FORM_CALL, 2, 16, TERKINOHA_TYPE_IP4, 0, 14, 1},
+        {2, 9, TERKINOHA_PART_CALLEE, 0, TERKINOHA_FORM_CONSTANT, 2, 9, TERKINOHA_TYPE_FUNCTION, 2, 72, 76},
+        {2, 21, TERKINOHA_PART_ARGUMENT, 0, TERKINOHA_FORM_CONSTANT, 2, 21, TERKINOHA_TYPE_U8, 0, 7, 0},
+        {4, 1, TERKINOHA_STATEMENT_EMIT, 0, TERKINOHA_FORM_CALL, 4, 8, TERKINOHA_TYPE_PKT_GEN, 0, 11, 2},
+        {4, 1, TERKINOHA_PART_CALLEE, 0, TERKINOHA_FORM_CONSTANT, 4, 1, TERKINOHA_TYPE_FUNCTION, 2, 47, 52},
+        {4, 14, TERKINOHA_PART_ARGUMENT, 0, TERKINOHA_FORM_SLASH, 4, 14, TERKINOHA_TYPE_SOCK4, 0, 0, 0},
+        {4, 14, TERKINOHA_PART_LEFT, 0, TERKINOHA_FORM_SLOT, 4, 14, TERKINOHA_TYPE_IP4, 0, 0, 0},
+        {4, 23, TERKINOHA_PART_RIGHT, 0, TERKINOHA_FORM_CALL, 4, 23, TERKINOHA_TYPE_U32, 0, 13, 1},
+        {4, 16, TERKINOHA_PART_CALLEE, 0, TERKINOHA_FORM_CONSTANT, 4, 16, TERKINOHA_TYPE_FUNCTION, 2, 64, 68},
+        {4, 28, TERKINOHA_PART_ARGUMENT, 0, TERKINOHA_FORM_CONSTANT, 4, 28, TERKINOHA_TYPE_U16, 0, 8, 0},
+        {4, 32, TERKINOHA_PART_ARGUMENT, 1, TERKINOHA_FORM_CONSTANT, 4, 32, TERKINOHA_TYPE_BYTES, 1, 31, 0},
+        {5, 1, TERKINOHA_STATEMENT_WAIT, 0, TERKINOHA_FORM_CALL, 5, 8, TERKINOHA_TYPE_TIME_JUMP, 0, 10, 1},
+        {5, 1, TERKINOHA_PART_CALLEE, 0, TERKINOHA_FORM_CONSTANT, 5, 1, TERKINOHA_TYPE_FUNCTION, 2, 38, 43},
+        {5, 14, TERKINOHA_PART_ARGUMENT, 0, TERKINOHA_FORM_CONSTANT, 5, 14, TERKINOHA_TYPE_U32, 0, 1, 0},
+        {6, 1, TERKINOHA_STATEMENT_EVAL, 0, TERKINOHA_FORM_CALL, 6, 8, TERKINOHA_TYPE_VOID, 0, 12, 1},
+        {6, 1, TERKINOHA_PART_CALLEE, 0, TERKINOHA_FORM_CONSTANT, 6, 1, TERKINOHA_TYPE_FUNCTION, 2, 58, 62},
+        {6, 13, TERKINOHA_PART_ARGUMENT, 0, TERKINOHA_FORM_CONSTANT, 6, 13, TERKINOHA_TYPE_BOOL, 0, 0, 0},
+        {7, 1, TERKINOHA_STATEMENT_DISCARD, 0, TERKINOHA_FORM_SLOT, 7, 1, TERKINOHA_TYPE_IP4, 0, 0, 0},
+        {0, 0, 0, 0, 0, 0, 0, 0, 0, 0, 0},
+    };
+    struct rooms just = {MOST, MOST, 0, sizeof rows / sizeof *rows - 1}, less = just;
+    less.statements--;
+    less.found = MOST;
+    CHECK(done(check(source, just), 0, 2, just.statements)); /* `pick` is wider than a port; `k` is discarded */
+    CHECK(memcmp(statements, rows, sizeof rows - sizeof *rows) == 0);
+    CHECK(done(check(source, enough), 0, 2, just.statements) && memcmp(statements, rows, sizeof rows) == 0);
+    CHECK(refused(check(source, less), TERKINOHA_STATEMENT_ROOM, 0, 0));
 }
 
 /* Smaller numbers go first, and findings are none. */
@@ -466,12 +534,13 @@ static void try_refusals(void)
         struct rooms rooms;
         uint64_t number, line, column;
     } refusals[] = {
-        {"x.m;\nf(a).b(c);", ENOUGH, TERKINOHA_CALLS, 2, 2},
-        {"f(g(1));", ENOUGH, TERKINOHA_CALLS, 1, 2}, /* the first `(`, and not that of the inner call */
-        {"a; f();", {MOST, MOST, MOST, 0}, TERKINOHA_CALLS, 1, 5},
-        {"f();", {5, 3, 0, 0}, TERKINOHA_CALLS, 1, 2},
-        {"f();", {5, 2, MOST, MOST}, TERKINOHA_NODE_ROOM, 0, 0},
-        {"f();", {4, 3, MOST, MOST}, TERKINOHA_TOKEN_ROOM, 0, 0},
+        /* met when the callee is judged, before any argument is */
+        {"import bench;\nbench::ping(zz, a: 1);", ENOUGH, TERKINOHA_CALLS, 2, 12},
+        {"import bench;\nx;\nlet v = bench::pick(bench::host(1, b: z), y);", ENOUGH, TERKINOHA_CALLS, 3, 32},
+        {"import bench;bench::ping(a: bench::ping(b: 1));", ENOUGH, TERKINOHA_CALLS, 1, 25}, /* the outer one */
+        {"import bench;bench::ping(a:1);", {13, 7, 0, 0}, TERKINOHA_CALLS, 1, 25},
+        {"f(a:1);", {8, 4, MOST, MOST}, TERKINOHA_NODE_ROOM, 0, 0},
+        {"f(a:1);", {7, 5, MOST, MOST}, TERKINOHA_TOKEN_ROOM, 0, 0},
         {"1; 2;", {5, 4, 0, 1}, TERKINOHA_STATEMENT_ROOM, 0, 0},
         {"1; 2;", {5, 3, MOST, 0}, TERKINOHA_NODE_ROOM, 0, 0},
         {"1;", {3, 2, MOST, 0}, TERKINOHA_STATEMENT_ROOM, 0, 0},
@@ -479,6 +548,11 @@ static void try_refusals(void)
     for (size_t i = 0; i < sizeof refusals / sizeof *refusals; i++)
         CHECK(refused(check(refusals[i].source, refusals[i].rooms), refusals[i].number, refusals[i].line,
                       refusals[i].column));
+    /* no 8 where the callee is never judged, or is no function */
+    CHECK(done(check("import bench;\"x\"/bench::ping(a: 1);let a = 1;let a = bench::ping(b: 2);bench::ping(zz, bench::ping(c: 3));"
+                     "5(d: 4);",
+                     enough),
+               4, 0, 0));
     CHECK(same(check("1.2.3.4:65536;", enough).verdict, TERKINOHA_SYNTAX, TERKINOHA_SYNTAX_INT_OUT_OF_RANGE, 1, 9));
     CHECK(same(check("1.2.3.4:0x50;", enough).verdict, TERKINOHA_SYNTAX, TERKINOHA_SYNTAX_UNEXPECTED_TOKEN, 1, 9));
 }
@@ -535,8 +609,13 @@ static void try_all_names(void)
     add("import a%u;\n", 0, TERKINOHA_MOST_IMPORTS + 1);
     add("let a%u = 1;\n", TERKINOHA_MOST_NAMES, 1);
     CHECK(refused(check(many, no_statements), TERKINOHA_NAMES, TERKINOHA_MOST_NAMES + TERKINOHA_MOST_IMPORTS + 1, 8));
-    add("f(%u);\n", 0, 1); /* a call goes before */
-    CHECK(refused(check_many(), TERKINOHA_CALLS, TERKINOHA_MOST_NAMES + TERKINOHA_MOST_IMPORTS + 3, 2));
+    /* between 8 and 9 the earlier token decides */
+    add("import bench; bench::ping(a: %u);\n", 0, 1);
+    CHECK(refused(check_many(), TERKINOHA_NAMES, TERKINOHA_MOST_NAMES + TERKINOHA_MOST_IMPORTS + 1, 8));
+    many[0] = '\0';
+    add("import bench; bench::ping(a: %u);\n", 0, 1);
+    add("let a%u = 1;\n", 0, TERKINOHA_MOST_NAMES + 1);
+    CHECK(refused(check_many(), TERKINOHA_CALLS, 1, 26));
 }
 
 /* ---- texts ---- */
@@ -555,7 +634,7 @@ static void try_texts(void)
     CHECK(strcmp(terkinoha_verdict_text(verdict_of(3, 2)), terkinoha_error_text(2)) == 0);
     CHECK(strcmp(terkinoha_verdict_text(verdict_of(5, 1)), "unexpected token") == 0);
     CHECK(strcmp(terkinoha_verdict_text(verdict_of(5, 2)), "integer literal out of range") == 0);
-    CHECK(strcmp(terkinoha_verdict_text(verdict_of(8, 0)), "a call, which cannot be checked") == 0);
+    CHECK(strcmp(terkinoha_verdict_text(verdict_of(8, 0)), "a named argument, which cannot be checked") == 0);
     CHECK(strcmp(terkinoha_verdict_text(verdict_of(UINT64_MAX, 0)), "unknown refusal") == 0);
     CHECK(strcmp(terkinoha_error_text(0), "unknown error") == 0);
     CHECK(strcmp(terkinoha_kind_text(19), "unknown token") == 0);
@@ -564,7 +643,12 @@ static void try_texts(void)
     CHECK(strcmp(terkinoha_finding_text(25), "integer is cut to fit") == 0);
     CHECK(strcmp(terkinoha_entry_name(0), "unknown entry") == 0);
     CHECK(strcmp(terkinoha_entry_name(8), "deep") == 0);
-    CHECK(strcmp(terkinoha_entry_name(10), "unknown entry") == 0);
+    CHECK(strcmp(terkinoha_entry_name(14), "host") == 0);
+    CHECK(strcmp(terkinoha_entry_name(15), "unknown entry") == 0);
+    CHECK(strcmp(terkinoha_param_name(11, 1), "body") == 0);
+    CHECK(strcmp(terkinoha_param_name(7, 1), "unknown parameter") == 0);
+    CHECK(strcmp(terkinoha_param_name(8, 0), "unknown parameter") == 0);
+    CHECK(strcmp(terkinoha_param_name(10, 2), "unknown parameter") == 0);
     CHECK(strcmp(terkinoha_type_text(15), "unknown type") == 0);
     CHECK(strcmp(terkinoha_type_text(16), "integer") == 0);
 }
@@ -587,6 +671,8 @@ int main(void)
     try_comparisons();
     try_numbers();
     try_statement_rows();
+    try_call_findings();
+    try_parts();
     try_refusals();
     try_just_enough();
     try_all_names();

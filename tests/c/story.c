@@ -143,7 +143,7 @@ static void try_findings_story(void)
     call(CHECK_SOURCE, findings, ROOM, &left);
     CHECK(left.verdict.number == TERKINOHA_DONE && left.counts[2] == 3 && left.counts[3] == 2);
 
-    check("a; b; f();", ROOM, &left); /* refused; its number is not looked at */
+    check("a; import bench; bench::ping(b: 1);", ROOM, &left); /* refused; its number is not looked at */
     for (int i = 0; i < ROOM; i++)
         CHECK(left.found[i].kind == 0 && left.found[i].statement == 0 && left.statements[i].kind == 0);
     CHECK(left.counts[2] == 0 && left.counts[3] == 0); /* of an answer that says so */
@@ -314,6 +314,23 @@ static void try_stack_of_tokens(void)
     CHECK(stack_of(bodies_all, bodies) < 32 * 1024);
 }
 
+/* Calls in calls, as deep as lists may be, each right of a `/`, with many steps after it. */
+static void try_stack_of_calls(void)
+{
+    static char source[32768];
+    char *at = source + sprintf(source, "import bench;\n");
+    for (int i = 0; i < TERKINOHA_MOST_LISTS; i++)
+        at += sprintf(at, "1.2.3.4/bench::pick(1, ");
+    at += sprintf(at, "1");
+    for (int i = 0; i < TERKINOHA_MOST_LISTS; i++) {
+        at += sprintf(at, ")");
+        for (int j = 0; j < 40; j++)
+            at += sprintf(at, ".m");
+    }
+    strcpy(at, ";\n");
+    CHECK(stack_of(check_all, source) < 256 * 1024);
+}
+
 /* As many names as may be bound and imported, and as many steps as an expression may have, each inside the next. */
 static void try_stack_of_steps(void)
 {
@@ -327,7 +344,7 @@ static void try_stack_of_steps(void)
     for (int i = 0; i < TERKINOHA_MOST_STEPS; i++)
         at += sprintf(at, "/70000");
     strcpy(at, ";\nnope::x;\n1;\nimport i0;\n");
-    CHECK(stack_of(check_all, source) < 128 * 1024);
+    CHECK(stack_of(check_all, source) < 256 * 1024);
 }
 
 int main(int argc, char **argv)
@@ -345,6 +362,7 @@ int main(int argc, char **argv)
     try_stack_of_tokens();
     try_stack_of_lists();
     try_stack_of_steps();
+    try_stack_of_calls();
     printf("story: each answer is that of a first call, alone and beside another thread\n");
     return lent_done();
 }

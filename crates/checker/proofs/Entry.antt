@@ -2,23 +2,23 @@
 use mathlib.Core.Path.{_≡_, refl, sym, ap, subst, _∙_}
 use mathlib.Core.Bool.{true, false}
 use mathlib.Core.List.{List, []}
-use mathlib.Core.Option.{none, some}
+use mathlib.Core.Logic.{inl, inr}
 use Prim.Native.Nat.{ℕ, _*_, _/_, _≤_, _<_}
 use native.Mathlib.Omega.{arith}
 use borrow.Author.Tests.{eq-eqb, ne-eqb, lt-ltb, le-ltb}
 use lib.Dec.{eqb}
 use lib.ListN.{length, take}
 use lib.Seq.{length-take-le}
-use Rattle.table.specs.Table.{padTo, flat}
+use Rattle.table.specs.Table.{padTo}
 use Rattle.table.proofs.Laws.{tabled-none}
 use Rattle.language.specs.Tokens.{contents, tokens}
 use Rattle.language.specs.Tables.{tokenRow, tokenWidth}
-use Rattle.language.specs.Sentences.{Stmt, Node, program, nodeRow}
+use Rattle.language.specs.Sentences.{Stmt, program, nodeRow}
 use Rattle.language.specs.Judgements as judgements
 use Rattle.language.specs.Judgements.{Diag, Held, Outcome, errorsIn, warningsIn, judgeAll}
-use Rattle.language.specs.Findings.{diagRow, diagWidth, stmtRow}
+use Rattle.language.specs.Findings.{diagRow, diagWidth, rowsOf, stmtRow, stmtWidth}
 use Rattle.language.specs.Numbers as numbers
-use Rattle.language.specs.Numbers.{sum, verdict, tokenOf, placed, tokenPlace, parseAnswer, parseTokens, parseNodes, parsedNodes, statementsOf, firstCall, checked, refusedCheck, judgedWithin, checkAnswer, checkTokens, checkNodes, checkDiags, checkStmts}
+use Rattle.language.specs.Numbers.{sum, verdict, tokenOf, placed, tokenPlace, parseAnswer, parseTokens, parseNodes, statementsOf, checked, refusedCheck, judgedWithin, checkAnswer, checkTokens, checkNodes, checkDiags, checkStmts}
 use Rattle.rows.specs.declared.verdict.Verdict.{Verdict}
 use Rattle.rows.specs.Rows.{verdictAs}
 use Rattle.rows.specs.declared.token.Token.{Token}
@@ -28,16 +28,13 @@ use Rattle.parse.specs.declared.ParseAnswer.{ParseAnswer}
 use Rattle.parse.specs.Entry.{ParseSource}
 use Rattle.statements.specs.declared.Outcome as outcome
 use Rattle.statements.specs.declared.Outcome.the-variants.{Judged, Refused}
-use Rattle.findings.specs.Findings.{added, Adds}
-use Rattle.checker.specs.declared.Call.{Call}
-use Rattle.checker.specs.declared.Call.the-variants.{At, Nowhere}
+use Rattle.findings.specs.Findings.{added}
 use Rattle.checker.specs.declared.CheckAnswer.{CheckAnswer}
-use Rattle.statements.specs.Checking.{StmtsAt, noCounts, unnamed, ComesTo, Comes}
-use Rattle.checker.specs.Entry.{refusal, callAs, Parses, GivesUp, CheckSource}
-use Rattle.language.proofs.Names.{names-refused}
+use Rattle.statements.specs.Checking.{StmtsAt, AllSound, Found, ComesTo, Comes}
+use Rattle.checker.specs.Entry.{refusal, Parses, GivesUp, CheckSource}
+use Rattle.language.proofs.Names.{refused-for}
 use Rattle.checker.proofs.Tables.{all-findings, all-held}
-use Rattle.checker.proofs.Calls.{some-call, none-called}
-use Rattle.checker.proofs.Parsed.{lexed-part, node-part, stmts-part, number-is, tokens-long, nodes-left}
+use Rattle.checker.proofs.Parsed.{lexed-part, sound-part, stmts-part, number-is, tokens-long, nodes-left}
 
 -- a refusal where a token is
 pub at-place : (s : List ℕ) (t number : ℕ) {tok : Token} {v : Verdict} → tok ≡ tokenAs (tokenOf s t)
@@ -51,7 +48,7 @@ some-words toks count h l = omega (arith, length-take-le (7 * count) toks l)
 -- ---- refusals
 
 -- a number with no counts leaves nothing in any table
-gave-up : (s : List ℕ) (t n d k : ℕ) (v : numbers.Verdict) → checkAnswer s (t / 7) (n / 5) (k / 7) ≡ refusedCheck v → eqb (v .number) 0 ≡ false
+gave-up : (s : List ℕ) (t n d k : ℕ) (v : numbers.Verdict) → checkAnswer s (t / 7) (n / 5) (k / 11) ≡ refusedCheck v → eqb (v .number) 0 ≡ false
     → {w : Verdict} → w ≡ verdictAs v → {r : CheckAnswer} {a b e f : List ℕ} → GivesUp w t n d k r a b e f → CheckSource s t n d k r a b e f
 unfolding checkTokens checkNodes checkDiags checkStmts
 gave-up s t n d k v e f q g =
@@ -60,40 +57,30 @@ gave-up s t n d k v e f q g =
       tokens = g .tokens ∙ rw (e, f) (sym (tabled-none tokenRow 7 t));
       nodes = g .nodes ∙ rw (e, f) (sym (tabled-none nodeRow 5 n));
       diags = g .diags ∙ rw (e, f) (sym (tabled-none (diagRow (tokenOf s)) diagWidth d));
-      stmts = g .stmts ∙ rw (e, f) (sym (tabled-none (stmtRow (tokenOf s)) 7 k));
+      stmts = g .stmts ∙ rw (e, f) (sym (tabled-none (stmtRow (tokenOf s)) stmtWidth k));
     }
 
 -- ---- a source that was parsed
 
 module _ {s toks tree : List ℕ} {count rows : ℕ} (p : Parses s toks tree count rows) where
-  called-as : (m at : ℕ) → firstCall (parsedNodes (program (contents (tokens s)))) ≡ some at
-      → checkAnswer s (length toks / 7) (length tree / 5) m ≡ refusedCheck (placed 8 (tokenPlace s at))
+  judged-as : (m : ℕ) → checkAnswer s (length toks / 7) (length tree / 5) m ≡ judgedWithin s m count rows (checked s)
   unfolding checkAnswer
-  called-as m at e = rw (p .answer, e)
-
-  judged-as : (m : ℕ) → firstCall (parsedNodes (program (contents (tokens s)))) ≡ none
-      → checkAnswer s (length toks / 7) (length tree / 5) m ≡ judgedWithin s m count rows (checked s)
-  unfolding checkAnswer
-  judged-as m e = rw (e, p .answer)
+  judged-as m = rw (p .answer)
 
   -- all statements were judged
-  module _ (quiet : firstCall (parsedNodes (program (contents (tokens s)))) ≡ none) {ds : List Diag} {hs : List Held} {ls : List ℕ} (o : checked s ≡ judgements.judged ds hs ls)
-      (c : Counts) {found held : List ℕ} (g : Adds s noCounts (padTo (length found) []) (padTo (length held) []) (unnamed c) found held ds hs ls) where
+  module _ {ds : List Diag} {hs : List Held} {ls : List ℕ} (o : checked s ≡ judgements.judged ds hs ls) (c : Counts) {found held : List ℕ}
+      (g : Found s (padTo (length found) []) (padTo (length held) []) c found held ds hs ls) where
     errors-are : c .errors ≡ errorsIn ds
     unfolding added
-    errors-are = ap (λ (z : Counts). z .errors) (g .counted) ∙ omega arith
+    errors-are = ap (λ (z : Counts). z .errors) (g .adds .counted) ∙ omega arith
 
     warnings-are : c .warnings ≡ warningsIn ds
     unfolding added
-    warnings-are = ap (λ (z : Counts). z .warnings) (g .counted) ∙ omega arith
-
-    held-are : c .statements ≡ length hs
-    unfolding added
-    held-are = ap (λ (z : Counts). z .statements) (g .counted) ∙ omega arith
+    warnings-are = ap (λ (z : Counts). z .warnings) (g .adds .counted) ∙ omega arith
 
     compared-are : c .comparisons ≡ sum ls
     unfolding added
-    compared-are = ap (λ (z : Counts). z .comparisons) (g .counted) ∙ omega arith
+    compared-are = ap (λ (z : Counts). z .comparisons) (g .adds .counted) ∙ omega arith
 
     -- errors: the statements are not kept
     pub with-errors : {r : CheckAnswer} {x : List ℕ} → (c .errors ≡ 0 → ⊥) → x ≡ padTo (length held) []
@@ -102,15 +89,15 @@ module _ {s toks tree : List ℕ} {count rows : ℕ} (p : Parses s toks tree cou
     unfolding checkTokens checkNodes checkDiags checkStmts
     with-errors h z q =
         let f : eqb (errorsIn ds) 0 ≡ false = ne-eqb _ _ (λ e. h (errors-are ∙ e)) in
-        let a : checkAnswer s (length toks / 7) (length tree / 5) (length held / 7)
+        let a : checkAnswer s (length toks / 7) (length tree / 5) (length held / 11)
         ≡ record { verdict = verdict 0 0 0; tokens = count; nodes = rows; errors = errorsIn ds; warnings = warningsIn ds; statements = 0; comparisons = sum ls } =
-        judged-as (length held / 7) quiet ∙ rw (o, f) in
+        judged-as (length held / 11) ∙ rw (o, f) in
         record {
           answer = q ∙ rw (a, errors-are, warnings-are, compared-are);
           tokens = p .table ∙ rw a;
           nodes = p .nodes ∙ rw a;
-          diags = g .diags ∙ all-findings (tokenOf s) (length found) ds ∙ rw (a, o);
-          stmts = z ∙ rw (a, o, f) (sym (tabled-none (stmtRow (tokenOf s)) 7 (length held)));
+          diags = g .adds .diags ∙ all-findings (tokenOf s) (length found) ds ∙ rw (a, o);
+          stmts = z ∙ rw (a, o, f) (sym (tabled-none (stmtRow (tokenOf s)) stmtWidth (length held)));
         }
 
     module _ (h : c .errors ≡ 0) where
@@ -118,40 +105,41 @@ module _ {s toks tree : List ℕ} {count rows : ℕ} (p : Parses s toks tree cou
       no-errors = eq-eqb _ _ (sym errors-are ∙ h)
 
       -- 11
-      pub too-many : {w : Verdict} {r : CheckAnswer} {x y z u : List ℕ} → length held / 7 < c .statements → w ≡ verdictAs (verdict 11 0 0)
+      pub too-many : {w : Verdict} {r : CheckAnswer} {x y z u : List ℕ} → length held / 11 < c .statements → w ≡ verdictAs (verdict 11 0 0)
           → GivesUp w (length toks) (length tree) (length found) (length held) r x y z u
           → CheckSource s (length toks) (length tree) (length found) (length held) r x y z u
       too-many l q u =
           gave-up s (length toks) (length tree) (length found) (length held) (verdict 11 0 0)
-          (judged-as (length held / 7) quiet ∙ rw (o, no-errors, lt-ltb (length held / 7) (length hs) (omega (arith, held-are)))) refl q u
+          (judged-as (length held / 11) ∙ rw (o, no-errors, lt-ltb (length held / 11) (length (rowsOf hs)) (omega (arith, g .statements)))) refl q u
 
       -- done
-      pub accepted : {r : CheckAnswer} → c .statements ≤ length held / 7
+      pub accepted : {r : CheckAnswer} → c .statements ≤ length held / 11
           → r ≡ record { verdict = verdictAs (verdict 0 0 0); tokens = count; nodes = rows; errors = c .errors; warnings = c .warnings; statements = c .statements; comparisons = c .comparisons }
           → CheckSource s (length toks) (length tree) (length found) (length held) r toks tree found held
       unfolding checkTokens checkNodes checkDiags checkStmts
       accepted l q =
-          let a : checkAnswer s (length toks / 7) (length tree / 5) (length held / 7)
-          ≡ record { verdict = verdict 0 0 0; tokens = count; nodes = rows; errors = 0; warnings = warningsIn ds; statements = length hs; comparisons = sum ls } =
-          judged-as (length held / 7) quiet ∙ rw (o, no-errors, le-ltb (length held / 7) (length hs) (omega (arith, held-are))) in
+          let a : checkAnswer s (length toks / 7) (length tree / 5) (length held / 11)
+          ≡ record { verdict = verdict 0 0 0; tokens = count; nodes = rows; errors = 0; warnings = warningsIn ds; statements = length (rowsOf hs); comparisons = sum ls } =
+          judged-as (length held / 11) ∙ rw (o, no-errors, le-ltb (length held / 11) (length (rowsOf hs)) (omega (arith, g .statements))) in
           record {
-            answer = q ∙ rw (a, h, warnings-are, held-are, compared-are);
+            answer = q ∙ rw (a, h, warnings-are, g .statements, compared-are);
             tokens = p .table ∙ rw a;
             nodes = p .nodes ∙ rw a;
-            diags = g .diags ∙ all-findings (tokenOf s) (length found) ds ∙ rw (a, o);
-            stmts = g .stmts ∙ all-held (tokenOf s) (length held) hs ∙ rw (a, o, no-errors);
+            diags = g .adds .diags ∙ all-findings (tokenOf s) (length found) ds ∙ rw (a, o);
+            stmts = g .stmts (sym errors-are ∙ h) ∙ all-held (tokenOf s) (length held) (rowsOf hs) ∙ rw (a, o, no-errors);
           }
 
 -- ---- the run
 
--- the number is 9
-number-nine : (s : List ℕ) {n t : ℕ} → checked s ≡ judgements.refused n t → eqb n 0 ≡ false
+-- the number is 8 or 9
+some-number : (s : List ℕ) {n t : ℕ} → checked s ≡ judgements.refused n t → eqb n 0 ≡ false
 unfolding checked
-number-nine s {n} {t} e = let z = names-refused (contents (tokens s)) (statementsOf (program (contents (tokens s)))) n t .0 e .0 in rw z
+some-number s {n} {t} e =
+    elim (refused-for (contents (tokens s)) (statementsOf (program (contents (tokens s)))) n t e) [ inl z ↦ rw z | inr z ↦ rw z ]
 
 module _ {s x u y v : List ℕ} {r : outcome.Outcome} where
   went : {c : Counts} {o : Outcome} → r ≡ Judged c → Comes s x u r y v o
-      → (ds : List Diag) × (hs : List Held) × (ls : List ℕ) × (o ≡ judgements.judged ds hs ls) × Adds s noCounts x u (unnamed c) y v ds hs ls
+      → (ds : List Diag) × (hs : List Held) × (ls : List ℕ) × (o ≡ judgements.judged ds hs ls) × Found s x u c y v ds hs ls
   went {c} {o = judgements.judged ds hs ls} q h = (ds, hs, ls, refl, subst (λ (z : outcome.Outcome). ComesTo s x u z y v (judgements.judged ds hs ls)) q (h .come))
   went {c} {o = judgements.refused m t} q h = absurd (subst (λ (z : outcome.Outcome). ComesTo s x u z y v (judgements.refused m t)) q (h .come))
 
@@ -162,43 +150,31 @@ module _ {s x u y v : List ℕ} {r : outcome.Outcome} where
       rw (e .0, e .1)
 
 module _ {s toks tree : List ℕ} {count rows : ℕ} (p : Parses s toks tree count rows) where
-  -- 8
-  pub refused-call : {t d k : ℕ} {w : Verdict} {f : Call} {r : CheckAnswer} {a b e g : List ℕ} → f ≡ At t
-      → ((ns : List Node) → take (5 * rows) tree ≡ flat nodeRow ns → f ≡ callAs (firstCall ns))
-      → ((z : List ℕ) → TokenTable z (take (tokenWidth * count) toks) → w ≡ verdictAs (placed 8 (tokenPlace z t)))
-      → GivesUp w (length toks) (length tree) d k r a b e g → CheckSource s (length toks) (length tree) d k r a b e g
-  refused-call {t} {d} {k} q c l g =
-      gave-up s (length toks) (length tree) d k (placed 8 (tokenPlace s t)) (called-as p (k / 7) t (some-call (sym q ∙ c _ (node-part p)))) refl (l s (lexed-part p)) g
-
-  pub no-calls : {f : Call} → f ≡ Nowhere → ((ns : List Node) → take (5 * rows) tree ≡ flat nodeRow ns → f ≡ callAs (firstCall ns))
-      → firstCall (parsedNodes (program (contents (tokens s)))) ≡ none
-  no-calls q c = none-called (sym q ∙ c _ (node-part p))
-
-  module _ (quiet : firstCall (parsedNodes (program (contents (tokens s)))) ≡ none) {x u y v : List ℕ} {r : outcome.Outcome} (same-found : length y ≡ length x) (same-held : length v ≡ length u)
-      (on : (ss : List Stmt) → StmtsAt (take (5 * rows) tree) 0 ss → Comes s x u r y v (judgeAll (contents (tokens s)) ss)) where
+  module _ {x u y v : List ℕ} {r : outcome.Outcome} (same-found : length y ≡ length x) (same-held : length v ≡ length u)
+      (on : (ss : List Stmt) → StmtsAt (take (5 * rows) tree) 0 ss → AllSound (contents (tokens s)) ss → Comes s x u r y v (judgeAll (contents (tokens s)) ss)) where
     came : Comes s x u r y v (checked s)
     unfolding checked
-    came = on (statementsOf (program (contents (tokens s)))) (stmts-part p)
+    came = on (statementsOf (program (contents (tokens s)))) (stmts-part p) (sound-part p)
 
     pub concluded : {c : Counts} {q : CheckAnswer} {a b e f : List ℕ} → (x ≡ padTo (length x) []) × (u ≡ padTo (length u) []) → r ≡ Judged c
-        → ((z : List ℕ) (ds : List Diag) (hs : List Held) (ls : List ℕ) → Parses z toks tree count rows → firstCall (parsedNodes (program (contents (tokens z)))) ≡ none
-        → checked z ≡ judgements.judged ds hs ls → Adds z noCounts (padTo (length y) []) (padTo (length v) []) (unnamed c) y v ds hs ls
+        → ((z : List ℕ) (ds : List Diag) (hs : List Held) (ls : List ℕ) → Parses z toks tree count rows → checked z ≡ judgements.judged ds hs ls
+        → Found z (padTo (length y) []) (padTo (length v) []) c y v ds hs ls
         → CheckSource z (length toks) (length tree) (length y) (length v) q a b e f)
         → CheckSource s (length toks) (length tree) (length x) (length u) q a b e f
     concluded {c} {q} {a} {b} {e} {f} zero i h =
         let w = went i came in
-        let g : Adds s noCounts (padTo (length y) []) (padTo (length v) []) (unnamed c) y v (w .0) (w .1) (w .2) =
-        subst (λ (m : List ℕ). Adds s noCounts (padTo (length y) []) m (unnamed c) y v (w .0) (w .1) (w .2)) (zero .1 ∙ ap (λ (m : ℕ). padTo m []) (sym same-held))
-        (subst (λ (m : List ℕ). Adds s noCounts m u (unnamed c) y v (w .0) (w .1) (w .2)) (zero .0 ∙ ap (λ (m : ℕ). padTo m []) (sym same-found)) (w .4)) in
+        let g : Found s (padTo (length y) []) (padTo (length v) []) c y v (w .0) (w .1) (w .2) =
+        subst (λ (m : List ℕ). Found s (padTo (length y) []) m c y v (w .0) (w .1) (w .2)) (zero .1 ∙ ap (λ (m : ℕ). padTo m []) (sym same-held))
+        (subst (λ (m : List ℕ). Found s m u c y v (w .0) (w .1) (w .2)) (zero .0 ∙ ap (λ (m : ℕ). padTo m []) (sym same-found)) (w .4)) in
         subst (λ (m : ℕ). CheckSource s (length toks) (length tree) (length x) m q a b e f) same-held
-        (subst (λ (m : ℕ). CheckSource s (length toks) (length tree) m (length v) q a b e f) same-found (h s (w .0) (w .1) (w .2) p quiet (w .3) g))
+        (subst (λ (m : ℕ). CheckSource s (length toks) (length tree) m (length v) q a b e f) same-found (h s (w .0) (w .1) (w .2) p (w .3) g))
 
     -- a refusal by a statement
     pub refused-stmt : {n t : ℕ} {w : Verdict} {q : CheckAnswer} {a b e f : List ℕ} → r ≡ Refused n t
         → ((z : List ℕ) → TokenTable z (take (tokenWidth * count) toks) → w ≡ verdictAs (placed n (tokenPlace z t)))
         → GivesUp w (length toks) (length tree) (length y) (length v) q a b e f → CheckSource s (length toks) (length tree) (length x) (length u) q a b e f
     refused-stmt {n} {t} {w} {q} {a} {b} {e} {f} i l g =
-        gave-up s (length toks) (length tree) (length x) (length u) (placed n (tokenPlace s t)) (judged-as p (length u / 7) quiet ∙ rw (refused-at i came)) (number-nine s (refused-at i came)) (l s (lexed-part p))
+        gave-up s (length toks) (length tree) (length x) (length u) (placed n (tokenPlace s t)) (judged-as p (length u / 11) ∙ rw (refused-at i came)) (some-number s (refused-at i came)) (l s (lexed-part p))
         (subst (λ (m : ℕ). GivesUp w (length toks) (length tree) (length x) m q a b e f) same-held
         (subst (λ (m : ℕ). GivesUp w (length toks) (length tree) m (length v) q a b e f) same-found g))
 

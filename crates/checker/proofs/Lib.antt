@@ -1,6 +1,5 @@
 -- The laws that the proofs of the functions cite.
 pub mod Trees
-pub mod Calls
 pub mod Tables
 pub mod Parsed
 pub mod Entry

@@ -22,10 +22,11 @@ use Rattle.parse.specs.Entry.{ParseSource}
 use Rattle.parse.proofs.Entry.{not-zero}
 use Rattle.language.proofs.Done.{LexesIn, lex-done, lex-done-only}
 use Rattle.language.proofs.SentenceRefusals.{refused-number}
+use Rattle.language.proofs.Sound.{trees-sound}
 use Rattle.language.proofs.TokensAt.{row-width, some-token}
 use Rattle.language.proofs.NodeClaims.{all-long, row-long}
 use Rattle.rows.specs.Tokens.{TokenTable}
-use Rattle.statements.specs.Checking.{StmtsAt, RowFits, noCounts}
+use Rattle.statements.specs.Checking.{StmtsAt, RowFits, AllSound, noCounts}
 use Rattle.checker.specs.Entry.{Parses}
 use Rattle.parse.proofs.Few.{nodes-few}
 use Rattle.parse.proofs.TokenRows.{few-tokens}
@@ -104,18 +105,36 @@ module _ {s toks tree : List ℕ} {count rows : ℕ} (p : Parses s toks tree cou
   pub node-part : take (5 * rows) tree ≡ flat nodeRow (parsedNodes (program (contents (tokens s))))
   node-part = rw (p .nodes, p .rowed) (tabled-rows nodeRow 5 row-long (length tree) (parsedNodes (program (contents (tokens s)))) rows-in)
 
+  -- there are no more tokens than bytes but one
+  tokens-few : length (contents (tokens s)) ≤ 65537
+  tokens-few = omega (arith, length-map (tokens s) (λ (t : Token). t .content), few-tokens s, short s (length toks / 7) (length tree / 5) done)
+
+  -- the statements name tokens of the source
+  pub sound-part : AllSound (contents (tokens s)) (statementsOf (program (contents (tokens s))))
+  sound-part =
+      let w = whole s (length toks / 7) (length tree / 5) done in
+      rw (w .3) (trees-sound s (w .0) (w .1) (w .2) (w .3))
+
   pub stmts-part : StmtsAt (take (5 * rows) tree) 0 (statementsOf (program (contents (tokens s))))
   stmts-part =
       let w = whole s (length toks / 7) (length tree / 5) done in
-      rw node-part (rw (w .3) (all-stmts (w .0)))
+      rw node-part (rw (w .3) (all-stmts (contents (tokens s)) (omega (arith, tokens-few)) (w .0) (trees-sound s (w .0) (w .1) (w .2) (w .3))))
 
-  -- there are no more nodes than tokens, and no more tokens than bytes but one
+  -- there are no more nodes than tokens
   pub rows-fit : RowFits (take (5 * rows) tree) 0 noCounts
   rows-fit =
       let w = whole s (length toks / 7) (length tree / 5) done in
       let few = nodes-few (contents (tokens s)) (w .0) (w .1) (w .2) (w .3) in
-      let l : programSize (w .0) ≤ 65537 = omega (arith, all-long 0 (w .0), few, length-map (tokens s) (λ (t : Token). t .content), few-tokens s, short s (length toks / 7) (length tree / 5) done) in
-      record { list = w .0; stands = rw (w .3) at stmts-part; room = omega arith; held = omega arith; begun = omega arith; looks = omega arith }
+      let l : programSize (w .0) ≤ 65537 = omega (arith, all-long 0 (w .0), few, tokens-few) in
+      record {
+        list = w .0;
+        stands = rw (w .3) at stmts-part;
+        room = omega arith;
+        held = omega arith;
+        slots = omega arith;
+        begun = omega arith;
+        looks = omega arith;
+      }
 
 -- ---- what the entry `parse` promises
 

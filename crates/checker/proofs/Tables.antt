@@ -6,8 +6,8 @@ use native.Mathlib.Omega.{arith}
 use lib.ListN.{length}
 use Rattle.table.specs.Table.{padTo, tabled}
 use Rattle.language.specs.Tokens.{Token}
-use Rattle.language.specs.Judgements.{Diag, Held}
-use Rattle.language.specs.Findings.{diagRow, diagWidth, stmtRow, stmtWidth}
+use Rattle.language.specs.Judgements.{Diag}
+use Rattle.language.specs.Findings.{diagRow, diagWidth, Row, stmtRow, stmtWidth}
 use Rattle.findings.specs.Findings.{putRows}
 use Rattle.findings.proofs.Rows.{all-rows}
 
@@ -16,12 +16,12 @@ module _ (tokenAt : ℕ → Token) where
   unfolding diagRow
   finding-long d = refl
 
-  held-long : (h : Held) → length (stmtRow tokenAt h) ≡ stmtWidth
+  held-long : (r : Row) → length (stmtRow tokenAt r) ≡ stmtWidth
   unfolding stmtRow
-  held-long h = refl
+  held-long r = refl
 
   pub all-findings : (n : ℕ) (ds : List Diag) → putRows (diagRow tokenAt) (padTo n []) 0 ds ≡ tabled (diagRow tokenAt) diagWidth n ds
   all-findings = all-rows (diagRow tokenAt) diagWidth finding-long (omega arith)
 
-  pub all-held : (n : ℕ) (hs : List Held) → putRows (stmtRow tokenAt) (padTo n []) 0 hs ≡ tabled (stmtRow tokenAt) stmtWidth n hs
+  pub all-held : (n : ℕ) (rs : List Row) → putRows (stmtRow tokenAt) (padTo n []) 0 rs ≡ tabled (stmtRow tokenAt) stmtWidth n rs
   all-held = all-rows (stmtRow tokenAt) stmtWidth held-long (omega arith)

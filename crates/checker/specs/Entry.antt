@@ -1,7 +1,6 @@
 -- What the entry promises.
 use mathlib.Core.Path.{_≡_}
 use mathlib.Core.List.{List, []}
-use mathlib.Core.Option.{Option, none, some}
 use Prim.Native.Nat.{ℕ, _/_}
 use lib.ListN.{length}
 use Rattle.table.specs.Table.{padTo, tabled}
@@ -13,8 +12,6 @@ use Rattle.language.specs.Numbers.{verdict, parsed, parseAnswer, parsedNodes}
 use Rattle.language.specs.Entries.{CheckPromise}
 use Rattle.rows.specs.declared.verdict.Verdict.{Verdict}
 use Rattle.rows.specs.Rows.{verdictAs}
-use Rattle.checker.specs.declared.Call.{Call}
-use Rattle.checker.specs.declared.Call.the-variants.{At, Nowhere}
 use Rattle.checker.specs.declared.CheckAnswer.{CheckAnswer}
 
 abbrev pub checkedAs : numbers.Checked → CheckAnswer
@@ -32,10 +29,6 @@ checkedAs a =
 -- the answer of a refusal: no counts
 abbrev pub refusal : Verdict → CheckAnswer
 refusal v = record { verdict = v; tokens = 0; nodes = 0; errors = 0; warnings = 0; statements = 0; comparisons = 0 }
-
-abbrev pub callAs : Option ℕ → Call
-callAs (some t) = At t
-callAs none = Nowhere
 
 -- a refusal that leaves four tables, of t, n, d and k words, all zero
 pub record GivesUp (v : Verdict) (t n d k : ℕ) (r : CheckAnswer) (toks tree found held : List ℕ) : Type 0 where

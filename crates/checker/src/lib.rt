@@ -2,22 +2,17 @@
 // `Numbers` of the crate `language`.
 ghost use mathlib.Core.Path.{_≡_};
 ghost use mathlib.Core.List.{List, []};
-ghost use mathlib.Core.Option.{Option, none};
 ghost use Prim.Native.Nat.{ℕ, _*_, _≤_};
 ghost use lib.ListN.{length, take};
-ghost use Rattle.table.specs.Table.{flat, padTo};
-ghost use Rattle.language.specs.Tokens.{tokens, contents};
-ghost use Rattle.language.specs.Numbers.{verdict, placed, tokenPlace, sooner, firstCall, parsedNodes, checked};
-ghost use Rattle.language.specs.Sentences.{Node, nodeRow, program};
+ghost use Rattle.table.specs.Table.{padTo};
+ghost use Rattle.language.specs.Numbers.{verdict, placed, tokenPlace, checked};
 ghost use Rattle.language.specs.Judgements.{Diag, Held, judged};
 ghost use Rattle.language.specs.Tables.{tokenWidth};
 ghost use Rattle.rows.specs.Tokens.{TokenTable};
-ghost use Rattle.findings.specs.Findings.{Adds};
-ghost use Rattle.statements.specs.Checking.{noCounts, unnamed};
+ghost use Rattle.statements.specs.Checking.{Found};
 ghost use Rattle.rows.specs.Rows.{verdictAs};
-ghost use Rattle.checker.specs.Entry.{refusal, callAs, GivesUp, Parses, CheckSource};
+ghost use Rattle.checker.specs.Entry.{refusal, GivesUp, Parses, CheckSource};
 use findings::Counts;
-use rows::NodeKind;
 use rows::NodeRow;
 use rows::StatementRow;
 use rows::TokenRow;
@@ -34,41 +29,6 @@ pub struct CheckAnswer {
     pub statements: u64,
     // how many names were compared in searches among the bindings
     pub comparisons: u64,
-}
-
-// The `(` of the first call.
-pub enum Call {
-    At(u64),
-    Nowhere,
-}
-
-// The earlier of a token and another, if there is another.
-fn sooner(t: u64, found: Call) -> Call
-    ensures { λ r. ⌜ ((o : Option ℕ) → found ≡ callAs o → r ≡ callAs (sooner t o)) ⌝ }
-{
-    match found {
-        Call::At(u) => {
-            if u < t {
-                return Call::At(u);
-            }
-            Call::At(t)
-        }
-        Call::Nowhere => Call::At(t),
-    }
-}
-
-fn first_call(nodes: &[u64]) -> Call
-    ensures { λ r. ⌜ ((ns : List Node) → now (nodes .entry) ≡ flat nodeRow ns → r ≡ callAs (firstCall ns)) ⌝ }
-{
-    let mut found = Call::Nowhere;
-    let mut i = nodes.len() / NodeRow::WORDS;
-    while 0 < i {
-        i -= 1;
-        if rows::node_word(nodes, i, NodeRow::KIND) == NodeKind::CALL {
-            found = sooner(rows::node_word(nodes, i, NodeRow::THIRD), found);
-        }
-    }
-    found
 }
 
 // The answer of a refusal: no counts.
@@ -140,8 +100,8 @@ fn conclude(
     stmts: &mut [u64],
 ) -> CheckAnswer
     ensures { λ r. ⌜ ((s : List ℕ) (ds : List Diag) (hs : List Held) (ls : List ℕ) → Parses s (now (toks .entry)) (now (nodes .entry)) count rows
-        → firstCall (parsedNodes (program (contents (tokens s)))) ≡ none → checked s ≡ judged ds hs ls
-        → Adds s noCounts (padTo (length (now (diags .entry))) []) (padTo (length (now (stmts .entry))) []) (unnamed counts) (now (diags .entry)) (now (stmts .entry)) ds hs ls
+        → checked s ≡ judged ds hs ls
+        → Found s (padTo (length (now (diags .entry))) []) (padTo (length (now (stmts .entry))) []) counts (now (diags .entry)) (now (stmts .entry)) ds hs ls
         → CheckSource s (length (now (toks .entry))) (length (now (nodes .entry))) (length (now (diags .entry))) (length (now (stmts .entry)))
         r (now (toks .exit)) (now (nodes .exit)) (now (diags .exit)) (now (stmts .exit))) ⌝ }
 {
@@ -161,7 +121,7 @@ fn conclude(
     done(counts, count, rows, counts.statements)
 }
 
-// Judges a tree without calls. The tables of diagnostics and statements start out as zeros.
+// Judges a tree. The tables of diagnostics and statements start out as zeros.
 fn check_statements(
     source: &[u8],
     toks: &mut [u64],
@@ -173,9 +133,8 @@ fn check_statements(
 ) -> CheckAnswer
     requires { ⌜ Parses (now source) (now toks) (now nodes) count rows ⌝ }
     requires { ⌜ (now diags ≡ padTo (length (now diags)) []) × (now stmts ≡ padTo (length (now stmts)) []) ⌝ }
-    ensures { λ r. ⌜ (firstCall (parsedNodes (program (contents (tokens (now (source .entry)))))) ≡ none
-        → CheckSource (now (source .entry)) (length (now (toks .entry))) (length (now (nodes .entry))) (length (now (diags .entry))) (length (now (stmts .entry)))
-        r (now (toks .exit)) (now (nodes .exit)) (now (diags .exit)) (now (stmts .exit))) ⌝ }
+    ensures { λ r. ⌜ CheckSource (now (source .entry)) (length (now (toks .entry))) (length (now (nodes .entry))) (length (now (diags .entry))) (length (now (stmts .entry)))
+        r (now (toks .exit)) (now (nodes .exit)) (now (diags .exit)) (now (stmts .exit)) ⌝ }
 {
     let token_words = TokenRow::WORDS * count;
     let node_words = NodeRow::WORDS * rows;
@@ -191,31 +150,6 @@ fn check_statements(
             let found = at_token(toks, count, number, t);
             give_up(found, toks, nodes, diags, stmts)
         }
-    }
-}
-
-// Checks a tree. The tables of diagnostics and statements start out as zeros.
-fn check_tree(
-    source: &[u8],
-    toks: &mut [u64],
-    nodes: &mut [u64],
-    diags: &mut [u64],
-    stmts: &mut [u64],
-    count: usize,
-    rows: usize,
-) -> CheckAnswer
-    requires { ⌜ Parses (now source) (now toks) (now nodes) count rows ⌝ }
-    requires { ⌜ (now diags ≡ padTo (length (now diags)) []) × (now stmts ≡ padTo (length (now stmts)) []) ⌝ }
-    ensures { λ r. ⌜ CheckSource (now (source .entry)) (length (now (toks .entry))) (length (now (nodes .entry))) (length (now (diags .entry))) (length (now (stmts .entry)))
-        r (now (toks .exit)) (now (nodes .exit)) (now (diags .exit)) (now (stmts .exit)) ⌝ }
-{
-    let node_words = NodeRow::WORDS * rows;
-    match first_call(&nodes[..node_words]) {
-        Call::At(t) => {
-            let found = at_token(toks, count, Verdict::CALLS, t);
-            give_up(found, toks, nodes, diags, stmts)
-        }
-        Call::Nowhere => check_statements(source, toks, nodes, diags, stmts, count, rows),
     }
 }
 
@@ -237,7 +171,7 @@ pub fn check_source(
     if verdict.number != Verdict::DONE {
         return refused(verdict);
     }
-    check_tree(
+    check_statements(
         source,
         toks,
         nodes,

@@ -2,16 +2,18 @@
 use Prim.Native.Nat.{ℕ, zero, suc, _+_, _*_}
 use mathlib.Core.Path.{_≡_}
 use mathlib.Core.Bool.{Bool, true, false, _&&_}
-use mathlib.Core.List.{List, [], _∷_}
+use mathlib.Core.List.{List, [], _∷_, _++_}
 use mathlib.Core.Option.{Option, none, some}
 use lib.Dec.{eqb, ltb}
-use lib.ListN.{getD}
+use lib.ListN.{length, getD}
 use Rattle.table.specs.Table.{flat}
 use Rattle.language.specs.Choice.{if′}
 use Rattle.language.specs.Lexemes.{same}
 use Rattle.language.specs.Tokens.{between}
-use Rattle.language.specs.Values.{Value, Entry, entries, entryAt}
+use Rattle.language.specs.Values.{Value, tyVoid, tyKind, Param, param, Entry, entries, entryAt}
 use Rattle.language.specs.Findings.{valueKind, valueLow, valueHigh}
+use Rattle.constants.specs.declared.Parameter.{Parameter}
+use Rattle.constants.specs.declared.Signature.{Signature}
 
 -- a module's words are 0
 abbrev pub kindOf : Option Value → ℕ
@@ -34,7 +36,7 @@ abbrev pub entryWidth : ℕ
 entryWidth = 6
 
 abbrev pub entryCount : ℕ
-entryCount = 9
+entryCount = 14
 
 unfoldable pub tableRows : List ℕ
 tableRows = flat entryRow entries
@@ -83,4 +85,26 @@ functionFrom zero k start end = 0
 functionFrom (suc n) k start end = if′ (isFunctionEntry k && hasSpan k start end) k (functionFrom n (suc k) start end)
 
 unfoldable pub functionNamed : ℕ → ℕ → ℕ
-functionNamed start end = functionFrom 9 1 start end
+functionNamed start end = functionFrom entryCount 1 start end
+
+-- ---- what a function gives and takes
+
+abbrev pub parameterAs : ℕ → ℕ → ℕ → Parameter
+parameterAs ty start end = record { ty = ty; start = start; end = end }
+
+abbrev pub signatureAs : ℕ → ℕ → Parameter → Parameter → Signature
+signatureAs gives params first second = record { gives = gives; params = params; first = first; second = second }
+
+-- a parameter that is not there
+abbrev pub noParam : Param
+noParam = param 0 0 tyVoid
+
+-- how many parameters a function has at most (`FewParams`: language)
+abbrev pub mostParams : ℕ
+mostParams = 2
+
+abbrev pub paramOf : List Param → ℕ → Parameter
+paramOf ps i = parameterAs (tyKind (getD ps i noParam .type)) (getD ps i noParam .start) (getD ps i noParam .end)
+
+unfoldable pub signatureOf : Entry → Signature
+signatureOf e = signatureAs (tyKind (e .gives)) (length (e .params)) (paramOf (e .params) 0) (paramOf (e .params) 1)

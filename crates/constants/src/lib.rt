@@ -2,12 +2,29 @@
 // module's entries.
 //
 // An entry is named by its number, from 1 on; 0 is the root. A row has the number of the module that holds the entry,
-// where its name starts and ends in the text, and its value as three words, which are 0 for a module.
+// where its name starts and ends in the text, and its value as three words, which are 0 for a module. What a function takes and
+// gives is answered by its number: judging asks for it in each call, and a copy of a table would lie on the stack at each level.
 ghost use mathlib.Core.Path.{_≡_};
 ghost use Prim.Native.Nat.{_+_, _*_, _<_, _≤_};
-ghost use Rattle.language.specs.Values.{tableText, lookup};
-ghost use Rattle.constants.specs.Constants.{entryWidth, entryCount, tableRows, orZero, isHit, entryWord, NameText, isModule, isFunctionEntry, hasSpan, functionNamed};
+ghost use Rattle.language.specs.Values.{tableText, lookup, entryAt};
+ghost use Rattle.constants.specs.Constants.{entryWidth, entryCount, tableRows, orZero, isHit, entryWord, NameText, isModule, isFunctionEntry, hasSpan, functionNamed, parameterAs, signatureAs, signatureOf};
 use rows::Ty;
+
+// A parameter of a function: the number of its type, and where its name starts and ends in the table's text.
+pub struct Parameter {
+    pub ty: u64,
+    pub start: u64,
+    pub end: u64,
+}
+
+// What a function gives and takes: the number of a type, how many parameters there are, and two of them. What is no function
+// gives `VOID` and takes none; parameters that are not there have the type `VOID` and no name.
+pub struct Signature {
+    pub gives: u64,
+    pub params: u64,
+    pub first: Parameter,
+    pub second: Parameter,
+}
 
 pub struct Constants {
     pub rows: [u64; Constants::WORDS],
@@ -15,20 +32,40 @@ pub struct Constants {
 }
 
 impl Constants {
-    pub const ENTRIES: usize = 9;
+    pub const ENTRIES: usize = 14;
+
     pub const ROW_WORDS: usize = 6;
+
     pub const WORDS: usize = Constants::ENTRIES * Constants::ROW_WORDS;
-    pub const BYTES: usize = 38;
+
+    pub const BYTES: usize = 82;
 
     // The number of the last entry.
     pub const LAST: u64 = Constants::ENTRIES as u64;
 
     // The words of a row, after the module's number.
     pub const NAME_START: usize = 1;
+
     pub const NAME_END: usize = 2;
+
     pub const KIND: usize = 3;
+
     pub const LOW: usize = 4;
+
     pub const HIGH: usize = 5;
+
+    // The numbers of the functions.
+    pub const PING: u64 = 7;
+
+    pub const PAUSE: u64 = 10;
+
+    pub const BURST: u64 = 11;
+
+    pub const MARK: u64 = 12;
+
+    pub const PICK: u64 = 13;
+
+    pub const HOST: u64 = 14;
 
     // A copy of the table, to be lent: a constant array is made anew wherever it is named.
     pub fn new() -> Self
@@ -42,17 +79,28 @@ impl Constants {
                 1, 13, 16, Ty::U32, 70000, 0, // BIG
                 1, 16, 18, Ty::BOOL, 1, 0, // ON
                 1, 18, 24, Ty::TABLE_BYTES, 24, 26, // BANNER
-                1, 26, 30, Ty::FUNCTION, 7, 0, // ping
+                1, 26, 30, Ty::FUNCTION, Constants::PING, 0, // ping
                 1, 30, 34, Ty::NONE, 0, 0, // deep
                 8, 34, 38, Ty::U8, 0, 0, // ZERO
+                1, 38, 43, Ty::FUNCTION, Constants::PAUSE, 0, // pause
+                1, 47, 52, Ty::FUNCTION, Constants::BURST, 0, // burst
+                1, 58, 62, Ty::FUNCTION, Constants::MARK, 0, // mark
+                1, 64, 68, Ty::FUNCTION, Constants::PICK, 0, // pick
+                1, 72, 76, Ty::FUNCTION, Constants::HOST, 0, // host
             ],
-            text: *b"benchHTTPLOOPBIGONBANNERokpingdeepZERO",
+            text: *b"benchHTTPLOOPBIGONBANNERokpingdeepZEROpausetimebursttobodymarkonpickporthostnumber",
         }
     }
 }
 
 // A name that a diagnostic shows: a part of the table's text or of the source.
-pub fn name_text<'a>(from_table: bool, source: &'a [u8], text: &'a [u8], a: usize, e: usize) -> &'a [u8]
+pub fn name_text<'a>(
+    from_table: bool,
+    source: &'a [u8],
+    text: &'a [u8],
+    a: usize,
+    e: usize,
+) -> &'a [u8]
     ensures { λ r. ⌜ NameText «from_table» (now (source .entry)) (now (text .entry)) a e (now r) ⌝ }
 {
     if from_table {
@@ -159,4 +207,44 @@ pub fn function_named(rows: &[u64; Constants::WORDS], start: u64, end: u64) -> u
         k += 1;
     }
     0
+}
+
+// ---- what a function gives and takes
+
+fn param(ty: u64, start: u64, end: u64) -> Parameter
+    ensures { λ r. ⌜ r ≡ parameterAs ty start end ⌝ }
+{
+    Parameter { ty, start, end }
+}
+
+fn takes(gives: u64, params: u64, first: Parameter, second: Parameter) -> Signature
+    ensures { λ r. ⌜ r ≡ signatureAs gives params first second ⌝ }
+{
+    Signature {
+        gives,
+        params,
+        first,
+        second,
+    }
+}
+
+// What the entry numbered k gives and takes.
+pub fn signature_of(k: u64) -> Signature
+    ensures { λ r. ⌜ r ≡ signatureOf (entryAt k) ⌝ }
+{
+    let none = param(Ty::VOID, 0, 0);
+    match k {
+        Constants::PING => takes(Ty::PKT, 1, param(Ty::IP4, 52, 54), none),
+        Constants::PAUSE => takes(Ty::TIME_JUMP, 1, param(Ty::U32, 43, 47), none),
+        Constants::BURST => takes(
+            Ty::PKT_GEN,
+            2,
+            param(Ty::SOCK4, 52, 54),
+            param(Ty::BYTES, 54, 58),
+        ),
+        Constants::MARK => takes(Ty::VOID, 1, param(Ty::BOOL, 62, 64), none),
+        Constants::PICK => takes(Ty::U32, 1, param(Ty::U16, 68, 72), none),
+        Constants::HOST => takes(Ty::IP4, 1, param(Ty::U8, 76, 82), none),
+        _ => takes(Ty::VOID, 0, none, none),
+    }
 }

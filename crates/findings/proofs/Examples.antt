@@ -4,10 +4,10 @@ use Prim.Native.Nat.{ℕ}
 use Rattle.rows.specs.declared.layout.DiagnosticRow.{DiagnosticRow}
 use Rattle.language.specs.Values.{entries}
 use Rattle.constants.specs.Constants.{isModule, isFunctionEntry, hasSpan, functionFrom, functionNamed}
-use Rattle.findings.specs.declared.What.the-variants.{UnknownItem, DiscardedValue}
+use Rattle.findings.specs.declared.What.the-variants.{UnknownItem, DiscardedValue, Overflow}
 use Rattle.findings.specs.declared.Read.the-variants.{Is, Nothing}
 use Rattle.findings.specs.Findings.{severityNumber, showsName, placed, typeText, rowOf}
-use Rattle.findings.specs.Reading.{soundType, soundDiagnostic, sameRow, typeIn, guessBy, confirmed, readOf}
+use Rattle.findings.specs.Reading.{isPlain, isType, soundType, soundDiagnostic, sameRow, typeIn, guessBy, confirmed, readOf}
 
 -- a row at line 7, column 8, of statement 9, by its severity, its kind, its text, its type and its first number
 row : ℕ → ℕ → ℕ → ℕ → ℕ → ℕ → ℕ → DiagnosticRow
@@ -46,3 +46,8 @@ function = refl
 no-function : readOf (row 2 24 2 30 34 14 0) ≡ Nothing
 unfolding row readOf guessBy placed showsName confirmed soundDiagnostic soundType isFunctionEntry hasSpan functionFrom functionNamed typeIn typeText entries sameRow rowOf severityNumber
 no-function = refl
+
+-- `bench::pick(bench::pick(1));`: a u32 is passed for a u16, which is a warning and no error
+overflow : (readOf (row 2 26 0 0 0 5 4) ≡ Is (record { line = 7; column = 8; start = 0; end = 0; what = Overflow (record { kind = 5; entry = 0 }) 4 })) × (readOf (row 1 26 0 0 0 5 4) ≡ Nothing)
+unfolding row readOf guessBy placed showsName confirmed soundDiagnostic isPlain isType soundType typeIn typeText sameRow rowOf severityNumber
+overflow = (refl, refl)

@@ -34,9 +34,12 @@ module _ (t : «Type») {b : Bool} where
   unfolding soundType
   plain-type h e = rw (ne-eqb _ _ h, e)
 
+pub sound-as : {v w : What} {b : Bool} → v ≡ w → b ≡ soundWhat w → b ≡ soundWhat v
+sound-as h e = e ∙ sym (ap soundWhat h)
+
 -- the tags of the kinds of which every finding can be shown
 abbrev free : List ℕ
-free = 0 ∷ 2 ∷ 3 ∷ 4 ∷ 5 ∷ 6 ∷ 9 ∷ 10 ∷ []
+free = 0 ∷ 2 ∷ 3 ∷ 4 ∷ 5 ∷ 6 ∷ 13 ∷ 14 ∷ 15 ∷ []
 
 pub always-sound : (w : What) → OneOf free (tagOf what.the-type w) → true ≡ soundWhat w
 always-sound what-is.UnknownName h = refl
@@ -48,10 +51,16 @@ always-sound what-is.NotAValue h = refl
 always-sound (what-is.AlreadyBound l c) h = refl
 always-sound (what-is.NoMembers t) h = absurd (strange free 7 refl h)
 always-sound (what-is.OperandType x n t) h = absurd (strange free 8 refl h)
+always-sound (what-is.NotCallable t) h = absurd (strange free 9 refl h)
+always-sound (what-is.TooManyArgs f a b) h = absurd (strange free 10 refl h)
+always-sound (what-is.TooFewArgs f a b) h = absurd (strange free 11 refl h)
+always-sound (what-is.ArgType f i n t) h = absurd (strange free 12 refl h)
+always-sound what-is.VoidValue h = refl
 always-sound what-is.IntegralTooLarge h = refl
 always-sound what-is.MultipleImports h = refl
-always-sound (what-is.DiscardedValue t) h = absurd (strange free 11 refl h)
-always-sound (what-is.Truncated n t) h = absurd (strange free 12 refl h)
+always-sound (what-is.DiscardedValue t) h = absurd (strange free 16 refl h)
+always-sound (what-is.Truncated n t) h = absurd (strange free 17 refl h)
+always-sound (what-is.Overflow t n) h = absurd (strange free 18 refl h)
 
 -- ---- guesses
 
@@ -80,24 +89,30 @@ module _ (r : DiagnosticRow) where
   by-kind h e = e ∙ ap (λ (k : ℕ). guessBy k r) (sym h)
 
   -- a kind that no finding has
-  pub no-kind : ((((((((((((Unit {0} × (r .kind ≡ 1 → ⊥)) × (r .kind ≡ 2 → ⊥)) × (r .kind ≡ 4 → ⊥)) × (r .kind ≡ 5 → ⊥)) × (r .kind ≡ 6 → ⊥)) × (r .kind ≡ 7 → ⊥)) × (r .kind ≡ 8 → ⊥)) × (r .kind ≡ 9 → ⊥)) × (r .kind ≡ 10 → ⊥)) × (r .kind ≡ 22 → ⊥)) × (r .kind ≡ 23 → ⊥)) × (r .kind ≡ 24 → ⊥)) × (r .kind ≡ 25 → ⊥)
+  pub no-kind : ((((((((((((((((((Unit {0} × (r .kind ≡ 1 → ⊥)) × (r .kind ≡ 2 → ⊥)) × (r .kind ≡ 4 → ⊥)) × (r .kind ≡ 5 → ⊥)) × (r .kind ≡ 6 → ⊥)) × (r .kind ≡ 7 → ⊥)) × (r .kind ≡ 8 → ⊥)) × (r .kind ≡ 9 → ⊥)) × (r .kind ≡ 10 → ⊥)) × (r .kind ≡ 11 → ⊥)) × (r .kind ≡ 12 → ⊥)) × (r .kind ≡ 13 → ⊥)) × (r .kind ≡ 19 → ⊥)) × (r .kind ≡ 21 → ⊥)) × (r .kind ≡ 22 → ⊥)) × (r .kind ≡ 23 → ⊥)) × (r .kind ≡ 24 → ⊥)) × (r .kind ≡ 25 → ⊥)) × (r .kind ≡ 26 → ⊥)
       → guess-is.Nothing ≡ guessOf r
   unfolding guessBy
   no-kind h =
       rw (
-        ne-eqb (r .kind) 1 (h .0 .0 .0 .0 .0 .0 .0 .0 .0 .0 .0 .0 .1),
-        ne-eqb (r .kind) 2 (h .0 .0 .0 .0 .0 .0 .0 .0 .0 .0 .0 .1),
-        ne-eqb (r .kind) 4 (h .0 .0 .0 .0 .0 .0 .0 .0 .0 .0 .1),
-        ne-eqb (r .kind) 5 (h .0 .0 .0 .0 .0 .0 .0 .0 .0 .1),
-        ne-eqb (r .kind) 6 (h .0 .0 .0 .0 .0 .0 .0 .0 .1),
-        ne-eqb (r .kind) 7 (h .0 .0 .0 .0 .0 .0 .0 .1),
-        ne-eqb (r .kind) 8 (h .0 .0 .0 .0 .0 .0 .1),
-        ne-eqb (r .kind) 9 (h .0 .0 .0 .0 .0 .1),
-        ne-eqb (r .kind) 10 (h .0 .0 .0 .0 .1),
-        ne-eqb (r .kind) 22 (h .0 .0 .0 .1),
-        ne-eqb (r .kind) 23 (h .0 .0 .1),
-        ne-eqb (r .kind) 24 (h .0 .1),
-        ne-eqb (r .kind) 25 (h .1),
+        ne-eqb (r .kind) 1 (h .0 .0 .0 .0 .0 .0 .0 .0 .0 .0 .0 .0 .0 .0 .0 .0 .0 .0 .1),
+        ne-eqb (r .kind) 2 (h .0 .0 .0 .0 .0 .0 .0 .0 .0 .0 .0 .0 .0 .0 .0 .0 .0 .1),
+        ne-eqb (r .kind) 4 (h .0 .0 .0 .0 .0 .0 .0 .0 .0 .0 .0 .0 .0 .0 .0 .0 .1),
+        ne-eqb (r .kind) 5 (h .0 .0 .0 .0 .0 .0 .0 .0 .0 .0 .0 .0 .0 .0 .0 .1),
+        ne-eqb (r .kind) 6 (h .0 .0 .0 .0 .0 .0 .0 .0 .0 .0 .0 .0 .0 .0 .1),
+        ne-eqb (r .kind) 7 (h .0 .0 .0 .0 .0 .0 .0 .0 .0 .0 .0 .0 .0 .1),
+        ne-eqb (r .kind) 8 (h .0 .0 .0 .0 .0 .0 .0 .0 .0 .0 .0 .0 .1),
+        ne-eqb (r .kind) 9 (h .0 .0 .0 .0 .0 .0 .0 .0 .0 .0 .0 .1),
+        ne-eqb (r .kind) 10 (h .0 .0 .0 .0 .0 .0 .0 .0 .0 .0 .1),
+        ne-eqb (r .kind) 11 (h .0 .0 .0 .0 .0 .0 .0 .0 .0 .1),
+        ne-eqb (r .kind) 12 (h .0 .0 .0 .0 .0 .0 .0 .0 .1),
+        ne-eqb (r .kind) 13 (h .0 .0 .0 .0 .0 .0 .0 .1),
+        ne-eqb (r .kind) 19 (h .0 .0 .0 .0 .0 .0 .1),
+        ne-eqb (r .kind) 21 (h .0 .0 .0 .0 .0 .1),
+        ne-eqb (r .kind) 22 (h .0 .0 .0 .0 .1),
+        ne-eqb (r .kind) 23 (h .0 .0 .0 .1),
+        ne-eqb (r .kind) 24 (h .0 .0 .1),
+        ne-eqb (r .kind) 25 (h .0 .1),
+        ne-eqb (r .kind) 26 (h .1),
       )
 
   -- ---- whether it was that

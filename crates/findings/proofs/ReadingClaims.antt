@@ -17,7 +17,7 @@ use Rattle.findings.specs.declared.Diagnostic.{Diagnostic}
 use Rattle.findings.specs.declared.Read.the-variants.{Is, Nothing}
 use Rattle.findings.specs.declared.reading.Guess.{Guess}
 use Rattle.findings.specs.declared.reading.Guess.the-variants as guess-is
-use Rattle.findings.specs.Findings.{severityNumber, showsName, placed, typeText, typedRow, rowOf, numbered}
+use Rattle.findings.specs.Findings.{severityNumber, showsName, placed, typeText, functionType, typedRow, rowOf, numbered}
 use Rattle.findings.specs.Reading.{isPlain, isType, soundType, soundDiagnostic, sameRow, typeIn, operandIn, truncatedIn, guessBy, guessOf, foundIn, confirmed, readBy, readOf, ReadsBack, ReadsOnly, ReadsNothing}
 
 -- ---- rows word by word
@@ -96,6 +96,10 @@ type-own : (m : ℕ) (d : Diagnostic) (t : «Type») (a b c : ℕ) → soundType
 unfolding typeIn
 type-own m d t a b c h = rw (entry-own t h)
 
+function-sound : (f : ℕ) → isFunctionEntry f ≡ true → soundType (functionType f) ≡ true
+unfolding soundType
+function-sound f h = h
+
 abbrev found : ℕ → ℕ → ℕ → ℕ → What → Diagnostic
 found l c a e w = record { line = l; column = c; start = a; end = e; what = w }
 
@@ -118,6 +122,14 @@ typed-own m l c a e f t x y z h n g p =
       found = p ∙ spanless l c a e (f t) n;
     }
 
+-- one that shows a function, by its entry
+function-own-row : (m l c a e : ℕ) (f : ℕ → What) (k x y : ℕ) → let d = found l c a e (f k) in isFunctionEntry k && (eqb a 0 && eqb e 0) ≡ true
+    → guessOf (numbered m (rowOf d)) ≡ guess-is.Is (f (typeIn (numbered m (typedRow d (functionType k) x y 0)) .entry))
+    → foundIn (numbered m (rowOf d)) (f k) ≡ found l c 0 0 (f k) → Own m d
+function-own-row m l c a e f k x y h g p =
+    let n = both (isFunctionEntry k) (eqb a 0 && eqb e 0) h in
+    typed-own m l c a e (λ t. f (t .entry)) (functionType k) x y 0 (function-sound k (n .0)) (n .1) g p
+
 own : (m l c a e : ℕ) (w : What) → soundDiagnostic (found l c a e w) ≡ true → Own m (found l c a e w)
 unfolding soundDiagnostic showsName placed severityNumber rowOf guessBy operandIn truncatedIn
 own m l c a e what-is.UnknownName h = record { guess = refl; found = refl }
@@ -128,16 +140,28 @@ own m l c a e what-is.NotAModule h = record { guess = refl; found = refl }
 own m l c a e what-is.NotAValue h = record { guess = refl; found = refl }
 own m l c a e (what-is.AlreadyBound x y) h = record { guess = refl; found = refl }
 own m l c a e what-is.MultipleImports h = record { guess = refl; found = refl }
+own m l c a e what-is.VoidValue h = record { guess = refl; found = spanless l c a e what-is.VoidValue h }
 own m l c a e what-is.IntegralTooLarge h = record { guess = refl; found = spanless l c a e what-is.IntegralTooLarge h }
 own m l c a e (what-is.NoMembers t) h =
     let p = both (soundType t) (eqb a 0 && eqb e 0) h in
     typed-own m l c a e what-is.NoMembers t 0 0 0 (p .0) (p .1) refl refl
+own m l c a e (what-is.NotCallable t) h =
+    let p = both (soundType t) (eqb a 0 && eqb e 0) h in
+    typed-own m l c a e what-is.NotCallable t 0 0 0 (p .0) (p .1) refl refl
+own m l c a e (what-is.TooManyArgs f x y) h = function-own-row m l c a e (λ k. what-is.TooManyArgs k x y) f x y h refl refl
+own m l c a e (what-is.TooFewArgs f x y) h = function-own-row m l c a e (λ k. what-is.TooFewArgs k x y) f x y h refl refl
+own m l c a e (what-is.ArgType f i w t) h =
+    let p = both ((isFunctionEntry f && isType w) && soundType t) (eqb a 0 && eqb e 0) h in
+    typed-own m l c a e (what-is.ArgType f i w) t f i w (both (isFunctionEntry f && isType w) (soundType t) (p .0) .1) (p .1) refl refl
 own m l c a e (what-is.DiscardedValue t) h =
     let p = both (soundType t) (eqb a 0 && eqb e 0) h in
     typed-own m l c a e what-is.DiscardedValue t 0 0 0 (p .0) (p .1) refl refl
 own m l c a e (what-is.Truncated n t) h =
     let p = both (ltb (n .hi) 9223372036854775808 && soundType t) (eqb a 0 && eqb e 0) h in
     typed-own m l c a e (what-is.Truncated n) t (n .lo) (n .hi) 0 (both (ltb (n .hi) 9223372036854775808) (soundType t) (p .0) .1) (p .1) refl refl
+own m l c a e (what-is.Overflow t w) h =
+    let p = both (soundType t && isType w) (eqb a 0 && eqb e 0) h in
+    typed-own m l c a e (λ u. what-is.Overflow u w) t w 0 0 (both (soundType t) (isType w) (p .0) .0) (p .1) refl refl
 own m l c a e (what-is.OperandType side-is.Left k t) h =
     let p = both (isType k && soundType t) (eqb a 0 && eqb e 0) h in
     typed-own m l c a e (what-is.OperandType side-is.Left k) t 1 k 1 (both (isType k) (soundType t) (p .0) .1) (p .1) refl refl

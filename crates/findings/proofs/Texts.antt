@@ -7,9 +7,9 @@ use borrow.Author.Tests.{eq-eqb, ne-eqb}
 use types.Run.{OneOf}
 use denote.Enum.Declared.{tagOf}
 use Rattle.language.specs.Integers.{u8, u16, u32, u64}
-use Rattle.language.specs.Values.{Ty, tyBool, tyInt, tyIp4, tySock4, tyBytes, tyFunction, tyInteger, entryAt}
+use Rattle.language.specs.Values.{Ty, tyVoid, tyBool, tyInt, tyIp4, tySock4, tyBytes, tyPkt, tyPktGen, tyTimeJump, tyFunction, tyInteger, entryAt}
 use Rattle.language.specs.Judgements as judgements
-use Rattle.language.specs.Judgements.{left, right, diag, unknownName, unknownItem, unknownModule, notImported, notAModule, notAValue, alreadyBound, noMembers, operandType, integralTooLarge, multipleImports, discardedValue, truncated}
+use Rattle.language.specs.Judgements.{left, right, diag, unknownName, unknownItem, unknownModule, notImported, notAModule, notAValue, alreadyBound, noMembers, operandType, notCallable, tooManyArgs, tooFewArgs, argType, voidValue, integralTooLarge, multipleImports, discardedValue, truncated, overflow}
 use Rattle.language.specs.Findings.{tyText, tyEntry, diagRow}
 use Rattle.language.specs.Numbers.{tokenOf}
 use Rattle.rows.specs.declared.layout.DiagnosticRow.{DiagnosticRow}
@@ -40,7 +40,10 @@ shown-text t {rows} e h p q =
     let s : entryWord rows (t .entry) 2 ≡ entryAt (t .entry) .end = rw e (w .end) in
     rw (eq-eqb _ _ h, p, q, r, s)
 
--- ---- rows by the kind
+-- ---- by the kind
+
+pub kind-as : {v w : What} → v ≡ w → kindNumber w ≡ kindNumber v
+kind-as h = sym (ap kindNumber h)
 
 pub row-as : (d : Diagnostic) {r : DiagnosticRow} {w : What} → d .what ≡ w → r ≡ rowBy d w → r ≡ rowOf d
 unfolding rowOf
@@ -48,7 +51,7 @@ row-as d h e = e ∙ ap (rowBy d) (sym h)
 
 -- the tags of the kinds that show their name and no number
 abbrev only-names : List ℕ
-only-names = 0 ∷ 2 ∷ 3 ∷ 4 ∷ 5 ∷ 10 ∷ []
+only-names = 0 ∷ 2 ∷ 3 ∷ 4 ∷ 5 ∷ 15 ∷ []
 
 only-named : (d : Diagnostic) (w : What) → OneOf only-names (tagOf what.the-type w) → namedRow d 0 0 ≡ rowBy d w
 only-named d what-is.UnknownName h = refl
@@ -60,10 +63,16 @@ only-named d what-is.NotAValue h = refl
 only-named d (what-is.AlreadyBound l c) h = absurd (strange only-names 6 refl h)
 only-named d (what-is.NoMembers t) h = absurd (strange only-names 7 refl h)
 only-named d (what-is.OperandType x n t) h = absurd (strange only-names 8 refl h)
-only-named d what-is.IntegralTooLarge h = absurd (strange only-names 9 refl h)
+only-named d (what-is.NotCallable t) h = absurd (strange only-names 9 refl h)
+only-named d (what-is.TooManyArgs f a b) h = absurd (strange only-names 10 refl h)
+only-named d (what-is.TooFewArgs f a b) h = absurd (strange only-names 11 refl h)
+only-named d (what-is.ArgType f i n t) h = absurd (strange only-names 12 refl h)
+only-named d what-is.VoidValue h = absurd (strange only-names 13 refl h)
+only-named d what-is.IntegralTooLarge h = absurd (strange only-names 14 refl h)
 only-named d what-is.MultipleImports h = refl
-only-named d (what-is.DiscardedValue t) h = absurd (strange only-names 11 refl h)
-only-named d (what-is.Truncated n t) h = absurd (strange only-names 12 refl h)
+only-named d (what-is.DiscardedValue t) h = absurd (strange only-names 16 refl h)
+only-named d (what-is.Truncated n t) h = absurd (strange only-names 17 refl h)
+only-named d (what-is.Overflow t n) h = absurd (strange only-names 18 refl h)
 
 pub name-row : (d : Diagnostic) {r : DiagnosticRow} → OneOf only-names (tagOf what.the-type (d .what)) → r ≡ namedRow d 0 0 → r ≡ rowOf d
 name-row d h e = row-as d refl (e ∙ only-named d (d .what) h)
@@ -72,6 +81,7 @@ name-row d h e = row-as d refl (e ∙ only-named d (d .what) h)
 
 type-shown : (t : Ty) → typeText (typeAs t) ≡ record { from = tyText t; start = entryAt (tyEntry t) .start; end = entryAt (tyEntry t) .end }
 unfolding typeText
+type-shown tyVoid = refl
 type-shown tyBool = refl
 type-shown (tyInt u8) = refl
 type-shown (tyInt u16) = refl
@@ -80,6 +90,9 @@ type-shown (tyInt u64) = refl
 type-shown tyIp4 = refl
 type-shown tySock4 = refl
 type-shown tyBytes = refl
+type-shown tyPkt = refl
+type-shown tyPktGen = refl
+type-shown tyTimeJump = refl
 type-shown (tyFunction k) = refl
 type-shown tyInteger = refl
 
@@ -108,7 +121,13 @@ diagnostic-row s n at (alreadyBound t) = refl
 diagnostic-row s n at (noMembers t) = rw (type-shown t)
 diagnostic-row s n at (operandType left t u) = rw (type-shown u)
 diagnostic-row s n at (operandType right t u) = rw (type-shown u)
+diagnostic-row s n at (notCallable t) = rw (type-shown t)
+diagnostic-row s n at (tooManyArgs f a b) = rw (type-shown (tyFunction f))
+diagnostic-row s n at (tooFewArgs f a b) = rw (type-shown (tyFunction f))
+diagnostic-row s n at (argType f i t u) = rw (type-shown u)
+diagnostic-row s n at voidValue = refl
 diagnostic-row s n at integralTooLarge = refl
 diagnostic-row s n at multipleImports = refl
 diagnostic-row s n at (discardedValue t) = rw (type-shown t)
 diagnostic-row s n at (truncated m t) = rw (type-shown t)
+diagnostic-row s n at (overflow t u) = rw (type-shown t)

@@ -2,10 +2,9 @@
 -- table.
 use Prim.Native.Nat.{ℕ, _+_}
 use mathlib.Core.Path.{_≡_}
-use mathlib.Core.Bool.{Bool, not, _||_}
+use mathlib.Core.Bool.{Bool, _||_}
 use mathlib.Core.List.{List, [], _∷_}
-use lib.Dec.{eqb}
-use lib.ListN.{length}
+use lib.Dec.{eqb, leb}
 use Rattle.table.specs.Table.{putRow}
 use Rattle.wide.specs.Wide.{wideOf}
 use Rattle.rows.specs.declared.layout.DiagnosticRow.{DiagnosticRow}
@@ -15,10 +14,10 @@ use Rattle.rows.specs.declared.types.Type.{«Type»}
 use Rattle.rows.specs.Tokens.{tokenAs}
 use Rattle.language.specs.Choice.{if′}
 use Rattle.language.specs.Tokens as tokens
-use Rattle.language.specs.Values.{Ty, entryAt}
+use Rattle.language.specs.Values.{Ty, tyKind, entryAt}
 use Rattle.language.specs.Judgements as judgements
-use Rattle.language.specs.Judgements.{Diag, Held, errorsIn, warningsIn}
-use Rattle.language.specs.Findings.{tyKind, tyEntry, diagRow, stmtRow}
+use Rattle.language.specs.Judgements.{Diag, errorsIn, warningsIn}
+use Rattle.language.specs.Findings.{tyEntry, diagRow}
 use Rattle.language.specs.Numbers.{tokenOf, sum}
 use Rattle.findings.specs.declared.Side.{Side}
 use Rattle.findings.specs.declared.Side.the-variants as side-is
@@ -43,18 +42,24 @@ kindNumber what-is.NotAValue = 7
 kindNumber (what-is.AlreadyBound l c) = 8
 kindNumber (what-is.NoMembers t) = 9
 kindNumber (what-is.OperandType s w t) = 10
+kindNumber (what-is.NotCallable t) = 11
+kindNumber (what-is.TooManyArgs f a b) = 12
+kindNumber (what-is.TooFewArgs f a b) = 13
+kindNumber (what-is.ArgType f i w t) = 19
+kindNumber what-is.VoidValue = 21
 kindNumber what-is.IntegralTooLarge = 22
 kindNumber what-is.MultipleImports = 23
 kindNumber (what-is.DiscardedValue t) = 24
 kindNumber (what-is.Truncated n t) = 25
+kindNumber (what-is.Overflow t w) = 26
 
 -- of a kind: 1 an error, 2 a warning
 unfoldable pub severityNumber : ℕ → ℕ
-severityNumber k = if′ ((eqb k 23 || eqb k 24) || eqb k 25) 2 1
+severityNumber k = if′ (((eqb k 23 || eqb k 24) || eqb k 25) || eqb k 26) 2 1
 
 -- whether a kind shows the name of its token
 unfoldable pub showsName : ℕ → Bool
-showsName k = not ((((eqb k 9 || eqb k 10) || eqb k 24) || eqb k 25) || eqb k 22)
+showsName k = leb k 8 || eqb k 23
 
 -- ---- the language's findings
 
@@ -76,10 +81,16 @@ whatAs tokenAt judgements.notAValue = what-is.NotAValue
 whatAs tokenAt (judgements.alreadyBound t) = what-is.AlreadyBound (tokenAt t .line) (tokenAt t .column)
 whatAs tokenAt (judgements.noMembers ty) = what-is.NoMembers (typeAs ty)
 whatAs tokenAt (judgements.operandType s wanted found) = what-is.OperandType (sideAs s) (tyKind wanted) (typeAs found)
+whatAs tokenAt (judgements.notCallable ty) = what-is.NotCallable (typeAs ty)
+whatAs tokenAt (judgements.tooManyArgs f many wanted) = what-is.TooManyArgs f many wanted
+whatAs tokenAt (judgements.tooFewArgs f many wanted) = what-is.TooFewArgs f many wanted
+whatAs tokenAt (judgements.argType f i wanted found) = what-is.ArgType f i (tyKind wanted) (typeAs found)
+whatAs tokenAt judgements.voidValue = what-is.VoidValue
 whatAs tokenAt judgements.integralTooLarge = what-is.IntegralTooLarge
 whatAs tokenAt judgements.multipleImports = what-is.MultipleImports
 whatAs tokenAt (judgements.discardedValue ty) = what-is.DiscardedValue (typeAs ty)
 whatAs tokenAt (judgements.truncated n ty) = what-is.Truncated (wideOf n) (typeAs ty)
+whatAs tokenAt (judgements.overflow found wanted) = what-is.Overflow (typeAs found) (tyKind wanted)
 
 -- what was found at a place, with the span of the name where the kind shows one
 unfoldable pub placed : ℕ → ℕ → ℕ → ℕ → What → Diagnostic
@@ -101,6 +112,10 @@ unfoldable pub typeText : «Type» → Text
 typeText t =
     if′ (eqb (t .kind) 14) (record { from = 2; start = entryAt (t .entry) .start; end = entryAt (t .entry) .end })
     (record { from = 0; start = 0; end = 0 })
+
+-- the type of a function, by its entry
+abbrev pub functionType : ℕ → «Type»
+functionType f = record { kind = 14; entry = f }
 
 -- a row by the text, the type and the numbers that it shows
 abbrev pub shownRow : Diagnostic → Text → ℕ → ℕ → ℕ → ℕ → DiagnosticRow
@@ -140,10 +155,16 @@ rowBy d what-is.NotAValue = namedRow d 0 0
 rowBy d (what-is.AlreadyBound l c) = namedRow d l c
 rowBy d (what-is.NoMembers t) = typedRow d t 0 0 0
 rowBy d (what-is.OperandType s w t) = typedRow d t (sideNumber s) w 1
+rowBy d (what-is.NotCallable t) = typedRow d t 0 0 0
+rowBy d (what-is.TooManyArgs f many wanted) = typedRow d (functionType f) many wanted 0
+rowBy d (what-is.TooFewArgs f many wanted) = typedRow d (functionType f) many wanted 0
+rowBy d (what-is.ArgType f i wanted t) = typedRow d t f i wanted
+rowBy d what-is.VoidValue = bareRow d
 rowBy d what-is.IntegralTooLarge = bareRow d
 rowBy d what-is.MultipleImports = namedRow d 0 0
 rowBy d (what-is.DiscardedValue t) = typedRow d t 0 0 0
 rowBy d (what-is.Truncated n t) = typedRow d t (n .lo) (n .hi) 0
+rowBy d (what-is.Overflow t wanted) = typedRow d t wanted 0 0
 
 unfoldable pub rowOf : Diagnostic → DiagnosticRow
 rowOf d = rowBy d (d .what)
@@ -190,6 +211,7 @@ plusFinding c w =
     (record {
       used = c .used;
       imported = c .imported;
+      slots = c .slots;
       errors = c .errors + 1;
       warnings = c .warnings;
       statements = c .statements;
@@ -199,6 +221,7 @@ plusFinding c w =
     (record {
       used = c .used;
       imported = c .imported;
+      slots = c .slots;
       errors = c .errors;
       warnings = c .warnings + 1;
       statements = c .statements;
@@ -216,6 +239,7 @@ plusSearch c l =
     record {
       used = c .used;
       imported = c .imported;
+      slots = c .slots;
       errors = c .errors;
       warnings = c .warnings;
       statements = c .statements;
@@ -223,15 +247,16 @@ plusSearch c l =
       comparisons = c .comparisons + l;
     }
 
--- the counts after these findings, statements and searches
-unfoldable pub added : Counts → List Diag → List Held → List ℕ → Counts
-added c ds hs ls =
+-- the counts after these findings and searches
+unfoldable pub added : Counts → List Diag → List ℕ → Counts
+added c ds ls =
     record {
       used = c .used;
       imported = c .imported;
+      slots = c .slots;
       errors = c .errors + errorsIn ds;
       warnings = c .warnings + warningsIn ds;
-      statements = c .statements + length hs;
+      statements = c .statements;
       number = c .number;
       comparisons = c .comparisons + sum ls;
     }
@@ -243,9 +268,8 @@ pub record Reports (c : Counts) (d : Diagnostic) (x : List ℕ) (c′ : Counts) 
   pub counted : c′ ≡ plusFinding c (d .what)
   pub table : y ≡ putRow x (c .errors + c .warnings) (diagnosticRow (c .number) d)
 
--- what a step adds, from a leaf to the program: its findings, the statements that it holds and its searches, to the counts and to
--- the two tables, of diagnostics from x to y and of statements from u to v
-pub record Adds (s : List ℕ) (c : Counts) (x u : List ℕ) (c′ : Counts) (y v : List ℕ) (ds : List Diag) (hs : List Held) (ls : List ℕ) : Type 0 where
-  pub counted : c′ ≡ added c ds hs ls
+-- what a step adds, from a leaf to the program: its findings and its searches, to the counts and to the table of diagnostics, from x
+-- to y
+pub record Adds (s : List ℕ) (c : Counts) (x : List ℕ) (c′ : Counts) (y : List ℕ) (ds : List Diag) (ls : List ℕ) : Type 0 where
+  pub counted : c′ ≡ added c ds ls
   pub diags : y ≡ putRows (diagRow (tokenOf s)) x (c .errors + c .warnings) ds
-  pub stmts : v ≡ putRows (stmtRow (tokenOf s)) u (c .statements) hs

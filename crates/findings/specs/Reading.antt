@@ -21,7 +21,7 @@ use Rattle.findings.specs.Findings.{kindNumber, showsName, placed, rowOf
 
 -- the number of a type that shows no entry
 unfoldable pub isPlain : ℕ → Bool
-isPlain n = (leb 2 n && leb n 9) || eqb n 16
+isPlain n = (leb 1 n && leb n 12) || eqb n 16
 
 -- the number of a type
 unfoldable pub isType : ℕ → Bool
@@ -31,7 +31,7 @@ isType n = isPlain n || eqb n 14
 unfoldable pub soundType : «Type» → Bool
 soundType t = if′ (eqb (t .kind) 14) (isFunctionEntry (t .entry)) (isPlain (t .kind) && eqb (t .entry) 0)
 
--- an unknown item is missed in a module, and an integer is below 2^127
+-- an unknown item is missed in a module, what is called with arguments is a function, and an integer is below 2^127
 abbrev pub soundWhat : What → Bool
 soundWhat what-is.UnknownName = true
 soundWhat (what-is.UnknownItem m) = isModule m
@@ -42,10 +42,16 @@ soundWhat what-is.NotAValue = true
 soundWhat (what-is.AlreadyBound l c) = true
 soundWhat (what-is.NoMembers t) = soundType t
 soundWhat (what-is.OperandType s w t) = isType w && soundType t
+soundWhat (what-is.NotCallable t) = soundType t
+soundWhat (what-is.TooManyArgs f a b) = isFunctionEntry f
+soundWhat (what-is.TooFewArgs f a b) = isFunctionEntry f
+soundWhat (what-is.ArgType f i w t) = (isFunctionEntry f && isType w) && soundType t
+soundWhat what-is.VoidValue = true
 soundWhat what-is.IntegralTooLarge = true
 soundWhat what-is.MultipleImports = true
 soundWhat (what-is.DiscardedValue t) = soundType t
 soundWhat (what-is.Truncated n t) = ltb (n .hi) 9223372036854775808 && soundType t
+soundWhat (what-is.Overflow t w) = soundType t && isType w
 
 -- and where the kind shows no name there is no span
 unfoldable pub soundDiagnostic : Diagnostic → Bool
@@ -85,10 +91,16 @@ guessBy kind r =
     (if′ (eqb kind 8) (guess-is.Is (what-is.AlreadyBound (r .first) (r .second)))
     (if′ (eqb kind 9) (guess-is.Is (what-is.NoMembers (typeIn r)))
     (if′ (eqb kind 10) (operandIn r)
+    (if′ (eqb kind 11) (guess-is.Is (what-is.NotCallable (typeIn r)))
+    (if′ (eqb kind 12) (guess-is.Is (what-is.TooManyArgs (typeIn r .entry) (r .first) (r .second)))
+    (if′ (eqb kind 13) (guess-is.Is (what-is.TooFewArgs (typeIn r .entry) (r .first) (r .second)))
+    (if′ (eqb kind 19) (guess-is.Is (what-is.ArgType (r .first) (r .second) (r .third) (typeIn r)))
+    (if′ (eqb kind 21) (guess-is.Is what-is.VoidValue)
     (if′ (eqb kind 22) (guess-is.Is what-is.IntegralTooLarge)
     (if′ (eqb kind 23) (guess-is.Is what-is.MultipleImports)
     (if′ (eqb kind 24) (guess-is.Is (what-is.DiscardedValue (typeIn r)))
-    (if′ (eqb kind 25) (truncatedIn r) guess-is.Nothing))))))))))))
+    (if′ (eqb kind 25) (truncatedIn r)
+    (if′ (eqb kind 26) (guess-is.Is (what-is.Overflow (typeIn r) (r .first))) guess-is.Nothing))))))))))))))))))
 
 abbrev pub guessOf : DiagnosticRow → Guess
 guessOf r = guessBy (r .kind) r

@@ -2,7 +2,7 @@
 // place that counts a finding and stores its row.
 ghost use mathlib.Core.Path.{_≡_};
 ghost use Prim.Native.Nat.{_+_, _<_, _≤_};
-ghost use Rattle.findings.specs.Findings.{sideNumber, kindNumber, severityNumber, showsName, placed, atToken, typeText, namedRow, typedRow, bareRow, rowOf, shownRow, plusFinding, mostCompared, plusSearch, Reports};
+ghost use Rattle.findings.specs.Findings.{sideNumber, kindNumber, severityNumber, showsName, placed, atToken, typeText, functionType, namedRow, typedRow, bareRow, rowOf, shownRow, plusFinding, mostCompared, plusSearch, Reports};
 
 pub mod reading;
 
@@ -50,11 +50,21 @@ pub enum What {
     NoMembers(Type),
     // the side, the number of the type wanted, the type found
     OperandType(Side, u64, Type),
+    // the type found
+    NotCallable(Type),
+    // the function's entry, how many arguments are given, how many it takes
+    TooManyArgs(u64, u64, u64),
+    TooFewArgs(u64, u64, u64),
+    // the function's entry, the parameter's number from 0, the number of the type wanted, the type found
+    ArgType(u64, u64, u64, Type),
+    VoidValue,
     IntegralTooLarge,
     MultipleImports,
     DiscardedValue(Type),
     // the value, and the type that it was cut to
     Truncated(Wide, Type),
+    // the type found, and the number of the narrower one that it is used as
+    Overflow(Type, u64),
 }
 
 impl What {
@@ -78,6 +88,16 @@ impl What {
 
     pub const OPERAND_TYPE: u64 = 10;
 
+    pub const NOT_CALLABLE: u64 = 11;
+
+    pub const TOO_MANY_ARGS: u64 = 12;
+
+    pub const TOO_FEW_ARGS: u64 = 13;
+
+    pub const ARG_TYPE: u64 = 19;
+
+    pub const VOID_VALUE: u64 = 21;
+
     pub const INTEGRAL_TOO_LARGE: u64 = 22;
 
     pub const MULTIPLE_IMPORTS: u64 = 23;
@@ -85,6 +105,8 @@ impl What {
     pub const DISCARDED_VALUE: u64 = 24;
 
     pub const TRUNCATED: u64 = 25;
+
+    pub const OVERFLOW: u64 = 26;
 
     // The operator of an operand.
     pub const SLASH: u64 = 1;
@@ -102,10 +124,16 @@ impl What {
             What::AlreadyBound(_, _) => What::ALREADY_BOUND,
             What::NoMembers(_) => What::NO_MEMBERS,
             What::OperandType(_, _, _) => What::OPERAND_TYPE,
+            What::NotCallable(_) => What::NOT_CALLABLE,
+            What::TooManyArgs(_, _, _) => What::TOO_MANY_ARGS,
+            What::TooFewArgs(_, _, _) => What::TOO_FEW_ARGS,
+            What::ArgType(_, _, _, _) => What::ARG_TYPE,
+            What::VoidValue => What::VOID_VALUE,
             What::IntegralTooLarge => What::INTEGRAL_TOO_LARGE,
             What::MultipleImports => What::MULTIPLE_IMPORTS,
             What::DiscardedValue(_) => What::DISCARDED_VALUE,
             What::Truncated(_, _) => What::TRUNCATED,
+            What::Overflow(_, _) => What::OVERFLOW,
         }
     }
 }
@@ -138,11 +166,13 @@ pub enum Read {
     Nothing,
 }
 
-// How many names are bound and imported, how many errors and warnings there are, how many statements are held, the number of the
-// statement that is judged (1 for the first, 0 before it), and how many names were compared in searches among the bindings.
+// How many names are bound and imported, how many slots are taken, how many errors and warnings there are, how many rows the held
+// statements have, the number of the statement that is judged (1 for the first, 0 before it), and how many names were compared in
+// searches among the bindings.
 pub struct Counts {
     pub used: usize,
     pub imported: usize,
+    pub slots: usize,
     pub errors: usize,
     pub warnings: usize,
     pub statements: usize,
@@ -157,6 +187,7 @@ pub fn severity(kind: u64) -> u64
     if (kind == What::MULTIPLE_IMPORTS)
         | (kind == What::DISCARDED_VALUE)
         | (kind == What::TRUNCATED)
+        | (kind == What::OVERFLOW)
     {
         return Diagnostic::WARNING;
     }
@@ -167,10 +198,7 @@ pub fn severity(kind: u64) -> u64
 fn shows_name(kind: u64) -> bool
     ensures { λ r. ⌜ r ≡ showsName kind ⌝ }
 {
-    let typed = (kind == What::NO_MEMBERS)
-        | (kind == What::OPERAND_TYPE)
-        | (kind == What::DISCARDED_VALUE);
-    !(typed | (kind == What::TRUNCATED) | (kind == What::INTEGRAL_TOO_LARGE))
+    (kind <= What::ALREADY_BOUND) | (kind == What::MULTIPLE_IMPORTS)
 }
 
 // A finding at a place, with the span of its name where its kind shows one.
@@ -270,6 +298,16 @@ fn bare(d: Diagnostic) -> DiagnosticRow
     shown(d, text, Ty::NONE, 0, 0, 0)
 }
 
+// The type of a function, by its entry.
+fn function(f: u64) -> Type
+    ensures { λ r. ⌜ r ≡ functionType f ⌝ }
+{
+    Type {
+        kind: Ty::FUNCTION,
+        entry: f,
+    }
+}
+
 // A finding's row but for the number of its statement, which is 0 here.
 pub fn row_of(d: Diagnostic) -> DiagnosticRow
     ensures { λ r. ⌜ r ≡ rowOf d ⌝ }
@@ -280,9 +318,15 @@ pub fn row_of(d: Diagnostic) -> DiagnosticRow
         What::AlreadyBound(line, column) => named(d, line, column),
         What::NoMembers(ty) => typed(d, ty, 0, 0, 0),
         What::OperandType(side, wanted, ty) => typed(d, ty, side.number(), wanted, What::SLASH),
+        What::NotCallable(ty) => typed(d, ty, 0, 0, 0),
+        What::TooManyArgs(f, many, wanted) => typed(d, function(f), many, wanted, 0),
+        What::TooFewArgs(f, many, wanted) => typed(d, function(f), many, wanted, 0),
+        What::ArgType(f, i, wanted, ty) => typed(d, ty, f, i, wanted),
+        What::VoidValue => bare(d),
         What::IntegralTooLarge => bare(d),
         What::DiscardedValue(ty) => typed(d, ty, 0, 0, 0),
         What::Truncated(n, ty) => typed(d, ty, n.lo, n.hi, 0),
+        What::Overflow(ty, wanted) => typed(d, ty, wanted, 0, 0),
         _ => named(d, 0, 0),
     }
 }

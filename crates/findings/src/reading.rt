@@ -1,6 +1,6 @@
 // Reading a row of the diagnostic table back: what it was, or that no finding has such a row.
 ghost use mathlib.Core.Path.{_≡_};
-ghost use Rattle.constants.specs.Constants.{isModule};
+ghost use Rattle.constants.specs.Constants.{isModule, isFunctionEntry};
 ghost use Rattle.findings.specs.Reading.{isPlain, isType, soundType, soundWhat, soundDiagnostic, sameRow, typeIn, operandIn, truncatedIn, guessOf, confirmed, readOf};
 use crate::Diagnostic;
 use crate::Read;
@@ -24,7 +24,7 @@ enum Guess {
 fn is_plain(n: u64) -> bool
     ensures { λ r. ⌜ r ≡ isPlain n ⌝ }
 {
-    ((Ty::BOOL <= n) & (n <= Ty::BYTES)) | (n == Ty::INTEGER)
+    ((Ty::VOID <= n) & (n <= Ty::TIME_JUMP)) | (n == Ty::INTEGER)
 }
 
 fn is_type(n: u64) -> bool
@@ -33,14 +33,20 @@ fn is_type(n: u64) -> bool
     is_plain(n) | (n == Ty::FUNCTION)
 }
 
+fn is_sound_function(k: u64) -> bool
+    ensures { λ r. ⌜ r ≡ isFunctionEntry k ⌝ }
+{
+    let table = Constants::new();
+    let rows = table.rows;
+    constants::is_function(&rows, k)
+}
+
 // A function's type has its entry, any other none.
 fn is_sound_type(ty: Type) -> bool
     ensures { λ r. ⌜ r ≡ soundType ty ⌝ }
 {
     if ty.kind == Ty::FUNCTION {
-        let table = Constants::new();
-        let rows = table.rows;
-        return constants::is_function(&rows, ty.entry);
+        return is_sound_function(ty.entry);
     }
     is_plain(ty.kind) & (ty.entry == 0)
 }
@@ -53,7 +59,7 @@ fn is_sound_module(k: u64) -> bool
     constants::is_module(&rows, k)
 }
 
-// An unknown item is missed in a module, and an integer is below 2^127.
+// An unknown item is missed in a module, what is called with arguments is a function, and an integer is below 2^127.
 fn is_sound_what(what: What) -> bool
     ensures { λ r. ⌜ r ≡ soundWhat what ⌝ }
 {
@@ -61,8 +67,15 @@ fn is_sound_what(what: What) -> bool
         What::UnknownItem(m) => is_sound_module(m),
         What::NoMembers(ty) => is_sound_type(ty),
         What::OperandType(_, wanted, ty) => is_type(wanted) & is_sound_type(ty),
+        What::NotCallable(ty) => is_sound_type(ty),
+        What::TooManyArgs(f, _, _) => is_sound_function(f),
+        What::TooFewArgs(f, _, _) => is_sound_function(f),
+        What::ArgType(f, _, wanted, ty) => {
+            is_sound_function(f) & is_type(wanted) & is_sound_type(ty)
+        }
         What::DiscardedValue(ty) => is_sound_type(ty),
         What::Truncated(n, ty) => (n.hi < 9223372036854775808) & is_sound_type(ty),
+        What::Overflow(ty, wanted) => is_sound_type(ty) & is_type(wanted),
         _ => true,
     }
 }
@@ -132,20 +145,29 @@ fn guessed(row: DiagnosticRow) -> Guess
     ensures { λ r. ⌜ r ≡ guessOf row ⌝ }
 {
     let kind = row.kind;
+    let ty = type_in(row);
+    let first = row.first;
+    let second = row.second;
     match kind {
         What::UNKNOWN_NAME => Guess::Is(What::UnknownName),
-        What::UNKNOWN_ITEM => Guess::Is(What::UnknownItem(row.first)),
+        What::UNKNOWN_ITEM => Guess::Is(What::UnknownItem(first)),
         What::UNKNOWN_MODULE => Guess::Is(What::UnknownModule),
         What::NOT_IMPORTED => Guess::Is(What::NotImported),
         What::NOT_A_MODULE => Guess::Is(What::NotAModule),
         What::NOT_A_VALUE => Guess::Is(What::NotAValue),
-        What::ALREADY_BOUND => Guess::Is(What::AlreadyBound(row.first, row.second)),
-        What::NO_MEMBERS => Guess::Is(What::NoMembers(type_in(row))),
+        What::ALREADY_BOUND => Guess::Is(What::AlreadyBound(first, second)),
+        What::NO_MEMBERS => Guess::Is(What::NoMembers(ty)),
         What::OPERAND_TYPE => operand_in(row),
+        What::NOT_CALLABLE => Guess::Is(What::NotCallable(ty)),
+        What::TOO_MANY_ARGS => Guess::Is(What::TooManyArgs(ty.entry, first, second)),
+        What::TOO_FEW_ARGS => Guess::Is(What::TooFewArgs(ty.entry, first, second)),
+        What::ARG_TYPE => Guess::Is(What::ArgType(first, second, row.third, ty)),
+        What::VOID_VALUE => Guess::Is(What::VoidValue),
         What::INTEGRAL_TOO_LARGE => Guess::Is(What::IntegralTooLarge),
         What::MULTIPLE_IMPORTS => Guess::Is(What::MultipleImports),
-        What::DISCARDED_VALUE => Guess::Is(What::DiscardedValue(type_in(row))),
+        What::DISCARDED_VALUE => Guess::Is(What::DiscardedValue(ty)),
         What::TRUNCATED => truncated_in(row),
+        What::OVERFLOW => Guess::Is(What::Overflow(ty, first)),
         _ => Guess::Nothing,
     }
 }

@@ -5,3 +5,4 @@ pub mod Exactly
 pub mod Left
 pub mod Numbered
 pub mod Comparisons
+pub mod Slots

@@ -8,10 +8,11 @@ use Rattle.table.specs.Table.{padTo, tabled}
 use Rattle.language.specs.Tables.{tokenWidth}
 use Rattle.language.specs.Tokens.{tokens, contents, between}
 use Rattle.language.specs.Canonical.{text, Fits}
-use Rattle.language.specs.Judgements.{Diag, Held}
-use Rattle.language.specs.Findings.{diagRow, diagWidth, stmtRow, stmtWidth}
+use Rattle.language.specs.Judgements.{Diag}
+use Rattle.language.specs.Findings.{diagRow, diagWidth, Row, stmtRow, stmtWidth}
 use Rattle.language.specs.Numbers.{tokenOf}
-use Rattle.language.specs.Checks.{SameFinding, SameHeld}
+use Rattle.language.specs.Checks as checks
+use Rattle.language.specs.Checks.{SameFinding}
 use Rattle.lex.specs.declared.Lexed.{Lexed}
 use Rattle.lex.specs.Entry.{LexSource}
 use Rattle.lex.specs.Lexing.{bodyAt}
@@ -59,11 +60,11 @@ SameRows s u a b = (i : ℕ) → SameRow s u a b (tokenWidth * i)
 -- findings and of one list of statements, as many as fit, and each of these says the same in both sources
 pub record SameLeft (u s : List ℕ) (d k : ℕ) (w v h g : List ℕ) : Type 0 where
   pub found : List Diag
-  pub held : List Held
+  pub held : List Row
   pub diags : (w ≡ tabled (diagRow (tokenOf u)) diagWidth d found) × (v ≡ tabled (diagRow (tokenOf s)) diagWidth d found)
   pub stmts : (h ≡ tabled (stmtRow (tokenOf u)) stmtWidth k held) × (g ≡ tabled (stmtRow (tokenOf s)) stmtWidth k held)
   pub finding : (c : Diag) → List·Memᴰ c found → SameFinding u s c
-  pub statement : (c : Held) → List·Memᴰ c held → SameHeld u s c
+  pub statement : (c : Row) → List·Memᴰ c held → checks.SameStatement u s c
 
 -- ---- the claims
 

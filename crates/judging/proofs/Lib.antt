@@ -1,3 +1,10 @@
--- The laws that the proofs of the functions cite.
+pub mod Trees
+pub mod Steps
+pub mod Climbing
+pub mod Slashes
+pub mod Passing
 pub mod Names
-pub mod Judging
+pub mod Leaves
+pub mod Calls
+pub mod Tags
+pub mod Ways

@@ -4,19 +4,15 @@ use mathlib.Core.List.{List}
 use mathlib.Core.Option.{Option, none, some}
 use Prim.Native.Nat.{ℕ, zero, suc, _+_, _≤_, _<_}
 use native.Mathlib.Omega.{arith}
-use borrow.Author.Tests.{ne-eqb}
-use Rattle.constants.specs.Constants.{kindOf, lowOf, highOf}
 use Rattle.language.specs.Tokens.{Content}
-use Rattle.language.specs.Values as values
 use Rattle.language.specs.Judgements.{err, poisoned, unknownName, notImported, Binding, find, findImport, compared, boundTo, below, walk}
-use Rattle.language.specs.Findings.{valueKind}
 use Rattle.names.specs.Names.{nameWord, nameOf, listed, namesIn, place, looked}
 use Rattle.names.proofs.Names.{First, found-from, same-place}
 use Rattle.findings.specs.declared.Counts.{Counts}
 use Rattle.findings.specs.Findings.{plusSearch}
 use Rattle.values.specs.declared.Judged.{Judged}
-use Rattle.values.specs.Values.{opened, heldAs, judgedAs}
-use Rattle.values.proofs.Values.{some-kind}
+use Rattle.values.specs.Values.{heldAs, judgedAs}
+use Rattle.values.proofs.Values.{held-canon}
 use Rattle.judging.specs.Judging.{bindingAt, boundIn, importAt, importsIn, Sound}
 
 module _ (s ws : List ℕ) (w : List ℕ) (used r : ℕ) (e : r ≡ place (namesIn s ws used 0) w) where
@@ -43,21 +39,14 @@ module _ (s ws : List ℕ) (w : List ℕ) (used r : ℕ) (e : r ≡ place (names
 -- ---- a name's value
 
 module _ (s : List ℕ) (ts : List Content) (t : ℕ) where
-  held-as : (name : List ℕ) (tok k l h : ℕ) (o : Option values.Value) → kindOf o ≡ k → lowOf o ≡ l → highOf o ≡ h
-      → heldAs k l h ≡ judgedAs s (boundTo ts t (some (record { name = name; tok = tok; value = o })))
-  unfolding heldAs
-  held-as name tok k l h none p q r = rw (← p)
-  held-as name tok k l h (some v) p q r = rw (← p, ← q, ← r, ne-eqb (valueKind v) 0 (some-kind v))
-
   module _ (ws : List ℕ) (w v : List ℕ) (used i : ℕ) (p : i ≡ place (namesIn s ws used 0) w) (o : w ≡ v) where
     e : i ≡ place (namesIn s ws used 0) v
     e = same-place (namesIn s ws used 0) p o
 
     pub local-found : {r : Judged} → i < used → Sound ws used
-        → r ≡ heldAs (nameWord ws i 3) (nameWord ws i 4) (nameWord ws i 5) → r ≡ judgedAs s (boundTo ts t (find (boundIn s ws used 0) v))
+        → r ≡ heldAs t (nameWord ws i 3) (nameWord ws i 4) (nameWord ws i 5) (nameWord ws i 6) → r ≡ judgedAs s (boundTo ts t (find (boundIn s ws used 0) v))
     local-found h c q =
-        let a = c i h in
-        q ∙ held-as (nameOf s ws i) (nameWord ws i 2) (nameWord ws i 3) (nameWord ws i 4) (nameWord ws i 5) (opened (nameWord ws i 3) (nameWord ws i 4) (nameWord ws i 5)) (a .kind) (a .low) (a .high)
+        q ∙ held-canon s t (c i h)
         ∙ sym (ap (λ (o : Option Binding). judgedAs s (boundTo ts t o)) (bound-found s ws v used i e h))
 
     pub local-lost : {r : Judged} → used ≤ i → r ≡ judgedAs s (err t unknownName) → r ≡ judgedAs s (boundTo ts t (find (boundIn s ws used 0) v))
@@ -79,11 +68,11 @@ module _ (s : List ℕ) (ws : List ℕ) (used i t n : ℕ) (ts : List Content) (
   e′ : i ≡ place (namesIn s ws used 0) v
   e′ = same-place (namesIn s ws used 0) p o
 
-  pub below-failed : (top : ℕ) → i < used → top ≡ nameWord ws i 3 → top ≡ 0 → poisoned ≡ below ts t n (findImport (importsIn s ws used 0) v)
+  pub below-failed : (top : ℕ) → i < used → top ≡ nameWord ws i 4 → top ≡ 0 → poisoned ≡ below ts t n (findImport (importsIn s ws used 0) v)
   below-failed zero h q z = rw (import-found s ws v used i e′ h, ← q)
   below-failed (suc m) h q z = absurd (omega arith)
 
-  pub below-found : (top : ℕ) → i < used → top ≡ nameWord ws i 3 → (top ≡ 0 → ⊥) → walk ts n top t ≡ below ts t n (findImport (importsIn s ws used 0) v)
+  pub below-found : (top : ℕ) → i < used → top ≡ nameWord ws i 4 → (top ≡ 0 → ⊥) → walk ts t n top t ≡ below ts t n (findImport (importsIn s ws used 0) v)
   below-found zero h q z = absurd (z refl)
   below-found (suc m) h q z = rw (import-found s ws v used i e′ h, ← q)
 

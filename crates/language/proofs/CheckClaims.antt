@@ -3,7 +3,6 @@ use Prim.Native.Nat.{ℕ, _/_}
 use mathlib.Core.Path.{_≡_, refl, sym, ap, _∙_}
 use mathlib.Core.Bool.{Bool, true}
 use mathlib.Core.List.{List, []}
-use mathlib.Core.Option.{Option, none, some}
 use native.Mathlib.Omega.{arith}
 use lib.Dec.{ltb, eqb}
 use lib.ListN.{length}
@@ -11,29 +10,25 @@ use Rattle.language.specs.Choice.{if′}
 use Rattle.language.specs.Tokens.{Content, name, Token, tokens, contents, between}
 use Rattle.language.specs.Tables.{tokenWidth}
 use Rattle.language.specs.Sentences.{is, program, nodeWidth}
-use Rattle.language.specs.Values.{isString, Ty, tyBool, tyInt, tyIp4, tySock4, tyBytes, tyFunction, tyInteger}
-use Rattle.language.specs.Judgements.{What, unknownName, unknownItem, unknownModule, notImported, notAModule, notAValue, alreadyBound, noMembers, operandType, integralTooLarge, multipleImports, discardedValue, truncated, Diag, errorsIn, Held, Outcome, judged, refused, judgeAll, nameAt}
-use Rattle.language.specs.Findings.{tyText, whatKind, Detail, named, detail, diagRow, stmtRow, stmtWidth}
+use Rattle.language.specs.Values.{isString, Ty, tyVoid, tyBool, tyInt, tyIp4, tySock4, tyBytes, tyPkt, tyPktGen, tyTimeJump, tyFunction, tyInteger}
+use Rattle.language.specs.Judgements.{What, unknownName, unknownItem, unknownModule, notImported, notAModule, notAValue, alreadyBound, noMembers, operandType, notCallable, tooManyArgs, tooFewArgs, argType, voidValue, integralTooLarge, multipleImports, discardedValue, truncated, overflow, Diag, errorsIn, Held, Outcome, judged, refused, judgeAll, nameAt}
+use Rattle.language.specs.Findings.{tyText, whatKind, Detail, named, detail, diagRow, Row, rowsOf, stmtRow, stmtWidth}
 use Rattle.language.specs.Canonical.{text, Lexes}
-use Rattle.language.specs.Numbers.{Verdict, placed, Parsed, tokenPlace, parseAnswer, SameVerdict, SameParse, Checked, sum, refusedCheck, firstCall, parsedNodes, statementsOf, checked, checkedWithin, judgedWithin, checkAnswer, tokenOf, checkNodes, checkDiags, checkStmts}
-use Rattle.language.specs.Checks.{TokenShown, SameCheck, SameDetail, SameFinding, SameHeld, bodiesAt, CheckedByContents, TextChecked}
+use Rattle.language.specs.Numbers.{Verdict, placed, Parsed, tokenPlace, parseAnswer, SameVerdict, SameParse, Checked, sum, refusedCheck, heldBy, statementsOf, checked, checkedWithin, judgedWithin, checkAnswer, tokenOf, checkNodes, checkDiags, checkStmts}
+use Rattle.language.specs.Checks.{TokenShown, SameCheck, SameDetail, SameFinding, SameStatement, bodiesAt, CheckedByContents, TextChecked}
 use Rattle.language.proofs.Tests.{each-side, both-sides}
 use Rattle.language.proofs.Canonical.{round-trip}
 use Rattle.language.proofs.ParseClaims.{same-nowhere, same-token, parsed-by-contents}
 use Rattle.language.proofs.TokenTexts.{name-shown, bodies-shown}
 use Rattle.language.proofs.FindingTokens.{Shown, Right, outcome-grounded}
+use Rattle.language.proofs.HeldRows.{GoodRow, rows-good}
 
 -- ---- answers
 
 -- what follows parsing, by whether it is done: the answer goes by the contents but for the places of tokens
 checked-after : List ℕ → ℕ → List Content → Parsed → Bool → Checked
 checked-after s room cs p done =
-    if′ done
-    (elim (firstCall (parsedNodes (program cs))) [
-      | some at ↦ refusedCheck (placed 8 (tokenPlace s at))
-      | none ↦ judgedWithin s room (p .tokens) (p .nodes) (judgeAll cs (statementsOf (program cs)))
-    ])
-    (refusedCheck (p .verdict))
+    if′ done (judgedWithin s room (p .tokens) (p .nodes) (judgeAll cs (statementsOf (program cs)))) (refusedCheck (p .verdict))
 
 checked-by : (s : List ℕ) (t n k : ℕ)
     → let p = parseAnswer s t n in checkAnswer s t n k ≡ checked-after s k (contents (tokens s)) p (eqb (p .verdict .number) 0)
@@ -57,7 +52,7 @@ module _ (s u : List ℕ) where
       → let a = checkedWithin room t n ds hs c in SameCheck s u a a
   same-within room t n ds hs c =
       each-side (λ a. SameCheck s u a a) (eqb (errorsIn ds) 0)
-      (each-side (λ a. SameCheck s u a a) (ltb room (length hs)) (same _ refl refl) (same _ refl refl)) (same _ refl refl)
+      (each-side (λ a. SameCheck s u a a) (ltb room (length (rowsOf hs))) (same _ refl refl) (same _ refl refl)) (same _ refl refl)
 
   module _ {p q : Parsed} (h : SameParse s u p q) where
     same-judged : (room : ℕ) (o : Outcome)
@@ -65,21 +60,13 @@ module _ (s u : List ℕ) where
     same-judged room (refused m at) = same-at m at
     same-judged room (judged ds hs ls) = rw (h .tokens, h .nodes) (same-within room (q .tokens) (q .nodes) ds hs (sum ls))
 
-    -- after parsing, by the first call
-    same-parsed : (room : ℕ) (c : Option ℕ) (o : Outcome)
-        → SameCheck s u
-        (elim c [ some at ↦ refusedCheck (placed 8 (tokenPlace s at)) | none ↦ judgedWithin s room (p .tokens) (p .nodes) o ])
-        (elim c [ some at ↦ refusedCheck (placed 8 (tokenPlace u at)) | none ↦ judgedWithin u room (q .tokens) (q .nodes) o ])
-    same-parsed room (some at) o = same-at 8 at
-    same-parsed room none o = same-judged room o
-
     same-after : (room : ℕ) (cs : List Content) (a b : Bool) → a ≡ b
         → SameCheck s u (checked-after s room cs p a) (checked-after u room cs q b)
     unfolding checked-after
     same-after room cs a b e =
         rw e
         (both-sides (SameCheck s u) b
-        (λ _. same-parsed room (firstCall (parsedNodes (program cs))) (judgeAll cs (statementsOf (program cs))))
+        (λ _. same-judged room (judgeAll cs (statementsOf (program cs))))
         (λ _. alike (refusedCheck (p .verdict)) (q .verdict) (h .verdict)))
 
 same-answer : (s u : List ℕ) → Lexes s → Lexes u → contents (tokens s) ≡ contents (tokens u) → (t n k : ℕ)
@@ -99,7 +86,11 @@ same-number s u h l e t n k = same-answer s u h l e (t / tokenWidth) (n / nodeWi
 
 -- a type's text is none of the source
 pub no-source : (t : Ty) → tyText t ≡ 1 → ⊥
+no-source tyVoid e = omega arith
 no-source tyBool e = omega arith
+no-source tyPkt e = omega arith
+no-source tyPktGen e = omega arith
+no-source tyTimeJump e = omega arith
 no-source (tyInt t) e = omega arith
 no-source tyIp4 e = omega arith
 no-source tySock4 e = omega arith
@@ -179,6 +170,12 @@ module _ (s u : List ℕ) where
     same-what at (alreadyBound t) h = same-bound (tokenOf s at) (tokenOf u at) (same-name at (h .0)) t
     same-what at (noMembers t) h = same-detail _ _ (no-source t) (omega arith)
     same-what at (operandType x t f) h = same-detail _ _ (no-source f) (omega arith)
+    same-what at (notCallable t) h = same-detail _ _ (no-source t) (omega arith)
+    same-what at (tooManyArgs f a b) h = same-detail _ _ (no-source (tyFunction f)) (omega arith)
+    same-what at (tooFewArgs f a b) h = same-detail _ _ (no-source (tyFunction f)) (omega arith)
+    same-what at (argType f i t x) h = same-detail _ _ (no-source x) (omega arith)
+    same-what at voidValue h = same-detail _ _ (omega arith) (omega arith)
+    same-what at (overflow t x) h = same-detail _ _ (no-source t) (omega arith)
     same-what at (discardedValue t) h = same-detail _ _ (no-source t) (omega arith)
     same-what at (truncated n t) h = same-detail _ _ (no-source t) (omega arith)
     same-what at integralTooLarge h = same-detail _ _ (omega arith) (omega arith)
@@ -193,9 +190,9 @@ module _ (s u : List ℕ) where
     same-bodies : (t : ℕ) → Right cs (isString t) → bodiesAt s t ≡ bodiesAt u t
     same-bodies t (b, bs, h) = bodies-shown s t b bs h ∙ sym (bodies-shown u t b bs (rw e at h))
 
-    same-held : (h : Held) → Right cs (h .value) → SameHeld s u h
+    same-row : (r : Row) → GoodRow cs r → SameStatement s u r
     unfolding stmtRow
-    same-held h r = record { row = refl; bodies = λ t q. same-bodies t (rw q at r) }
+    same-row r h = record { does = refl; says = refl; bodies = λ p t q. same-bodies t ((rw q at (h .good)) .1) }
 
 -- ---- the claims
 
@@ -210,7 +207,7 @@ checked-by-contents s u h l e =
       diags = λ t n k m. (refl, rw (same-number s u h l e t n k, e));
       stmts = λ t n k. (refl, rw (same-number s u h l e t n k, e));
       finding = λ d m. same-finding s u e d (g .found .holds d m .shown);
-      statement = λ d m. same-held s u e d (g .kept .holds d m .right);
+      statement = λ r m. same-row s u e r (rows-good (contents (tokens s)) (heldBy (checked s)) (g .kept) .holds r m);
     }
 
 pub text-checked : TextChecked

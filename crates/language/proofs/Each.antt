@@ -25,8 +25,15 @@ module _ {A : Type 0} {P : A → Type 0} where
   of-both {xs} h l =
       record { holds = λ x m. elim (List·Memᴰ·append-cases xs m) [ inl a ↦ h .holds x a | inr b ↦ l .holds x b ] }
 
+  pub each-cons : {a : A} {xs : List A} → P a → Each P xs → Each P (a ∷ xs)
+  each-cons {a} h l = of-both {xs = a ∷ []} (of-one h) l
+
 pub each-also : {A : Type 0} {P Q : A → Type 0} {xs : List A} → Each P xs → ((x : A) → P x → Q x) → Each Q xs
 each-also h f = record { holds = λ x m. f x (h .holds x m) }
+
+pub each-all : {A : Type 0} {P : A → Type 0} (xs : List A) → All P xs → Each P xs
+each-all [] h = of-none
+each-all {P = P} (x ∷ xs) h = of-both {P = P} {xs = x ∷ []} (of-one (h .0)) (each-all xs (h .1))
 
 -- the member at a place
 pub mem-at : {A : Type 0} (xs : List A) (i : ℕ) (d : A) → i < length xs → List·Memᴰ (getD xs i d) xs

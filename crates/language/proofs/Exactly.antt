@@ -3,24 +3,27 @@ use Prim.Native.Nat.{ℕ, suc, _<_}
 use mathlib.Core.Path.{_≡_, refl}
 use mathlib.Core.List.{List, _++_, List·Memᴰ, List·Memᴰ·head, Memᴰ·append-right}
 use mathlib.Core.Option.{some}
-use mathlib.Core.Logic.{_↔_, inl, inr}
+use mathlib.Core.Logic.{_↔_, _⊎_, inl, inr}
 use native.Mathlib.Omega.{arith}
 use lib.Dec.{ltb, eqb}
-use lib.ListN.{length, drop}
+use lib.ListN.{length}
 use Rattle.language.specs.Utf8.{firstBad}
 use Rattle.language.specs.Lexemes.{scan}
 use Rattle.language.specs.Tokens.{mostBytes, Wrong, items, firstWrong, tokens, contents, placeOf}
 use Rattle.language.specs.Canonical.{text}
 use Rattle.language.specs.Sentences.{Out, ok, no, Stmt, nodes}
-use Rattle.language.specs.Judgements.{Outcome, judged, refused, namesNumber, errorsIn}
-use Rattle.language.specs.Numbers.{Verdict, verdict, placed, lexical, tokenPlace, Scanned, scanned, scanAnswer, Lexed, lexed, lexAnswer, Parsed, parsedAs, parseAnswer, parsedNodes, Canonised, canonAnswer, Checked, refusedCheck, firstCall, statementsOf, checked, judgedWithin, checkAnswer}
+use Rattle.language.specs.Judgements.{Outcome, judged, refused, namedNumber, namesNumber, errorsIn}
+use Rattle.language.specs.Findings.{rowsOf}
+use Rattle.language.specs.Numbers.{Verdict, verdict, placed, lexical, tokenPlace, Scanned, scanned, scanAnswer, Lexed, lexed, lexAnswer, Parsed, parsedAs, parseAnswer, parsedNodes, Canonised, canonAnswer, Checked, refusedCheck, statementsOf, checked, judgedWithin, checkAnswer}
 use Rattle.language.specs.Names.{FirstTooMany}
+use Rattle.language.specs.Named.{NamedCall}
 use Rattle.language.specs.Exactly.{TooLong, NotUtf8, WrongLexeme, TokensExceed, Unexpected, OneMore, NodesExceed, bare, done, wrongTold, lexing, sentences, judging, parse, Reason, unexpectedToken, intOutOfRange, oneTooMany, scanRows, lexRows, parseRows, canonRows, checkRows, ScanExactly, LexExactly, ParseExactly, CanonExactly, CheckExactly}
 use Rattle.language.proofs.Tests.{never}
 use Rattle.language.proofs.SentenceRefusals.{stops-for}
 use Rattle.language.proofs.Bounds.{earlier-decides, as-alone}
 use Rattle.language.proofs.Counted.{counted}
-use Rattle.language.proofs.Names.{names-refused}
+use Rattle.language.proofs.Names.{names-refused, refused-for}
+use Rattle.language.proofs.NamedCalls.{named-refused}
 use Rattle.language.proofs.ItemPlaces.{items-placed}
 use Rattle.language.proofs.ExactlyFound.{wrong-is-first}
 use Rattle.language.proofs.ExactlyRows.{absent, Met, here, later, rowOf, exactly, less, equal, tested, one-tested, both-tested, finds, after}
@@ -141,20 +144,39 @@ canon-exactly s t n =
 
 -- ---- check
 
-refused-at : (s : List ℕ) (m at : ℕ) → checked s ≡ refused m at ↔ (m ≡ namesNumber) × FirstTooMany (contents (tokens s)) (statementsOf (parse s)) at
-unfolding checked
-refused-at s m at = names-refused (contents (tokens s)) (statementsOf (parse s)) m at
+module _ (s : List ℕ) where
+  named-at : (at : ℕ) → checked s ≡ refused namedNumber at ↔ NamedCall (contents (tokens s)) (statementsOf (parse s)) at
+  unfolding checked
+  named-at at = named-refused (contents (tokens s)) (statementsOf (parse s)) at
 
-judged-met : (s : List ℕ) (room t n : ℕ) (o : Outcome) → checked s ≡ o
-    → Met (judgedWithin s room t n o .verdict) (drop 1 (judging s room) ++ done)
-judged-met s room t n (refused m at) e =
-    let f = refused-at s m at .0 e in
-    rw (f .0) (here (rowOf 9 (judging s room)) (record { token = at; found = f .1 }) refl refl)
+  names-at : (at : ℕ)
+      → checked s ≡ refused namesNumber at
+      ↔ FirstTooMany (contents (tokens s)) (statementsOf (parse s)) at × ((u : ℕ) → ¬ (checked s ≡ refused namedNumber u))
+  unfolding checked
+  names-at at = names-refused (contents (tokens s)) (statementsOf (parse s)) at
+
+  for-one : (m at : ℕ) → checked s ≡ refused m at → (m ≡ namedNumber) ⊎ (m ≡ namesNumber)
+  unfolding checked
+  for-one m at e = refused-for (contents (tokens s)) (statementsOf (parse s)) m at e
+
+  refused-met : (room m at : ℕ) → checked s ≡ refused m at → (m ≡ namedNumber) ⊎ (m ≡ namesNumber)
+      → Met (placed m (tokenPlace s at)) (judging s room ++ done)
+  refused-met room m at e (inl q) =
+      rw q (here (rowOf 8 (judging s room)) (record { token = at; found = named-at at .0 (rw q at e) }) refl refl)
+  refused-met room m at e (inr q) =
+      let f = names-at at .0 (rw q at e) in
+      rw q (later (λ h. f .1 (h .token) (named-at (h .token) .1 (h .found)))
+      (here (rowOf 9 (judging s room)) (record { token = at; found = f .0 }) refl refl))
+
+judged-met : (s : List ℕ) (room t n : ℕ) (o : Outcome) → checked s ≡ o → Met (judgedWithin s room t n o .verdict) (judging s room ++ done)
+judged-met s room t n (refused m at) e = refused-met s room m at e (for-one s m at e)
 judged-met s room t n (judged ds hs ls) e =
-    later (λ h. let f = refused-at s namesNumber (h .token) .1 (refl, h .found) in never (cc))
+    let none : (u : ℕ) → ¬ (checked s ≡ refused namedNumber u) = λ u f. never (cc) in
+    later (λ h. none (h .token) (named-at s (h .token) .1 (h .found)))
+    (later (λ h. let f = names-at s (h .token) .1 (h .found, none) in never (cc))
     (rw e
-    (both-tested (λ (a : Checked). a .verdict) 11 (eqb (errorsIn ds) 0) (ltb room (length hs)) (equal (errorsIn ds) 0)
-    (less room (length hs)) refl all-done all-done))
+    (both-tested (λ (a : Checked). a .verdict) 11 (eqb (errorsIn ds) 0) (ltb room (length (rowsOf hs))) (equal (errorsIn ds) 0)
+    (less room (length (rowsOf hs))) refl all-done all-done)))
 
 pub check-exactly : CheckExactly
 unfolding checkAnswer
@@ -163,9 +185,7 @@ check-exactly s t n k =
     let p = parseAnswer s t n in
     exactly (checkAnswer s t n k .verdict) (checkRows s t n k) refl
     (after v (lexing s t ++ sentences s n) (p .verdict) refl (parse-met s t n) refl
-    (finds v (firstCall (parsedNodes (parse s))) (λ at. refusedCheck (placed 8 (tokenPlace s at)))
-    (λ at e. here (rowOf 8 (judging s k)) (record { token = at; found = e }) refl refl)
-    (λ e. later (λ h. absent e (h .found)) (judged-met s k (p .tokens) (p .nodes) (checked s) refl))))
+    (judged-met s k (p .tokens) (p .nodes) (checked s) refl))
 
 -- ---- one instance, written out
 

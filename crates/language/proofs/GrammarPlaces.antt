@@ -35,11 +35,11 @@ module _ (ts : List Content) where
     arg-on (is-given f c) = expr-on c
     arg-on (is-named a b c) = omega (arith, expr-on c)
 
-    args-on : {d at next : ℕ} {g : Args} → Arguments ts d at g next → at ≤ next
+    pub args-on : {d at next : ℕ} {g : Args} → Arguments ts d at g next → at ≤ next
     args-on is-none = omega arith
     args-on (is-more g a b) = omega (arith, args-on g, arg-on a)
 
-    list-on : {d at next : ℕ} {g : Args} → Bracketed ts d at g next → at < next
+    pub list-on : {d at next : ℕ} {g : Args} → Bracketed ts d at g next → at < next
     list-on (is-closed a g b) = omega (arith, args-on g)
     list-on (is-last a g h b) = omega (arith, args-on g, arg-on h)
 

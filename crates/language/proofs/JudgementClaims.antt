@@ -2,19 +2,20 @@
 use Prim.Native.Nat.{ℕ, suc, _+_, _≤_}
 use mathlib.Core.Path.{_≡_, refl, ap, subst}
 use mathlib.Core.Bool.{true, false}
-use mathlib.Core.List.{List, [], _∷_, _++_}
+use mathlib.Core.List.{List, [], _∷_, _++_, List·Memᴰ·head, List·Memᴰ·tail}
 use mathlib.Core.Option.{Option, none, some}
 use native.Mathlib.Omega.{arith}
 use lib.Dec.{ltb}
 use lib.ListN.{length, length-append}
 use Rattle.language.specs.Choice.{if′}
-use Rattle.language.specs.Integers.{u16, isTruncated}
 use Rattle.language.specs.Tokens.{Content}
-use Rattle.language.specs.Tables.{bit}
-use Rattle.language.specs.Sentences.{Expr, literal, sock4, local, path, member, call, slash′, Stmt, import′, let′, expr′, firstOf}
-use Rattle.language.specs.Values.{Value, isInteger, isBool, isSized, isIp4, isSock4, isString, isText, isFunction, tyInt, lookup}
-use Rattle.language.specs.Judgements.{truncated, Diag, diag, isError, errorsIn, warningsIn, Judged, val, err, poisoned, Judgement, andThen, goesOn, Known, known, Import, Binding, Held, Turn, goes, refuses, Outcome, judged, refused, find, findImport, compared, mostImports, mostNames, nameAt, leftOf, rightOf, cut, narrowed, judge, imported, importStmt, bound, letStmt, discarded, told, stmt, onward, run, judgeAll, OneError, StatementsFew, AllCounted, BoundFirst}
+use Rattle.language.specs.Sentences.{Expr, literal, sock4, local, path, member, call, slash′, Args, none-given, given, named, Stmt, import′, let′, expr′, firstOf}
+use Rattle.language.specs.Values.{lookup}
+use Rattle.language.specs.Terms.{Atom, Term, termType, atomOf}
+use Rattle.language.specs.Judgements.{Diag, isError, errorsIn, warningsIn, Judged, val, err, poisoned, stopped, Judgement, andThen, Known, known, Import, Binding, Deed, lets, emits, waits, evals, discards, deedOf, Held, Turn, goes, refuses, Outcome, judged, refused, find, findImport, compared, mostImports, mostNames, nameAt, narrowed, used, calledName, judge, judgeArgs, imported, importStmt, boundAs, bound, letStmt, does, sized, told, stmt, onward, run, judgeAll, OneError, StatementsFew, AllCounted, BoundFirst}
 use Rattle.language.proofs.Tests.{each-side}
+use Rattle.language.proofs.Each.{Each, of-none}
+use Rattle.language.proofs.Judging.{Rules, Fine, then-fine, Given, used-fine, next-fine, applied-fine, over-fine, membered-fine}
 
 pub all-counted : AllCounted
 unfolding errorsIn warningsIn
@@ -31,56 +32,73 @@ errors-append (x ∷ xs) ys = rw (errors-append xs ys) (omega arith)
 
 -- ---- warnings alone come with a judgement
 
-Silent : Judgement → Type 0
-Silent j = errorsIn (j .warns) ≡ 0
+abbrev Warning : Diag → Type 0
+Warning d = isError (d .what) ≡ false
 
-module _ (ts : List Content) (n : ℕ) where
-  then-silent : (j : Judgement) (f : Value → Judgement) → Silent j → ((v : Value) → Silent (f v)) → Silent (andThen j f)
-  unfolding andThen Silent
-  then-silent j f h g = go (j .out)
-    where
-      go : (o : Judged) → errorsIn (goesOn o (j .warns) (j .looks) f .warns) ≡ 0
-      go (val v) = rw (errors-append (j .warns) (f v .warns), h, g v)
-      go (err at w) = h
-      go poisoned = h
+abbrev Silent : {A : Type 0} → Judgement A → Type 0
+Silent {A} j = Fine (λ at w. Unit {0}) (λ t. Unit {0}) Warning {A = A} (λ v. Unit {0}) j
 
-  cut-silent : (at i : ℕ) → errorsIn (cut ts n at i) ≡ 0
-  unfolding errorsIn
-  cut-silent at i = elim (isTruncated i) as (λ b. errorsIn (if′ b (diag n at (truncated i (tyInt u16)) ∷ []) []) ≡ 0) [ true ↦ refl | false ↦ refl ]
+no-errors : (ds : List Diag) → Each Warning ds → errorsIn ds ≡ 0
+unfolding errorsIn
+no-errors [] h = refl
+no-errors (d ∷ ds) h =
+    rw (h .holds d (List·Memᴰ·head refl)) (omega (arith, no-errors ds (record { holds = λ e m. h .holds e (List·Memᴰ·tail m) })))
 
-  right-silent : (ip at : ℕ) (v : Value) → Silent (rightOf ts n ip at v)
-  unfolding Silent errorsIn
-  right-silent ip at (isInteger i) = cut-silent at i
-  right-silent ip at (isSized t i) = cut-silent at i
-  right-silent ip at (isBool b) = cut-silent at (bit b)
-  right-silent ip at (isIp4 i) = refl
-  right-silent ip at (isSock4 i p) = refl
-  right-silent ip at (isString t) = refl
-  right-silent ip at (isText a b) = refl
-  right-silent ip at (isFunction k) = refl
+-- of all else nothing is asked
+rules : (n : ℕ) → Rules n (λ t. Unit {0}) (λ v. Unit {0}) (λ at w. Unit {0}) Warning (λ f. Unit {0})
+rules n =
+    record {
+      place = λ v h. tt;
+      sized = λ p t i h. tt;
+      bool = λ p b h. tt;
+      sock = λ p i j h. tt;
+      called = λ p c f vs h i j k. tt;
+      divided = λ p a b h i j. tt;
+      function = λ c f h e. tt;
+      cut = λ p t i h. refl;
+      wide = λ p v t h i. refl;
+      void = λ p h. tt;
+      large = λ p h. tt;
+      many = λ p f a b h i. tt;
+      few = λ p f a b h i. tt;
+      argument = λ p f i v h j k l. tt;
+      no-function = λ p v h i. tt;
+      no-members = λ p v h i. tt;
+      left-type = λ p v h i. tt;
+      right-type = λ p v h i. tt;
+    }
 
-  left-silent : (at : ℕ) (f : ℕ → Judgement) (v : Value) → ((i : ℕ) → Silent (f i)) → Silent (leftOf ts at f v)
-  unfolding Silent errorsIn
-  left-silent at f (isIp4 i) h = h i
-  left-silent at f (isInteger i) h = refl
-  left-silent at f (isSized t i) h = refl
-  left-silent at f (isBool b) h = refl
-  left-silent at f (isSock4 i p) h = refl
-  left-silent at f (isString t) h = refl
-  left-silent at f (isText a b) h = refl
-  left-silent at f (isFunction k) h = refl
+module _ (ts : List Content) (n : ℕ) (k : Known) where
+  quiet : {A : Type 0} (o : Judged A) (ls : List ℕ) → Silent (record { out = o; warns = []; looks = ls })
+  quiet (val v) ls = record { out = tt; warns = of-none }
+  quiet (err at w) ls = record { out = tt; warns = of-none }
+  quiet poisoned ls = record { out = tt; warns = of-none }
+  quiet (stopped t) ls = record { out = tt; warns = of-none }
 
-  judge-silent : (k : Known) (e : Expr) → Silent (judge ts n k e)
-  unfolding Silent judge errorsIn
-  judge-silent k (literal t) = refl
-  judge-silent k (sock4 t) = refl
-  judge-silent k (local t) = refl
-  judge-silent k (path t m) = refl
-  judge-silent k (member e t) = then-silent (judge ts n k e) _ (judge-silent k e) (λ v. refl)
-  judge-silent k (slash′ a b) =
-      then-silent (judge ts n k a) _ (judge-silent k a)
-      (λ v. left-silent (firstOf a) _ v (λ ip. then-silent (judge ts n k b) _ (judge-silent k b) (right-silent ip (firstOf b))))
-  judge-silent k (call e t g) = refl
+  mutual
+    unfolding judge judgeArgs
+
+    judge-silent : (e : Expr) → Silent (judge ts n k e)
+    judge-silent (literal t) = quiet _ _
+    judge-silent (sock4 t) = quiet _ _
+    judge-silent (local t) = quiet _ _
+    judge-silent (path t m) = quiet _ _
+    judge-silent (member e t) = then-fine _ _ _ (judge ts n k e) _ (judge-silent e) (λ v h. membered-fine (rules n) t v tt tt)
+    judge-silent (slash′ a b) =
+        then-fine _ _ _ (judge ts n k a) _ (judge-silent a) (λ v h. over-fine (rules n) (firstOf a) (firstOf b) (judge ts n k b) v tt tt (judge-silent b) tt)
+    judge-silent (call e t g) =
+        then-fine _ _ _ (judge ts n k e) _ (judge-silent e)
+        (λ v h. applied-fine (rules n) (calledName e) t g (judgeArgs ts n k g) v tt tt (λ _. args-silent g) tt)
+
+    args-silent : (g : Args) → Fine (λ at w. Unit {0}) (λ t. Unit {0}) Warning (Each (Given (λ t. Unit {0}) (λ v. Unit {0}))) (judgeArgs ts n k g)
+    args-silent none-given = record { out = of-none; warns = of-none }
+    args-silent (given g e) =
+        then-fine _ _ _ (judgeArgs ts n k g) _ (args-silent g) (λ gs h. next-fine (rules n) (firstOf e) (judge ts n k e) gs tt (judge-silent e) h)
+    args-silent (named g t e) =
+        then-fine _ _ _ (judgeArgs ts n k g) _ (args-silent g) (λ gs h. next-fine (rules n) (firstOf e) (judge ts n k e) gs tt (judge-silent e) h)
+
+  value-silent : (e : Expr) → Silent (andThen (judge ts n k e) used)
+  value-silent e = then-fine _ _ _ (judge ts n k e) _ (judge-silent e) (λ v h. used-fine (rules n) v tt)
 
 -- ---- what a statement adds to the warnings of its expression
 
@@ -88,7 +106,9 @@ pub data Adds (ws : List Diag) : List Diag → List Held → Type 0 where
   nothing : Adds ws ws []
   alone : (d : Diag) → Adds ws (d ∷ []) []
   finding : (d : Diag) → Adds ws (ws ++ d ∷ []) []
-  holding : (d : Diag) (h : Held) → Adds ws (ws ++ d ∷ []) (h ∷ [])
+  binding : (h : Held) → Adds ws ws (h ∷ [])
+  holding : (h : Held) → Adds ws (ws ++ []) (h ∷ [])
+  discarding : (d : Diag) (h : Held) → Adds ws (ws ++ d ∷ []) (h ∷ [])
 
 abbrev pub AddsTo : List Diag → Turn → Type 0
 AddsTo ws (goes k ds hs ls) = Adds ws ds hs
@@ -97,7 +117,7 @@ AddsTo ws (refuses m t) = Unit
 module _ (ts : List Content) (n : ℕ) (k : Known) where
   abbrev pub warnsOf : Stmt → List Diag
   warnsOf (import′ t) = []
-  warnsOf (let′ t e) = judge ts n k e .warns
+  warnsOf (let′ t e) = andThen (judge ts n k e) used .warns
   warnsOf (expr′ e) = judge ts n k e .warns
 
   imported-adds : (t : ℕ) (o : Option ℕ) → AddsTo [] (imported ts n k t o)
@@ -108,25 +128,38 @@ module _ (ts : List Content) (n : ℕ) (k : Known) where
   import-adds t (some i) = alone _
   import-adds t none = each-side (AddsTo []) (ltb (length (k .imports)) mostImports) (imported-adds t (lookup 0 (nameAt ts t))) tt
 
-  bound-adds : (t : ℕ) (o : Judged) (ws : List Diag) (ls : List ℕ) → AddsTo ws (bound ts n k t o ws ls)
-  bound-adds t (val v) ws ls = nothing
+  as-adds : (t : ℕ) (v : Term) (o : Option Atom) (ws : List Diag) (ls : List ℕ) → AddsTo ws (boundAs ts n k t v o ws ls)
+  as-adds t v (some a) ws ls = nothing
+  as-adds t v none ws ls = binding _
+
+  bound-adds : (t : ℕ) (o : Judged Term) (ws : List Diag) (ls : List ℕ) → AddsTo ws (bound ts n k t o ws ls)
+  bound-adds t (val v) ws ls = as-adds t v (atomOf v) ws ls
   bound-adds t (err at w) ws ls = finding _
   bound-adds t poisoned ws ls = nothing
+  bound-adds t (stopped p) ws ls = tt
 
-  let-adds : (t : ℕ) (e : Expr) (l : ℕ) (o : Option Binding) → AddsTo (judge ts n k e .warns) (letStmt ts n k t e l o)
+  let-adds : (t : ℕ) (e : Expr) (l : ℕ) (o : Option Binding) → AddsTo (andThen (judge ts n k e) used .warns) (letStmt ts n k t e l o)
   let-adds t e l (some b) = alone _
   let-adds t e l none =
-      let j = judge ts n k e in
+      let j = andThen (judge ts n k e) used in
       each-side (AddsTo (j .warns)) (ltb (length (k .bindings)) mostNames) (bound-adds t (j .out) (j .warns) (l ∷ j .looks)) tt
 
-  discarded-adds : (at : ℕ) (o : Option Value) (ws : List Diag) (ls : List ℕ) → AddsTo ws (discarded ts n k at o ws ls)
-  discarded-adds at (some v) ws ls = holding _ _
-  discarded-adds at none ws ls = finding _
+  does-adds : (at : ℕ) (v : Term) (d : Deed) (ws : List Diag) (ls : List ℕ) → AddsTo ws (does ts n k at v d ws ls)
+  does-adds at v discards ws ls = discarding _ _
+  does-adds at v (lets m) ws ls = holding _
+  does-adds at v emits ws ls = holding _
+  does-adds at v waits ws ls = holding _
+  does-adds at v evals ws ls = holding _
 
-  told-adds : (at : ℕ) (o : Judged) (ws : List Diag) (ls : List ℕ) → AddsTo ws (told ts n k at o ws ls)
-  told-adds at (val v) ws ls = discarded-adds at (narrowed v) ws ls
+  sized-adds : (at : ℕ) (o : Option Term) (ws : List Diag) (ls : List ℕ) → AddsTo ws (sized ts n k at o ws ls)
+  sized-adds at (some v) ws ls = does-adds at v (deedOf (termType v)) ws ls
+  sized-adds at none ws ls = finding _
+
+  told-adds : (at : ℕ) (o : Judged Term) (ws : List Diag) (ls : List ℕ) → AddsTo ws (told ts n k at o ws ls)
+  told-adds at (val v) ws ls = sized-adds at (narrowed v) ws ls
   told-adds at (err p w) ws ls = finding _
   told-adds at poisoned ws ls = nothing
+  told-adds at (stopped p) ws ls = tt
 
   pub adds : (s : Stmt) → AddsTo (warnsOf s) (stmt ts n k s)
   unfolding stmt
@@ -148,10 +181,13 @@ one-more : (ws : List Diag) (d : Diag) → errorsIn ws ≡ 0 → errorsIn (ws ++
 one-more ws d h = rw (errors-append ws (d ∷ [])) (omega (arith, h, one-at-most d))
 
 few-added : {ws ds : List Diag} {hs : List Held} → errorsIn ws ≡ 0 → Adds ws ds hs → (errorsIn ds ≤ 1) × (length hs ≤ 1)
+unfolding errorsIn
 few-added h nothing = (omega (arith, h), omega arith)
 few-added h (alone d) = (one-at-most d, omega arith)
 few-added {ws} h (finding d) = (one-more ws d h, omega arith)
-few-added {ws} h (holding d x) = (one-more ws d h, omega arith)
+few-added h (binding x) = (omega (arith, h), omega arith)
+few-added {ws} h (holding x) = (rw (errors-append ws []) (omega (arith, h)), omega arith)
+few-added {ws} h (discarding d x) = (one-more ws d h, omega arith)
 
 few-turn : (ws : List Diag) (t : Turn) → errorsIn ws ≡ 0 → AddsTo ws t → Few t
 unfolding Few
@@ -160,10 +196,10 @@ few-turn ws (refuses m t) h a = tt
 
 module _ (ts : List Content) (n : ℕ) (k : Known) where
   silent : (s : Stmt) → errorsIn (warnsOf ts n k s) ≡ 0
-  unfolding Silent errorsIn
+  unfolding errorsIn
   silent (import′ t) = refl
-  silent (let′ t e) = judge-silent ts n k e
-  silent (expr′ e) = judge-silent ts n k e
+  silent (let′ t e) = no-errors _ (value-silent ts n k e .warns)
+  silent (expr′ e) = no-errors _ (judge-silent ts n k e .warns)
 
   few : (s : Stmt) → Few (stmt ts n k s)
   few s = few-turn (warnsOf ts n k s) (stmt ts n k s) (silent s) (adds ts n k s)
@@ -204,7 +240,7 @@ pub statements-few : StatementsFew
 unfolding Fewer
 statements-few ts ss ds hs ls e =
     let l : 0 + length ss ≤ length ss = omega arith in
-    subst (Fewer (length ss)) e (at-most (0 + length ss) (length ss) (judgeAll ts ss) l (run-fewer ts ss _ (known [] []) [] [] []))
+    subst (Fewer (length ss)) e (at-most (0 + length ss) (length ss) (judgeAll ts ss) l (run-fewer ts ss _ (known [] [] 0) [] [] []))
 
 pub bound-first : BoundFirst
 unfolding stmt

@@ -20,12 +20,12 @@ use Rattle.language.specs.Tokens.{mostBytes, items, firstWrong, tokens, 
 use Rattle.language.specs.Canonical.{text}
 use Rattle.language.specs.Tables.{lexemeRow, lexemeWidth, tokenRow, tokenWidth}
 use Rattle.language.specs.Sentences.{Out, ok, no, Stmt, nodes, nodeRow, nodeWidth}
-use Rattle.language.specs.Judgements.{What, unknownName, unknownItem, unknownModule, notImported, notAModule, notAValue, alreadyBound, noMembers, operandType, integralTooLarge, multipleImports, discardedValue, truncated, Diag, isError, errorsIn, warningsIn, Held, Outcome, judged, refused}
-use Rattle.language.specs.Findings.{severityOf, detail, diagRow, diagWidth, stmtRow, stmtWidth}
-use Rattle.language.specs.Numbers.{Verdict, verdict, placed, tokenPlace, Scanned, scanAnswer, scanTable, Lexed, lexAnswer, lexTable, Parsed, parsedAs, parseAnswer, parsedNodes, parseTokens, parseNodes, Canonised, canonised, canonAnswer, canonTokens, canonText, Checked, refusedCheck, firstCall, checked, foundBy, heldBy, looksBy, sum, comparisons, checkedWithin, judgedWithin, checkAnswer, tokenOf, checkTokens, checkNodes, checkDiags, checkStmts, statementsOf}
+use Rattle.language.specs.Judgements.{What, unknownName, unknownItem, unknownModule, notImported, notAModule, notAValue, alreadyBound, noMembers, operandType, notCallable, tooManyArgs, tooFewArgs, argType, voidValue, integralTooLarge, multipleImports, discardedValue, truncated, overflow, Diag, isError, errorsIn, warningsIn, Held, Outcome, judged, refused}
+use Rattle.language.specs.Findings.{severityOf, detail, diagRow, diagWidth, Row, rowsOf, stmtRow, stmtWidth}
+use Rattle.language.specs.Numbers.{Verdict, verdict, placed, tokenPlace, Scanned, scanAnswer, scanTable, Lexed, lexAnswer, lexTable, Parsed, parsedAs, parseAnswer, parsedNodes, parseTokens, parseNodes, Canonised, canonised, canonAnswer, canonTokens, canonText, Checked, refusedCheck, checked, foundBy, heldBy, rowsBy, looksBy, sum, comparisons, checkedWithin, judgedWithin, checkAnswer, tokenOf, checkTokens, checkNodes, checkDiags, checkStmts, statementsOf}
 use Rattle.language.specs.Exactly.{parse}
 use Rattle.language.specs.Left.{AllZero, Rows, Leaves, byteRow, severe, ScanLeft, LexLeft, ParseLeft, CanonLeft, CheckLeft}
-use Rattle.language.proofs.Names.{names-refused}
+use Rattle.language.proofs.Names.{refused-for}
 use Rattle.language.proofs.Tests.{each-side, by-cases, both-sides}
 use Rattle.language.proofs.TokensAt.{row-width}
 use Rattle.language.proofs.NodeClaims.{row-long}
@@ -192,6 +192,12 @@ module _ (s : List ℕ) where
   row-severity at (alreadyBound t) = refl
   row-severity at (noMembers t) = refl
   row-severity at (operandType x t u) = refl
+  row-severity at (notCallable t) = refl
+  row-severity at (tooManyArgs f a b) = refl
+  row-severity at (tooFewArgs f a b) = refl
+  row-severity at (argType f i t u) = refl
+  row-severity at voidValue = refl
+  row-severity at (overflow t u) = refl
   row-severity at integralTooLarge = refl
   row-severity at multipleImports = refl
   row-severity at (discardedValue t) = refl
@@ -220,7 +226,7 @@ module _ (s : List ℕ) where
     nodes : Counts (a .verdict .number) (a .nodes) (length (parsedNodes (parse s)))
     errors : Counts (a .verdict .number) (a .errors) (errorsIn ds)
     warnings : Counts (a .verdict .number) (a .warnings) (warningsIn ds)
-    stmts : a .errors ≡ 0 → Counts (a .verdict .number) (a .statements) (length hs)
+    stmts : a .errors ≡ 0 → Counts (a .verdict .number) (a .statements) (length (rowsOf hs))
     none-held : (a .errors ≡ 0 → ⊥) → a .statements ≡ 0
     compared : Counts (a .verdict .number) (a .comparisons) (sum ls)
 
@@ -241,7 +247,7 @@ module _ (s : List ℕ) where
   within-counts room t n ds hs ls c e =
       by-cases (CheckCounts ds hs ls) (eqb (errorsIn ds) 0)
       (λ z.
-      each-side (CheckCounts ds hs ls) (ltb room (length hs)) (check-refused ds hs ls (verdict 11 0 0) (omega arith))
+      each-side (CheckCounts ds hs ls) (ltb room (length (rowsOf hs))) (check-refused ds hs ls (verdict 11 0 0) (omega arith))
       (record {
         tokens = rw c (counted-all _);
         nodes = rw e (counted-all _);
@@ -266,8 +272,8 @@ module _ (s : List ℕ) where
       → CheckCounts (foundBy o) (heldBy o) (looksBy o) (judgedWithin s room t n o)
   unfolding checked
   judged-counts room t n c e (refused m at) q =
-      let nine = names-refused (contents (tokens s)) (statementsOf (parse s)) m at .0 q .0 in
-      check-refused [] [] [] (placed m (tokenPlace s at)) (omega (arith, nine))
+      check-refused [] [] [] (placed m (tokenPlace s at))
+      (elim (refused-for (contents (tokens s)) (statementsOf (parse s)) m at q) [ inl e ↦ omega (arith, e) | inr e ↦ omega (arith, e) ])
   judged-counts room t n c e (judged ds hs ls) q = within-counts room t n ds hs ls c e
 
   check-counts : (t n k : ℕ) → CheckCounts (foundBy (checked s)) (heldBy (checked s)) (looksBy (checked s)) (checkAnswer s t n k)
@@ -277,9 +283,7 @@ module _ (s : List ℕ) where
       let c = parse-counts s t n in
       let P = CheckCounts (foundBy (checked s)) (heldBy (checked s)) (looksBy (checked s)) in
       by-cases P (eqb (p .verdict .number) 0)
-      (λ e.
-      found-or P (firstCall (parsedNodes (parse s))) (λ at. check-refused _ _ _ (placed 8 (tokenPlace s at)) (omega arith))
-      (judged-counts k (p .tokens) (p .nodes) (same-count (c .0) e) (same-count (c .1) e) (checked s) refl))
+      (λ e. judged-counts k (p .tokens) (p .nodes) (same-count (c .0) e) (same-count (c .1) e) (checked s) refl)
       (λ e. check-refused _ _ _ (p .verdict) (let z = eqb-false (p .verdict .number) 0 e in omega (arith, z)))
 
 -- ---- the claims
@@ -328,7 +332,7 @@ module _ (s : List ℕ) where
   unfolding diagRow
   diag-long d = refl
 
-  stmt-long : (h : Held) → length (stmtRow (tokenOf s) h) ≡ stmtWidth
+  stmt-long : (h : Row) → length (stmtRow (tokenOf s) h) ≡ stmtWidth
   unfolding stmtRow
   stmt-long h = refl
 
@@ -347,7 +351,7 @@ check-left s t n d k =
     let a = checkAnswer s (t / tokenWidth) (n / nodeWidth) (k / stmtWidth) in
     let c = check-counts s (t / tokenWidth) (n / nodeWidth) (k / stmtWidth) in
     let ds = foundBy (checked s) in
-    let hs = heldBy (checked s) in
+    let hs = rowsBy (checked s) in
     let number = a .verdict .number in
     record {
       tokens = leaves tokenRow tokenWidth row-width refl (c .tokens);

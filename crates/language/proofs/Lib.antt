@@ -49,7 +49,6 @@ pub mod StatementEnds
 pub mod Sound
 pub mod TokenTexts
 pub mod NodeClaims
-pub mod NodeCalls
 pub mod NothingMadeUp
 pub mod RowClaims
 pub mod ParseClaims
@@ -70,8 +69,15 @@ pub mod ExactlyFound
 pub mod Samples
 pub mod Worked
 pub mod JudgementExamples
+pub mod Judging
 pub mod JudgementClaims
+pub mod Table
 pub mod FindingTokens
+pub mod HeldRows
+pub mod NamedCalls
+pub mod Slots
+pub mod NamedEarlier
+pub mod RowsFew
 pub mod CheckClaims
 pub mod ShownNames
 pub mod PlacesInside
@@ -80,3 +86,4 @@ pub mod Numbered
 pub mod Comparisons
 pub mod Told
 pub mod TokensApart
+pub mod WarnsFew

@@ -21,7 +21,7 @@ module _ (ts : List Content) where
   named-in (is-expr x d) e = absurd e
 
   -- names stand after the token where the statements start
-  named-on : {at next u : ℕ} {ss : List Stmt} → Program ts at ss next → (r : Stmt) (vs ws : List Stmt) → ss ≡ vs ++ r ∷ ws
+  pub named-on : {at next u : ℕ} {ss : List Stmt} → Program ts at ss next → (r : Stmt) (vs ws : List Stmt) → ss ≡ vs ++ r ∷ ws
       → NamedAt r u → at < u
   named-on (is-end e) r [] ws q n = never (cc)
   named-on (is-end e) r (v ∷ vs) ws q n = never (cc)
@@ -40,7 +40,7 @@ module _ (ts : List Content) where
   ascend (is-next {ss = ss} x p) s r (v ∷ us) vs ws q m n =
       let y : ss ≡ us ++ s ∷ vs ++ r ∷ ws = cc in ascend p s r us vs ws y m n
 
-  too-named : (us : List Stmt) (s : Stmt) (u : ℕ) → TooMany ts us s u → NamedAt s u
+  pub too-named : (us : List Stmt) (s : Stmt) (u : ℕ) → TooMany ts us s u → NamedAt s u
   too-named us (let′ t e) u m = m .0
   too-named us (import′ t) u m = m .0
   too-named us (expr′ e) u m = m

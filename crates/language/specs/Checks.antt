@@ -5,17 +5,18 @@
 use Prim.Native.Nat.{ℕ, _≤_, _<_}
 use mathlib.Core.Path.{_≡_}
 use mathlib.Core.List.{List, [], _∷_, List·Memᴰ}
-use mathlib.Core.Option.{none}
+use mathlib.Core.Option.{none, some}
 use lib.Dec.{eqb}
-use lib.ListN.{length, getD, drop}
+use lib.ListN.{length, getD, take, drop}
 use Rattle.table.specs.Table.{tabled}
 use Rattle.language.specs.Choice.{if′}
 use Rattle.language.specs.Tokens.{string, tokens, contents, between, bodiesIn}
 use Rattle.language.specs.Canonical.{text, Lexes, Fits}
-use Rattle.language.specs.Values.{Value, isString, tableText, entryAt}
-use Rattle.language.specs.Judgements.{What, unknownItem, alreadyBound, Diag, errorsIn, Held, nameAt}
-use Rattle.language.specs.Findings.{Detail, detail, diagRow, diagWidth, valueText, shownLow, shownHigh, stmtRow, stmtWidth}
-use Rattle.language.specs.Numbers.{Checked, checkAnswer, checkNodes, checkDiags, checkStmts, checked, foundBy, heldBy, tokenOf, whereDone, SameVerdict}
+use Rattle.language.specs.Values.{Value, isString, isFunction, Ty, Param, tableText, entryAt}
+use Rattle.language.specs.Terms.{constant, Term, Terms, atom, called}
+use Rattle.language.specs.Judgements.{What, unknownItem, alreadyBound, argType, Diag, errorsIn, nameAt}
+use Rattle.language.specs.Findings.{Detail, detail, diagRow, diagWidth, valueText, shownLow, shownHigh, Row, stmtRow, stmtWidth}
+use Rattle.language.specs.Numbers.{Checked, checkAnswer, checkNodes, checkDiags, checkStmts, checked, foundBy, rowsBy, tokenOf, whereDone, SameVerdict}
 
 -- ---- answers
 
@@ -63,27 +64,28 @@ pub record SameFinding (s u : List ℕ) (d : Diag) : Type 0 where
 abbrev pub bodiesAt : List ℕ → ℕ → List (List ℕ)
 bodiesAt s t = bodiesIn (between s (tokenOf s t .start) (tokenOf s t .end))
 
--- "the same .. statements .., places aside, .. string bodies compared by their bytes": a row is the same after its line and
--- column, and the string that it names has the same bodies
-pub record SameHeld (s u : List ℕ) (h : Held) : Type 0 where
-  pub row : drop 2 (stmtRow (tokenOf s) h) ≡ drop 2 (stmtRow (tokenOf u) h)
-  pub bodies : (t : ℕ) → h .value ≡ isString t → bodiesAt s t ≡ bodiesAt u t
+-- "the same .. statements .., places aside, .. string bodies compared by their bytes": a row is the same but for both lines and
+-- columns, and the string that it names has the same bodies
+pub record SameStatement (s u : List ℕ) (r : Row) : Type 0 where
+  pub does : take 3 (drop 2 (stmtRow (tokenOf s) r)) ≡ take 3 (drop 2 (stmtRow (tokenOf u) r))
+  pub says : drop 7 (stmtRow (tokenOf s) r) ≡ drop 7 (stmtRow (tokenOf u) r)
+  pub bodies : (p t : ℕ) → r .term ≡ atom p (constant (isString t)) → bodiesAt s t ≡ bodiesAt u t
 
 -- ---- the claims
 
--- the findings and the statements that checking with tables of t, n and k words leaves
+-- the findings and the rows of statements that checking with tables of t, n and k words leaves
 abbrev pub diagsLeft : List ℕ → ℕ → ℕ → ℕ → List Diag
 diagsLeft s t n k = whereDone s t n k (foundBy (checked s))
 
-abbrev pub stmtsLeft : List ℕ → ℕ → ℕ → ℕ → List Held
-stmtsLeft s t n k = whereDone s t n k (if′ (eqb (errorsIn (foundBy (checked s))) 0) (heldBy (checked s)) [])
+abbrev pub stmtsLeft : List ℕ → ℕ → ℕ → ℕ → List Row
+stmtsLeft s t n k = whereDone s t n k (if′ (eqb (errorsIn (foundBy (checked s))) 0) (rowsBy (checked s)) [])
 
--- the table of diagnostics, of m words, has the rows of ds; the table of statements has those of hs
+-- the table of diagnostics, of m words, has the rows of ds; the table of statements has the rows rs
 abbrev pub DiagsAre : List ℕ → ℕ → ℕ → ℕ → ℕ → List Diag → Type 0
 DiagsAre s t n k m ds = checkDiags s t n k m ≡ tabled (diagRow (tokenOf s)) diagWidth m ds
 
-abbrev pub StmtsAre : List ℕ → ℕ → ℕ → ℕ → List Held → Type 0
-StmtsAre s t n k hs = checkStmts s t n k ≡ tabled (stmtRow (tokenOf s)) stmtWidth k hs
+abbrev pub StmtsAre : List ℕ → ℕ → ℕ → ℕ → List Row → Type 0
+StmtsAre s t n k rs = checkStmts s t n k ≡ tabled (stmtRow (tokenOf s)) stmtWidth k rs
 
 -- the whole sentence. Findings and statements name tokens by their index, so "the same .. in the same order" is that the
 -- lists are equal: both tables have the rows of one list, and each of its members is the same, places aside.
@@ -94,7 +96,7 @@ pub record CheckedAlike (s u : List ℕ) : Type 0 where
   pub diags : (t n k m : ℕ) → DiagsAre s t n k m (diagsLeft s t n k) × DiagsAre u t n k m (diagsLeft s t n k)
   pub stmts : (t n k : ℕ) → StmtsAre s t n k (stmtsLeft s t n k) × StmtsAre u t n k (stmtsLeft s t n k)
   pub finding : (d : Diag) → List·Memᴰ d (foundBy (checked s)) → SameFinding s u d
-  pub statement : (h : Held) → List·Memᴰ h (heldBy (checked s)) → SameHeld s u h
+  pub statement : (r : Row) → List·Memᴰ r (rowsBy (checked s)) → SameStatement s u r
 
 -- sources that lex to the same contents are checked alike
 abbrev pub CheckedByContents : Type 0
@@ -115,13 +117,22 @@ pub record ModuleEntry (k : ℕ) : Type 0 where
   pub named : PartOf tableText (entryAt k .start) (entryAt k .end)
   pub plain : entryAt k .value ≡ none
 
+-- one that is a function: it has a name and is its own value, and so many parameters, which have names
+pub record FunctionEntry (k : ℕ) : Type 0 where
+  pub named : PartOf tableText (entryAt k .start) (entryAt k .end)
+  pub itself : entryAt k .value ≡ some (isFunction k)
+  pub params : (p : Param) → List·Memᴰ p (entryAt k .params) → PartOf tableText (p .start) (p .end)
+
 -- "A name shown in a diagnostic is a part of the source or of the table's text": in the source it is the name of the token
--- where the finding stands. An unknown item's first number is the entry of its module, whose name is in the table's text.
+-- where the finding stands. An unknown item's first number is the entry of its module, whose name is in the table's text; of an argument of the wrong type
+-- the first is the entry of the function, and the second the number of its parameter.
 pub record NameShown (s : List ℕ) (d : Diag) (a : Detail) : Type 0 where
   pub known : a .text ≤ 2
   pub source : a .text ≡ 1 → PartOf s (a .start) (a .end) × (between s (a .start) (a .end) ≡ nameAt (contents (tokens s)) (d .at))
   pub table : a .text ≡ 2 → PartOf tableText (a .start) (a .end)
   pub inside : (m : ℕ) → d .what ≡ unknownItem m → ModuleEntry (a .first)
+  pub argument : (f i : ℕ) (t u : Ty) → d .what ≡ argType f i t u
+      → FunctionEntry (a .first) × (a .second < length (entryAt (a .first) .params))
 
 -- a statement's text: in the source a string by its token, whose span lies there and holds its bodies; else a part of the
 -- table's text, the bytes or the function's name
@@ -132,9 +143,10 @@ pub record TextShown (s : List ℕ) (v : Value) : Type 0 where
       × PartOf s (tokenOf s (shownLow v) .start) (tokenOf s (shownLow v) .end)
   pub table : valueText v ≡ 2 → PartOf tableText (shownLow v) (shownHigh v)
 
--- of every finding, and of every statement that is held
+-- of every finding, and of every row of a statement; a call's row names a function
 abbrev pub NamesShown : Type 0
 NamesShown =
     (s : List ℕ)
     → ((d : Diag) → List·Memᴰ d (foundBy (checked s)) → NameShown s d (detail (tokenOf s) (d .at) (d .what)))
-    × ((h : Held) → List·Memᴰ h (heldBy (checked s)) → TextShown s (h .value))
+    × ((r : Row) → List·Memᴰ r (rowsBy (checked s)) → (p : ℕ) (v : Value) → r .term ≡ atom p (constant v) → TextShown s v)
+    × ((r : Row) → List·Memᴰ r (rowsBy (checked s)) → (p f : ℕ) (c : Term) (vs : Terms) → r .term ≡ called p c f vs → FunctionEntry f)

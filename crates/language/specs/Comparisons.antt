@@ -8,7 +8,7 @@ use mathlib.Core.Path.{_≡_}
 use mathlib.Core.List.{List, [], _∷_, map}
 use lib.ListN.{length}
 use Rattle.language.specs.Tokens.{tokens, contents}
-use Rattle.language.specs.Sentences.{Expr, literal, sock4, local, path, member, call, slash′, Stmt, import′, let′, expr′, program}
+use Rattle.language.specs.Sentences.{Expr, literal, sock4, local, path, member, call, slash′, Args, none-given, given, named, Stmt, import′, let′, expr′, program}
 use Rattle.language.specs.Names.{letNames, distinct}
 use Rattle.language.specs.Numbers.{statementsOf, checked, looksBy, comparisons}
 use Rattle.language.specs.Samples.{bytes}
@@ -26,14 +26,20 @@ abbrev pub namesBound : List ℕ → ℕ
 namesBound s = length (distinct (letNames (contents (tokens s)) (statementsIn s)))
 
 -- the lets and local uses that stand in a source, judged or not
-unfoldable pub usesIn : Expr → ℕ
-usesIn (literal t) = 0
-usesIn (sock4 t) = 0
-usesIn (local t) = 1
-usesIn (path t m) = 0
-usesIn (member e t) = usesIn e
-usesIn (slash′ a b) = usesIn a + usesIn b
-usesIn (call e t g) = 0
+unfoldable mutual
+  pub usesIn : Expr → ℕ
+  usesIn (literal t) = 0
+  usesIn (sock4 t) = 0
+  usesIn (local t) = 1
+  usesIn (path t m) = 0
+  usesIn (member e t) = usesIn e
+  usesIn (slash′ a b) = usesIn a + usesIn b
+  usesIn (call e t g) = usesIn e + argUses g
+
+  pub argUses : Args → ℕ
+  argUses none-given = 0
+  argUses (given g e) = argUses g + usesIn e
+  argUses (named g t e) = argUses g + usesIn e
 
 abbrev pub stmtUses : Stmt → ℕ
 stmtUses (import′ t) = 0
@@ -72,6 +78,8 @@ workedLooks =
     ∷ looked "let a=1; let b=2; x; x/a; 1.2.3.4/b;" (0 ∷ 1 ∷ 2 ∷ 2 ∷ 2 ∷ [])
     -- a failed name is bound, and found by its use; imports and paths take no search
     ∷ looked "import bench; let a=x; a; bench::HTTP; import q;" (0 ∷ 0 ∷ 1 ∷ [])
+    -- callees and arguments, left to right; none after one that errs
+    ∷ looked "import bench; let a=1; let f=bench::pick; f(f(a)); f(x, a); a(f);" (0 ∷ 1 ∷ 2 ∷ 2 ∷ 1 ∷ 2 ∷ 2 ∷ 1 ∷ [])
     ∷ []
 
 abbrev pub LooksWorked : Type 0

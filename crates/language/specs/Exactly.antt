@@ -13,12 +13,13 @@ use Rattle.language.specs.Lexemes.{LexErrorKind, scan}
 use Rattle.language.specs.Tokens.{Content, Item, wrong, Wrong, items, firstWrong, tokens, contents, placeOf}
 use Rattle.language.specs.Tables.{errorKind, errorChar}
 use Rattle.language.specs.Canonical.{text}
-use Rattle.language.specs.Sentences.{Out, no, Stmt, Node, callKind, program}
+use Rattle.language.specs.Sentences.{Out, no, Stmt, program}
 use Rattle.language.specs.Bounds.{alone, reached}
 use Rattle.language.specs.Counted.{tooMany}
 use Rattle.language.specs.Judgements.{errorsIn}
-use Rattle.language.specs.Numbers.{Verdict, verdict, placed, tokenPlace, scanAnswer, lexAnswer, parseAnswer, parsedNodes, canonAnswer, firstCall, statementsOf, checked, foundBy, heldBy, checkAnswer}
+use Rattle.language.specs.Numbers.{Verdict, verdict, placed, tokenPlace, scanAnswer, lexAnswer, parseAnswer, parsedNodes, canonAnswer, statementsOf, checked, foundBy, rowsBy, checkAnswer}
 use Rattle.language.specs.Names.{FirstTooMany}
+use Rattle.language.specs.Named.{NamedCall}
 
 -- ---- "Given exactly when"
 
@@ -72,10 +73,10 @@ pub data Reason : ℕ → ℕ → Type 0 where
 abbrev pub NodesExceed : List ℕ → ℕ → Type 0
 NodesExceed s room = room < length (parsedNodes (parse s))
 
--- "the tree holds a call", with "the first call's `(`"
-pub record HoldsCall (s : List ℕ) : Type 0 where
+-- "at its `(`, a call with a named argument whose callee was judged to be a function" (02, E2)
+pub record NamedArgument (s : List ℕ) : Type 0 where
   pub token : ℕ
-  pub found : firstCall (parsedNodes (parse s)) ≡ some token
+  pub found : NamedCall (contents (tokens s)) (statementsOf (parse s)) token
 
 -- "a 513th distinct let name or 65th distinct import name, failed ones counted", with "the earlier such name"
 pub record NamesExceed (s : List ℕ) : Type 0 where
@@ -86,9 +87,10 @@ pub record NamesExceed (s : List ℕ) : Type 0 where
 abbrev pub TextExceeds : List ℕ → ℕ → Type 0
 TextExceeds s room = (room < length (text s)) ⊎ (65536 < length (text s))
 
--- "no errors, and statements exceed the room"
+-- "no errors, and statements exceed the room": "A statement takes one row; each callee, argument and operand below its outermost
+-- expression takes one more, counted in 11" (02, E2)
 abbrev pub StatementsExceed : List ℕ → ℕ → Type 0
-StatementsExceed s room = (errorsIn (foundBy (checked s)) ≡ 0) × (room < length (heldBy (checked s)))
+StatementsExceed s room = (errorsIn (foundBy (checked s)) ≡ 0) × (room < length (rowsBy (checked s)))
 
 -- ---- the table
 
@@ -115,7 +117,8 @@ wrongTold s w =
     let p = placeOf s (w .at .start) in
     record { number = 3; kind = errorKind (w .kind); line = p .line; column = p .column; character = errorChar (w .kind) }
 
--- lexing, then the parser, and then the checker: "6 only when neither 5 nor 7 holds"
+-- lexing, then the parser, and then the checker: "6 only when neither 5 nor 7 holds". A call is met only where no name before it is one
+-- too many: "between 8 and 9 the earlier token decides" (`NamedEarlier`: Named.antt)
 abbrev pub lexing : List ℕ → ℕ → List Row
 lexing s room =
     bare 1 (TooLong s)
@@ -135,7 +138,7 @@ sentences s room =
 
 abbrev pub judging : List ℕ → ℕ → List Row
 judging s room =
-    row 8 (HoldsCall s) (λ h. placed 8 (tokenPlace s (h .token)))
+    row 8 (NamedArgument s) (λ h. placed 8 (tokenPlace s (h .token)))
     ∷ row 9 (NamesExceed s) (λ h. placed 9 (tokenPlace s (h .token)))
     ∷ bare 11 (StatementsExceed s room)
     ∷ []
@@ -208,12 +211,3 @@ WrongIsFirst =
 -- parsing stops for no other reason
 abbrev pub StopsFor : Type 0
 StopsFor = (ts : List Content) (n k at : ℕ) → program ts ≡ no n k at → Reason n k
-
--- "the first call's `(`": it is a call's, and no call's stands before it; and there is no call where none is found
-abbrev pub CallIsFirst : Type 0
-CallIsFirst =
-    (ns : List Node)
-    → ((t : ℕ) → firstCall ns ≡ some t
-    → ((n : Node) × List·Memᴰ n ns × (n .kind ≡ callKind) × (n .third ≡ t))
-    × ((n : Node) → List·Memᴰ n ns → n .kind ≡ callKind → t ≤ n .third))
-    × (firstCall ns ≡ none → (n : Node) → List·Memᴰ n ns → n .kind ≡ callKind → ⊥)

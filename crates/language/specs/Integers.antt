@@ -71,13 +71,13 @@ smallest n =
     (if′ (ltb n (2 ^ 32)) (some u32)
     (if′ (ltb n (2 ^ 64)) (some u64) none)))
 
--- "taken modulo 2^16"
-abbrev pub low16 : ℕ → ℕ
-low16 n = n % 2 ^ 16
+-- the low bits that a type holds: "taken modulo 2^16" for u16
+abbrev pub lowBits : IntType → ℕ → ℕ
+lowBits t n = n % 2 ^ bits t
 
 -- "`Truncated` if that changes it"
-abbrev pub isTruncated : ℕ → Bool
-isTruncated n = not (eqb (low16 n) n)
+abbrev pub isTruncated : IntType → ℕ → Bool
+isTruncated t n = not (eqb (lowBits t n) n)
 
 -- ---- the claims
 

@@ -14,7 +14,7 @@ use Rattle.language.specs.Tables.{lexemeRow, lexemeWidth, tokenRow, toke
 use Rattle.language.specs.Sentences.{nodeRow, nodeWidth}
 use Rattle.language.specs.Judgements.{Diag}
 use Rattle.language.specs.Findings.{diagRow, diagWidth, stmtRow, stmtWidth}
-use Rattle.language.specs.Numbers.{scanAnswer, scanTable, lexAnswer, lexTable, parsedNodes, parseAnswer, parseTokens, parseNodes, canonAnswer, canonTokens, canonText, tokenOf, checked, foundBy, heldBy, comparisons, checkAnswer, checkTokens, checkNodes, checkDiags, checkStmts}
+use Rattle.language.specs.Numbers.{scanAnswer, scanTable, lexAnswer, lexTable, parsedNodes, parseAnswer, parseTokens, parseNodes, canonAnswer, canonTokens, canonText, tokenOf, checked, foundBy, rowsBy, comparisons, checkAnswer, checkTokens, checkNodes, checkDiags, checkStmts}
 use Rattle.language.specs.Exactly.{parse}
 
 -- ---- one table
@@ -69,7 +69,7 @@ pub record CheckLeaves (s : List ℕ) (t n d k number counted rows errors warnin
   pub diags : Leaves (diagRow (tokenOf s)) diagWidth d (foundBy (checked s)) number (errors + warnings) found
   pub wrong : number ≡ 0 → errors ≡ severe s 1 (foundBy (checked s))
   pub warned : number ≡ 0 → warnings ≡ severe s 2 (foundBy (checked s))
-  pub stmts : errors ≡ 0 → Leaves (stmtRow (tokenOf s)) stmtWidth k (heldBy (checked s)) number statements held
+  pub stmts : errors ≡ 0 → Leaves (stmtRow (tokenOf s)) stmtWidth k (rowsBy (checked s)) number statements held
   pub none-held : (errors ≡ 0 → ⊥) → (statements ≡ 0) × AllZero held
   -- "It joins the answer of check, is 0 on refusal" (02, E8), and no room is in it
   pub compares : number ≡ 0 → compared ≡ comparisons s

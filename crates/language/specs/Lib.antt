@@ -9,6 +9,7 @@ pub mod Canonical
 pub mod Tables
 pub mod Sentences
 pub mod Values
+pub mod Terms
 pub mod Judgements
 pub mod Findings
 pub mod Numbers
@@ -21,6 +22,8 @@ pub mod Follows
 pub mod Counted
 pub mod Rows
 pub mod Names
+pub mod Named
+pub mod Slots
 pub mod Checks
 pub mod Numbered
 pub mod Comparisons

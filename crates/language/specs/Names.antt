@@ -9,7 +9,7 @@ use Rattle.language.specs.Choice.{if′}
 use Rattle.language.specs.Lexemes.{same}
 use Rattle.language.specs.Tokens.{Content}
 use Rattle.language.specs.Sentences.{Stmt, import′, let′, expr′, ok, program}
-use Rattle.language.specs.Judgements.{namesNumber, nameAt, refused, judgeAll}
+use Rattle.language.specs.Judgements.{namedNumber, namesNumber, nameAt, refused, judgeAll}
 
 -- names other than w
 unfoldable pub without : List ℕ → List (List ℕ) → List (List ℕ)
@@ -63,9 +63,11 @@ NamedAt (expr′ e) u = ⊥
 
 -- ---- the claims
 
--- judging refuses statements exactly when such a name stands there, with this number and at the earlier one
+-- judging refuses statements with this number exactly when such a name stands there, at the earlier one, and no 8 is met before
 abbrev pub NamesRefused : Type 0
-NamesRefused = (ts : List Content) (ss : List Stmt) (m t : ℕ) → judgeAll ts ss ≡ refused m t ↔ (m ≡ namesNumber) × FirstTooMany ts ss t
+NamesRefused =
+    (ts : List Content) (ss : List Stmt) (t : ℕ)
+    → judgeAll ts ss ≡ refused namesNumber t ↔ FirstTooMany ts ss t × ((u : ℕ) → ¬ (judgeAll ts ss ≡ refused namedNumber u))
 
 -- of two statements of a program the one before has its name at the earlier token
 abbrev pub NamesAscend : Type 0

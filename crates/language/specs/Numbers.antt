@@ -12,9 +12,9 @@ use Rattle.language.specs.Utf8.{firstBad}
 use Rattle.language.specs.Lexemes.{scan}
 use Rattle.language.specs.Tables.{lexemeRow, lexemeWidth, tokenRow, tokenWidth, errorKind, errorChar}
 use Rattle.language.specs.Tokens.{mostBytes, Token, Wrong, items, firstWrong, tokens, contents, eofToken, Place, placeOf}
-use Rattle.language.specs.Sentences.{Out, ok, no, Stmt, Node, callKind, program, nodes, nodeRow, nodeWidth}
+use Rattle.language.specs.Sentences.{Out, ok, no, Stmt, Node, program, nodes, nodeRow, nodeWidth}
 use Rattle.language.specs.Judgements.{Diag, Held, Outcome, judged, refused, errorsIn, warningsIn, judgeAll}
-use Rattle.language.specs.Findings.{diagRow, diagWidth, stmtRow, stmtWidth}
+use Rattle.language.specs.Findings.{diagRow, diagWidth, Row, rowsOf, stmtRow, stmtWidth}
 
 -- the number, which of its kinds it is, its place, and the character of an `UnexpectedChar`
 pub record Verdict : Type 0 where
@@ -171,16 +171,6 @@ pub record Checked : Type 0 where
 abbrev pub refusedCheck : Verdict → Checked
 refusedCheck v = record { verdict = v; tokens = 0; nodes = 0; errors = 0; warnings = 0; statements = 0; comparisons = 0 }
 
--- the earlier of a token and another, if there is another
-abbrev pub sooner : ℕ → Option ℕ → Option ℕ
-sooner t none = some t
-sooner t (some u) = if′ (ltb u t) (some u) (some t)
-
--- "the first call's `(`"
-unfoldable pub firstCall : List Node → Option ℕ
-firstCall [] = none
-firstCall (n ∷ ns) = if′ (eqb (n .kind) callKind) (sooner (n .third) (firstCall ns)) (firstCall ns)
-
 -- the program, its findings and the statements that it holds; nothing where it does not parse
 abbrev pub statementsOf : Out (List Stmt) → List Stmt
 statementsOf (ok ss at x) = ss
@@ -196,6 +186,10 @@ foundBy (refused m t) = []
 abbrev pub heldBy : Outcome → List Held
 heldBy (judged ds hs ls) = hs
 heldBy (refused m t) = []
+
+-- "A statement takes one row; each callee, argument and operand below its outermost expression takes one more, counted in 11" (02, E2)
+abbrev pub rowsBy : Outcome → List Row
+rowsBy o = rowsOf (heldBy o)
 
 abbrev pub looksBy : Outcome → List ℕ
 looksBy (judged ds hs ls) = ls
@@ -213,8 +207,8 @@ comparisons s = sum (looksBy (checked s))
 abbrev pub checkedWithin : ℕ → ℕ → ℕ → List Diag → List Held → ℕ → Checked
 checkedWithin room t n ds hs c =
     if′ (eqb (errorsIn ds) 0)
-    (if′ (ltb room (length hs)) (refusedCheck (verdict 11 0 0))
-    (record { verdict = verdict 0 0 0; tokens = t; nodes = n; errors = 0; warnings = warningsIn ds; statements = length hs; comparisons = c }))
+    (if′ (ltb room (length (rowsOf hs))) (refusedCheck (verdict 11 0 0))
+    (record { verdict = verdict 0 0 0; tokens = t; nodes = n; errors = 0; warnings = warningsIn ds; statements = length (rowsOf hs); comparisons = c }))
     (record { verdict = verdict 0 0 0; tokens = t; nodes = n; errors = errorsIn ds; warnings = warningsIn ds; statements = 0; comparisons = c })
 
 -- a refusal at its token, or what was judged
@@ -222,16 +216,12 @@ abbrev pub judgedWithin : List ℕ → ℕ → ℕ → ℕ → Outcome → Check
 judgedWithin s room t n (refused m at) = refusedCheck (placed m (tokenPlace s at))
 judgedWithin s room t n (judged ds hs ls) = checkedWithin room t n ds hs (sum ls)
 
--- "check 1 to 9 and 11": where parsing refuses, that; then "the tree holds a call"
+-- "check 1 to 9 and 11": where parsing refuses, that. Judging goes by statements in order and stops at the first 8 or 9 that it meets:
+-- "between 8 and 9 the earlier token decides" (02, E2)
 unfoldable pub checkAnswer : List ℕ → ℕ → ℕ → ℕ → Checked
 checkAnswer s tokenRoom nodeRoom stmtRoom =
     let p = parseAnswer s tokenRoom nodeRoom in
-    if′ (eqb (p .verdict .number) 0)
-    (elim (firstCall (parsedNodes (program (contents (tokens s))))) [
-      | some at ↦ refusedCheck (placed 8 (tokenPlace s at))
-      | none ↦ judgedWithin s stmtRoom (p .tokens) (p .nodes) (checked s)
-    ])
-    (refusedCheck (p .verdict))
+    if′ (eqb (p .verdict .number) 0) (judgedWithin s stmtRoom (p .tokens) (p .nodes) (checked s)) (refusedCheck (p .verdict))
 
 -- the token with an index; past the end `Eof`
 abbrev pub tokenOf : List ℕ → ℕ → Token
@@ -256,7 +246,7 @@ checkDiags s t n k d = tabled (diagRow (tokenOf s)) diagWidth d (whereDone s t n
 unfoldable pub checkStmts : List ℕ → ℕ → ℕ → ℕ → List ℕ
 checkStmts s t n k =
     tabled (stmtRow (tokenOf s)) stmtWidth k
-    (whereDone s t n k (if′ (eqb (errorsIn (foundBy (checked s))) 0) (heldBy (checked s)) []))
+    (whereDone s t n k (if′ (eqb (errorsIn (foundBy (checked s))) 0) (rowsBy (checked s)) []))
 
 -- ---- the claims: parsing goes by contents alone
 

@@ -10,7 +10,8 @@ use Rattle.language.specs.Integers.{IntType, u8, u16, u32, u64}
 use Rattle.language.specs.Lexemes.{Kind, tok, error, dot, ipv4Literal, decLiteral, intOutOfRange, intInvalidSuffix, badIPv4Literal, scan}
 use Rattle.language.specs.Tokens.{Content, between, tokens, contents}
 use Rattle.language.specs.Sentences.{Stmt, program}
-use Rattle.language.specs.Values.{Value, isSized, isSock4, tyInt, tySock4}
+use Rattle.language.specs.Values.{isSized, isSock4, tyInt, tySock4}
+use Rattle.language.specs.Terms.{constant, Term, atom}
 use Rattle.language.specs.Judgements.{What, unknownName, integralTooLarge, discardedValue, truncated, Binding, Known, known, goes, refuses, stmt}
 use Rattle.language.specs.Numbers.{Verdict, verdict, tokenPlace, statementsOf, checked, foundBy, heldBy, checkAnswer}
 
@@ -40,10 +41,10 @@ at l c x = record { line = l; column = c; it = x }
 pub record Seen : Type 0 where
   pub verdict : Verdict
   pub findings : List (At What)
-  pub held : List (At Value)
+  pub held : List (At Term)
   pub bound : List Binding
 
-abbrev pub seen : Verdict → List (At What) → List (At Value) → List Binding → Seen
+abbrev pub seen : Verdict → List (At What) → List (At Term) → List Binding → Seen
 seen v ds hs bs = record { verdict = v; findings = ds; held = hs; bound = bs }
 
 -- ---- what the definitions come to
@@ -77,10 +78,10 @@ programStmts = 512
 abbrev pub checking : List ℕ → Seen
 checking s =
     let ts = contents (tokens s) in
-    let k = knownAfter ts (statementsOf (program ts)) 1 (known [] []) in
+    let k = knownAfter ts (statementsOf (program ts)) 1 (known [] [] 0) in
     seen (checkAnswer s programTokens programNodes programStmts .verdict)
     (map (λ d. there s (d .at) (d .what)) (foundBy (checked s)))
-    (map (λ h. there s (h .at) (h .value)) (heldBy (checked s)))
+    (map (λ h. there s (h .at) (h .term)) (heldBy (checked s)))
     (k .bindings)
 
 -- ---- the samples
@@ -99,12 +100,12 @@ abbrev pub whole : String → Kind → Sample
 whole t k = line t (piece t k ∷ [])
 
 -- a source that is done, and binds no name
-abbrev pub judges : String → List (At What) → List (At Value) → Sample
+abbrev pub judges : String → List (At What) → List (At Term) → Sample
 judges t ds hs = source t (seen (verdict 0 0 0) ds hs [])
 
 -- an integer statement, with the type that it takes
 abbrev pub sized : String → IntType → ℕ → Sample
-sized t u n = judges t (at 1 1 (discardedValue (tyInt u)) ∷ []) (at 1 1 (isSized u n) ∷ [])
+sized t u n = judges t (at 1 1 (discardedValue (tyInt u)) ∷ []) (at 1 1 (atom 0 (constant (isSized u n))) ∷ [])
 
 -- a source that is number 5, of the kind 1, `UnexpectedToken`, or 2, `IntOutOfRange`, at a place
 abbrev pub stops : String → ℕ → ℕ → ℕ → Sample
@@ -130,10 +131,10 @@ samples =
     ∷ judges "18446744073709551616;" (at 1 1 integralTooLarge ∷ []) []
     -- "`1.2.3.4/18446744073709551696;`: `Truncated`, port 80, then `DiscardedValue`."
     ∷ judges "1.2.3.4/18446744073709551696;" (at 1 9 (truncated 18446744073709551696 (tyInt u16)) ∷ at 1 1 (discardedValue tySock4) ∷ [])
-    (at 1 1 (isSock4 0x01020304 80) ∷ [])
+    (at 1 1 (atom 0 (constant (isSock4 0x01020304 80))) ∷ [])
     -- "`1.2.3.4/bench::BIG;` after import: the same two, port 4464."
     ∷ judges "import bench;\n1.2.3.4/bench::BIG;" (at 2 9 (truncated 70000 (tyInt u16)) ∷ at 2 1 (discardedValue tySock4) ∷ [])
-    (at 2 1 (isSock4 0x01020304 4464) ∷ [])
+    (at 2 1 (atom 3 (constant (isSock4 0x01020304 4464))) ∷ [])
     -- "`1.2.3.4:65536` is number 5, `1.2.3.4:0x50` too."
     ∷ stops "1.2.3.4:65536" 2 1 9
     ∷ stops "1.2.3.4:0x50" 1 1 9

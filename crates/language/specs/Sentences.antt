@@ -409,36 +409,3 @@ abbrev pub TablesDetermine : Type 0
 TablesDetermine =
     (n : ℕ) (ss us : List Stmt) → length (nodes ss) ≤ n / nodeWidth → length (nodes us) ≤ n / nodeWidth
     → tabled nodeRow nodeWidth n (nodes ss) ≡ tabled nodeRow nodeWidth n (nodes us) → ss ≡ us
-
--- "the tree holds a call": the token of `(` of each call of a tree, in the order of the rows
-abbrev mutual
-  pub callsOf : Expr → List ℕ
-  callsOf (literal t) = []
-  callsOf (sock4 t) = []
-  callsOf (local t) = []
-  callsOf (path t n) = []
-  callsOf (member e t) = callsOf e
-  callsOf (slash′ a b) = callsOf a ++ callsOf b
-  callsOf (call e t g) = callsOf e ++ argCalls g ++ t ∷ []
-
-  pub argCalls : Args → List ℕ
-  argCalls none-given = []
-  argCalls (given g e) = argCalls g ++ callsOf e
-  argCalls (named g t e) = argCalls g ++ callsOf e
-
-abbrev pub stmtCalls : Stmt → List ℕ
-stmtCalls (import′ t) = []
-stmtCalls (let′ t e) = callsOf e
-stmtCalls (expr′ e) = callsOf e
-
-abbrev pub programCalls : List Stmt → List ℕ
-programCalls [] = []
-programCalls (s ∷ ss) = stmtCalls s ++ programCalls ss
-
--- the rows of a call's kind are those of the trees' calls, each with its `(`, and no others
-unfoldable pub callTokens : List Node → List ℕ
-callTokens [] = []
-callTokens (n ∷ ns) = if′ (eqb (n .kind) callKind) (n .third ∷ callTokens ns) (callTokens ns)
-
-abbrev pub CallsShown : Type 0
-CallsShown = (ss : List Stmt) → callTokens (nodes ss) ≡ programCalls ss

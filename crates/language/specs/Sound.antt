@@ -14,9 +14,11 @@ use Rattle.language.specs.Tokens.{Content, eof, plain, name, string, tok
 use Rattle.language.specs.Sentences.{Expr, literal, sock4, local, path, member, call, slash′, Args, none-given, given, named, Stmt, import′, let′, expr′, firstOf, largestPort, ok, is, isLiteral, program}
 use Rattle.language.specs.Tables.{contentLow}
 use Rattle.language.specs.Bounds.{alone}
-use Rattle.language.specs.Values.{Value, isSock4, typeOf, entryAt, lookup}
-use Rattle.language.specs.Judgements.{namesNumber, mostNames, mostImports, unknownItem, unknownModule, notImported, alreadyBound, noMembers, multipleImports, Diag, diag, Judged, val, err, poisoned, Judgement, judgement, andThen, Import, Binding, Known, known, find, findImport, compared, Held, Turn, goes, refuses, Outcome, judged, refused, content, literalAt, lastItem, innerItem, boundTo, leftOf, rightOf, told, onward}
-use Rattle.language.specs.Numbers.{firstCall, parsedNodes, statementsOf, checked, foundBy, heldBy}
+use Rattle.language.specs.Values.{Value, isSock4, entryAt, lookup}
+use Rattle.language.specs.Terms.{Atom, constant, slot, Term, atom, termAt, termType, atomOf}
+use Rattle.language.specs.Judgements.{namedNumber, namesNumber, mostNames, mostImports, unknownItem, unknownModule, notImported, alreadyBound, multipleImports, Diag, diag, Judged, val, err, poisoned, stopped, Judgement, judgement, fine, andThen, Import, Binding, Known, known, find, findImport, compared, lets, Held, held, Turn, goes, refuses, Outcome, judged, refused, content, literalAt, lastItem, innerItem, boundTo, used, Arg, nextArg, calledName, applied, over, membered, told, onward}
+use Rattle.language.specs.Findings.{Row}
+use Rattle.language.specs.Numbers.{statementsOf, checked, foundBy, rowsBy}
 
 -- ---- trees that name tokens of the right kinds
 
@@ -70,13 +72,13 @@ module _ (ts : List Content) where
 -- ---- judging with other values where something cannot happen
 
 -- what stands for the bytes of a token that is no name, the value of one that is no literal, the number of one that is no address or
--- no decimal, for what a path comes to that has no name to look up, and for a call, which is refused before
+-- no decimal, for what a path comes to that has no name to look up, and for arguments with a named one, which are refused before
 pub record MadeUp : Type 0 where
   pub bytes : List ℕ
   pub value : Value
   pub number : ℕ
-  pub walked : Judged
-  pub called : Judgement
+  pub walked : Judged Term
+  pub given : Judgement (List Arg)
 
 -- the definitions of Judgements.antt, of the same names without `Or`, but that these stand there
 module _ (ts : List Content) (x : MadeUp) where
@@ -95,55 +97,67 @@ module _ (ts : List Content) (x : MadeUp) where
   unfoldable pub numberOr : Content → ℕ → ℕ
   numberOr c t = if′ (is ts t c) (contentLow (content ts t)) (x .number)
 
-  unfoldable pub walkOr : ℕ → ℕ → ℕ → Judged
-  walkOr zero m t = x .walked
-  walkOr (suc zero) m t = elim (lookup m (nameOr (t + 2))) [
+  unfoldable pub walkOr : ℕ → ℕ → ℕ → ℕ → Judged Term
+  walkOr p zero m t = x .walked
+  walkOr p (suc zero) m t = elim (lookup m (nameOr (t + 2))) [
     | none ↦ err (t + 2) (unknownItem m)
-    | some k ↦ lastItem ts (t + 2) (entryAt k .value)
+    | some k ↦ lastItem ts p (t + 2) (entryAt k .value)
   ]
-  walkOr (suc (suc n)) m t = elim (lookup m (nameOr (t + 2))) [
+  walkOr p (suc (suc n)) m t = elim (lookup m (nameOr (t + 2))) [
     | none ↦ err (t + 2) (unknownItem m)
-    | some k ↦ innerItem ts (t + 2) (entryAt k .value) (walkOr (suc n) k (t + 2))
+    | some k ↦ innerItem ts (t + 2) (entryAt k .value) (walkOr p (suc n) k (t + 2))
   ]
 
-  abbrev pub belowOr : ℕ → ℕ → Option Import → Judged
+  abbrev pub belowOr : ℕ → ℕ → Option Import → Judged Term
   belowOr t n none = err t notImported
-  belowOr t n (some i) = elim (i .found) [ none ↦ poisoned | some m ↦ walkOr n m t ]
+  belowOr t n (some i) = elim (i .found) [ none ↦ poisoned | some m ↦ walkOr t n m t ]
 
   module _ (n : ℕ) where
-    unfoldable pub judgeOr : Known → Expr → Judgement
-    judgeOr k (literal t) = judgement (val (literalOr t)) []
-    judgeOr k (sock4 t) = judgement (val (isSock4 (numberOr (plain (ipv4Literal 0)) t) (numberOr (plain (decLiteral 0)) (t + 2)))) []
-    judgeOr k (local t) =
-        record { out = boundTo ts t (find (k .bindings) (nameOr t)); warns = []; looks = compared (k .bindings) (nameOr t) ∷ [] }
-    judgeOr k (path t m) = judgement (belowOr t m (findImport (k .imports) (nameOr t))) []
-    judgeOr k (member e t) = andThen (judgeOr k e) (λ v. judgement (err t (noMembers (typeOf v))) [])
-    judgeOr k (slash′ a b) =
-        andThen (judgeOr k a) (leftOf ts (firstOf a) (λ ip. andThen (judgeOr k b) (rightOf ts n ip (firstOf b))))
-    judgeOr k (call e t g) = x .called
+    unfoldable mutual
+      pub judgeOr : Known → Expr → Judgement Term
+      judgeOr k (literal t) = fine (atom t (constant (literalOr t)))
+      judgeOr k (sock4 t) =
+          fine (atom t (constant (isSock4 (numberOr (plain (ipv4Literal 0)) t) (numberOr (plain (decLiteral 0)) (t + 2)))))
+      judgeOr k (local t) =
+          record { out = boundTo ts t (find (k .bindings) (nameOr t)); warns = []; looks = compared (k .bindings) (nameOr t) ∷ [] }
+      judgeOr k (path t m) = judgement (belowOr t m (findImport (k .imports) (nameOr t))) []
+      judgeOr k (member e t) = andThen (judgeOr k e) (membered t)
+      judgeOr k (slash′ a b) = andThen (judgeOr k a) (over n (firstOf a) (firstOf b) (judgeOr k b))
+      judgeOr k (call e t g) = andThen (judgeOr k e) (applied n (calledName e) t g (judgeArgsOr k g))
+
+      pub judgeArgsOr : Known → Args → Judgement (List Arg)
+      judgeArgsOr k none-given = fine []
+      judgeArgsOr k (given g e) = andThen (judgeArgsOr k g) (nextArg (firstOf e) (judgeOr k e))
+      judgeArgsOr k (named g t e) = x .given
 
     abbrev pub importedOr : Known → ℕ → Option ℕ → Turn
-    importedOr k t (some m) = goes (known (k .imports ++ record { name = nameOr t; found = some m } ∷ []) (k .bindings)) [] [] []
+    importedOr k t (some m) = goes (known (k .imports ++ record { name = nameOr t; found = some m } ∷ []) (k .bindings) (k .slots)) [] [] []
     importedOr k t none =
-        goes (known (k .imports ++ record { name = nameOr t; found = none } ∷ []) (k .bindings)) (diag n t unknownModule ∷ []) [] []
+        goes (known (k .imports ++ record { name = nameOr t; found = none } ∷ []) (k .bindings) (k .slots)) (diag n t unknownModule ∷ []) [] []
 
     abbrev pub importStmtOr : Known → ℕ → Option Import → Turn
     importStmtOr k t (some i) = goes k (diag n t multipleImports ∷ []) [] []
     importStmtOr k t none =
         if′ (ltb (length (k .imports)) mostImports) (importedOr k t (lookup 0 (nameOr t))) (refuses namesNumber t)
 
-    abbrev pub bindOr : Known → ℕ → Option Value → Known
-    bindOr k t v = known (k .imports) (k .bindings ++ record { name = nameOr t; tok = t; value = v } ∷ [])
+    abbrev pub bindOr : Known → ℕ → Option Atom → ℕ → Known
+    bindOr k t v m = known (k .imports) (k .bindings ++ record { name = nameOr t; tok = t; value = v } ∷ []) m
 
-    abbrev pub boundOr : Known → ℕ → Judged → List Diag → List ℕ → Turn
-    boundOr k t (val v) ws ls = goes (bindOr k t (some v)) ws [] ls
-    boundOr k t (err at w) ws ls = goes (bindOr k t none) (ws ++ diag n at w ∷ []) [] ls
-    boundOr k t poisoned ws ls = goes (bindOr k t none) ws [] ls
+    abbrev pub boundAsOr : Known → ℕ → Term → Option Atom → List Diag → List ℕ → Turn
+    boundAsOr k t v (some a) ws ls = goes (bindOr k t (some a) (k .slots)) ws [] ls
+    boundAsOr k t v none ws ls =
+        goes (bindOr k t (some (slot (k .slots) (termType v))) (suc (k .slots))) ws (held t (lets (k .slots)) v ∷ []) ls
+
+    abbrev pub boundOr : Known → ℕ → Judged Term → List Diag → List ℕ → Turn
+    boundOr k t (val v) ws ls = boundAsOr k t v (atomOf v) ws ls
+    boundOr k t (err at w) ws ls = goes (bindOr k t none (k .slots)) (ws ++ diag n at w ∷ []) [] ls
+    boundOr k t poisoned ws ls = goes (bindOr k t none (k .slots)) ws [] ls
+    boundOr k t (stopped p) ws ls = refuses namedNumber p
 
     abbrev pub letStmtOr : Known → ℕ → Expr → ℕ → Option Binding → Turn
     letStmtOr k t e l (some b) = goes k (diag n t (alreadyBound (b .tok)) ∷ []) [] (l ∷ [])
     letStmtOr k t e l none =
-        let j = judgeOr k e in
+        let j = andThen (judgeOr k e) used in
         if′ (ltb (length (k .bindings)) mostNames) (boundOr k t (j .out) (j .warns) (l ∷ j .looks)) (refuses namesNumber t)
 
     unfoldable pub stmtOr : Known → Stmt → Turn
@@ -156,7 +170,7 @@ module _ (ts : List Content) (x : MadeUp) where
   runOr (s ∷ ss) n k ds hs ls = onward ts (stmtOr n k s) ds hs ls (λ k′ es gs ms. runOr ss (suc n) k′ es gs ms)
 
   abbrev pub judgeAllOr : List Stmt → Outcome
-  judgeAllOr ss = runOr ss 1 (known [] []) [] [] []
+  judgeAllOr ss = runOr ss 1 (known [] [] 0) [] [] []
 
 -- ---- the claims
 
@@ -173,18 +187,17 @@ NoneAfter =
     (s : List ℕ) (us : List Content) (ss : List Stmt) (next x : ℕ) → program (contents (tokens s)) ≡ ok ss next x
     → alone (contents (tokens s) ++ us) ≡ ok ss next x
 
--- in a source with no call, judging asks for none of these values: whatever they are, it comes to the same
+-- judging asks for none of these values: whatever they are, it comes to the same
 abbrev pub NothingMadeUp : Type 0
 NothingMadeUp =
-    (s : List ℕ) (x : MadeUp) → firstCall (parsedNodes (program (contents (tokens s)))) ≡ none
-    → judgeAllOr (contents (tokens s)) x (statementsOf (program (contents (tokens s)))) ≡ checked s
+    (s : List ℕ) (x : MadeUp) → judgeAllOr (contents (tokens s)) x (statementsOf (program (contents (tokens s)))) ≡ checked s
 
 -- and the places that check shows are those of tokens of the source: of each finding, and where its name was bound first; of each
--- statement that is held; of a name that is one too many; and of the first call. Of 5 and 7 it is `StopsInside` (Grammar.antt).
+-- row of a statement, and of its expression; of a name that is one too many, and of the `(` of number 8. Of 5 and 7 it is
+-- `StopsInside` (Grammar.antt).
 abbrev pub PlacesInside : Type 0
 PlacesInside =
     (s : List ℕ) (t : ℕ)
     → ((d : Diag) → List·Memᴰ d (foundBy (checked s)) → (d .at < length (tokens s)) × (d .what ≡ alreadyBound t → t < length (tokens s)))
-    × ((h : Held) → List·Memᴰ h (heldBy (checked s)) → h .at < length (tokens s))
+    × ((r : Row) → List·Memᴰ r (rowsBy (checked s)) → (r .at < length (tokens s)) × (termAt (r .term) < length (tokens s)))
     × ((m : ℕ) → checked s ≡ refused m t → t < length (tokens s))
-    × (firstCall (parsedNodes (program (contents (tokens s)))) ≡ some t → t < length (tokens s))

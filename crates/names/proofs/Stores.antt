@@ -46,7 +46,7 @@ module _ {A : Type 0} where
 
 module _ (room : ℕ) (ws : List ℕ) (u : ℕ) (e : Entry) (size : length ws ≡ room * nameWidth) (fits : u < room) where
   abbrev at : ℕ
-  at = room + 6 * u
+  at = room + 7 * u
 
   abbrev w1 : List ℕ
   w1 = set ws u (e .key)
@@ -61,27 +61,46 @@ module _ (room : ℕ) (ws : List ℕ) (u : ℕ) (e : Entry) (size : length ws �
   w4 = set w3 (at + 2) (e .token)
 
   abbrev w5 : List ℕ
-  w5 = set w4 (at + 3) (e .kind)
+  w5 = set w4 (at + 3) (e .form)
 
   abbrev w6 : List ℕ
-  w6 = set w5 (at + 4) (e .lo)
+  w6 = set w5 (at + 4) (e .kind)
+
+  abbrev w7 : List ℕ
+  w7 = set w6 (at + 5) (e .lo)
 
   abbrev now : List ℕ
-  now = set w6 (at + 5) (e .hi)
+  now = set w7 (at + 6) (e .hi)
 
   pub stored-long : length (stored room ws u e) ≡ length ws
   stored-long = simp length-set
 
-  -- a word that is none of the entry's
-  other : (p : ℕ) → (p ≡ u → ⊥) → p < at → getD now p 0 ≡ getD ws p 0
-  other p a b =
-      getD-set-other w6 (at + 5) p (e .hi) 0 (λ q. absurd (omega (arith, q)))
-      ∙ getD-set-other w5 (at + 4) p (e .lo) 0 (λ q. absurd (omega (arith, q)))
-      ∙ getD-set-other w4 (at + 3) p (e .kind) 0 (λ q. absurd (omega (arith, q)))
-      ∙ getD-set-other w3 (at + 2) p (e .token) 0 (λ q. absurd (omega (arith, q)))
-      ∙ getD-set-other w2 (at + 1) p (e .end) 0 (λ q. absurd (omega (arith, q)))
-      ∙ getD-set-other w1 at p (e .start) 0 (λ q. absurd (omega (arith, q)))
-      ∙ getD-set-other ws u p (e .key) 0 (λ q. a q)
+  -- a word is as it was before those after it were stored
+  module _ (p : ℕ) where
+    kept7 : p < at + 6 → getD now p 0 ≡ getD w7 p 0
+    kept7 l = getD-set-other w7 (at + 6) p (e .hi) 0 (λ q. absurd (omega (arith, q)))
+
+    kept6 : p < at + 5 → getD now p 0 ≡ getD w6 p 0
+    kept6 l = kept7 (omega arith) ∙ getD-set-other w6 (at + 5) p (e .lo) 0 (λ q. absurd (omega (arith, q)))
+
+    kept5 : p < at + 4 → getD now p 0 ≡ getD w5 p 0
+    kept5 l = kept6 (omega arith) ∙ getD-set-other w5 (at + 4) p (e .kind) 0 (λ q. absurd (omega (arith, q)))
+
+    kept4 : p < at + 3 → getD now p 0 ≡ getD w4 p 0
+    kept4 l = kept5 (omega arith) ∙ getD-set-other w4 (at + 3) p (e .form) 0 (λ q. absurd (omega (arith, q)))
+
+    kept3 : p < at + 2 → getD now p 0 ≡ getD w3 p 0
+    kept3 l = kept4 (omega arith) ∙ getD-set-other w3 (at + 2) p (e .token) 0 (λ q. absurd (omega (arith, q)))
+
+    kept2 : p < at + 1 → getD now p 0 ≡ getD w2 p 0
+    kept2 l = kept3 (omega arith) ∙ getD-set-other w2 (at + 1) p (e .end) 0 (λ q. absurd (omega (arith, q)))
+
+    kept1 : p < at → getD now p 0 ≡ getD w1 p 0
+    kept1 l = kept2 (omega arith) ∙ getD-set-other w1 at p (e .start) 0 (λ q. absurd (omega (arith, q)))
+
+    -- one that is none of the entry's
+    other : (p ≡ u → ⊥) → p < at → getD now p 0 ≡ getD ws p 0
+    other a l = kept1 l ∙ getD-set-other ws u p (e .key) 0 (λ q. a q)
 
   rooms : length ws / nameWidth ≡ room
   rooms = omega (arith, size)
@@ -92,67 +111,47 @@ module _ (room : ℕ) (ws : List ℕ) (u : ℕ) (e : Entry) (size : length ws �
   pub old-key : (i : ℕ) → i < u → keyAt (stored room ws u e) i ≡ keyAt ws i
   old-key i h = other i (λ q. absurd (omega (arith, q))) (omega arith)
 
-  pub old-word : (i j : ℕ) → i < u → j < 6 → nameWord (stored room ws u e) i j ≡ nameWord ws i j
-  old-word i j h l = rw (rooms-now, rooms) (other (room + 6 * i + j) (λ q. absurd (omega (arith, q))) (omega arith))
+  pub old-word : (i j : ℕ) → i < u → j < 7 → nameWord (stored room ws u e) i j ≡ nameWord ws i j
+  old-word i j h l = rw (rooms-now, rooms) (other (room + 7 * i + j) (λ q. absurd (omega (arith, q))) (omega arith))
 
   pub new-key : keyAt (stored room ws u e) u ≡ e .key
-  new-key =
-      getD-set-other w6 (at + 5) u (e .hi) 0 (λ q. absurd (omega (arith, q)))
-      ∙ getD-set-other w5 (at + 4) u (e .lo) 0 (λ q. absurd (omega (arith, q)))
-      ∙ getD-set-other w4 (at + 3) u (e .kind) 0 (λ q. absurd (omega (arith, q)))
-      ∙ getD-set-other w3 (at + 2) u (e .token) 0 (λ q. absurd (omega (arith, q)))
-      ∙ getD-set-other w2 (at + 1) u (e .end) 0 (λ q. absurd (omega (arith, q)))
-      ∙ getD-set-other w1 at u (e .start) 0 (λ q. absurd (omega (arith, q)))
-      ∙ getD-set-same ws u (e .key) 0 (omega (arith, size))
+  new-key = kept1 u (omega arith) ∙ getD-set-same ws u (e .key) 0 (omega (arith, size))
 
   pub new-start : nameWord (stored room ws u e) u 0 ≡ e .start
   new-start =
-      let z : room + 6 * u + 0 ≡ at = omega arith in
+      let z : room + 7 * u + 0 ≡ at = omega arith in
       let l : length w1 ≡ length ws = simp length-set in
-      rw (rooms-now, z) (
-      getD-set-other w6 (at + 5) at (e .hi) 0 (λ q. absurd (omega (arith, q)))
-      ∙ getD-set-other w5 (at + 4) at (e .lo) 0 (λ q. absurd (omega (arith, q)))
-      ∙ getD-set-other w4 (at + 3) at (e .kind) 0 (λ q. absurd (omega (arith, q)))
-      ∙ getD-set-other w3 (at + 2) at (e .token) 0 (λ q. absurd (omega (arith, q)))
-      ∙ getD-set-other w2 (at + 1) at (e .end) 0 (λ q. absurd (omega (arith, q)))
-      ∙ getD-set-same w1 at (e .start) 0 (omega (arith, size, l)))
+      rw (rooms-now, z) (kept2 at (omega arith) ∙ getD-set-same w1 at (e .start) 0 (omega (arith, size, l)))
 
   pub new-end : nameWord (stored room ws u e) u 1 ≡ e .end
   new-end =
       let l : length w2 ≡ length ws = simp length-set in
-      rw rooms-now (
-      getD-set-other w6 (at + 5) (at + 1) (e .hi) 0 (λ q. absurd (omega (arith, q)))
-      ∙ getD-set-other w5 (at + 4) (at + 1) (e .lo) 0 (λ q. absurd (omega (arith, q)))
-      ∙ getD-set-other w4 (at + 3) (at + 1) (e .kind) 0 (λ q. absurd (omega (arith, q)))
-      ∙ getD-set-other w3 (at + 2) (at + 1) (e .token) 0 (λ q. absurd (omega (arith, q)))
-      ∙ getD-set-same w2 (at + 1) (e .end) 0 (omega (arith, size, l)))
+      rw rooms-now (kept3 (at + 1) (omega arith) ∙ getD-set-same w2 (at + 1) (e .end) 0 (omega (arith, size, l)))
 
   pub new-token : nameWord (stored room ws u e) u 2 ≡ e .token
   new-token =
       let l : length w3 ≡ length ws = simp length-set in
-      rw rooms-now (
-      getD-set-other w6 (at + 5) (at + 2) (e .hi) 0 (λ q. absurd (omega (arith, q)))
-      ∙ getD-set-other w5 (at + 4) (at + 2) (e .lo) 0 (λ q. absurd (omega (arith, q)))
-      ∙ getD-set-other w4 (at + 3) (at + 2) (e .kind) 0 (λ q. absurd (omega (arith, q)))
-      ∙ getD-set-same w3 (at + 2) (e .token) 0 (omega (arith, size, l)))
+      rw rooms-now (kept4 (at + 2) (omega arith) ∙ getD-set-same w3 (at + 2) (e .token) 0 (omega (arith, size, l)))
 
-  pub new-kind : nameWord (stored room ws u e) u 3 ≡ e .kind
-  new-kind =
+  pub new-form : nameWord (stored room ws u e) u 3 ≡ e .form
+  new-form =
       let l : length w4 ≡ length ws = simp length-set in
-      rw rooms-now (
-      getD-set-other w6 (at + 5) (at + 3) (e .hi) 0 (λ q. absurd (omega (arith, q)))
-      ∙ getD-set-other w5 (at + 4) (at + 3) (e .lo) 0 (λ q. absurd (omega (arith, q)))
-      ∙ getD-set-same w4 (at + 3) (e .kind) 0 (omega (arith, size, l)))
+      rw rooms-now (kept5 (at + 3) (omega arith) ∙ getD-set-same w4 (at + 3) (e .form) 0 (omega (arith, size, l)))
 
-  pub new-low : nameWord (stored room ws u e) u 4 ≡ e .lo
-  new-low =
+  pub new-kind : nameWord (stored room ws u e) u 4 ≡ e .kind
+  new-kind =
       let l : length w5 ≡ length ws = simp length-set in
-      rw rooms-now (getD-set-other w6 (at + 5) (at + 4) (e .hi) 0 (λ q. absurd (omega (arith, q))) ∙ getD-set-same w5 (at + 4) (e .lo) 0 (omega (arith, size, l)))
+      rw rooms-now (kept6 (at + 4) (omega arith) ∙ getD-set-same w5 (at + 4) (e .kind) 0 (omega (arith, size, l)))
 
-  pub new-high : nameWord (stored room ws u e) u 5 ≡ e .hi
-  new-high =
+  pub new-low : nameWord (stored room ws u e) u 5 ≡ e .lo
+  new-low =
       let l : length w6 ≡ length ws = simp length-set in
-      rw rooms-now (getD-set-same w6 (at + 5) (e .hi) 0 (omega (arith, size, l)))
+      rw rooms-now (kept7 (at + 5) (omega arith) ∙ getD-set-same w6 (at + 5) (e .lo) 0 (omega (arith, size, l)))
+
+  pub new-high : nameWord (stored room ws u e) u 6 ≡ e .hi
+  new-high =
+      let l : length w7 ≡ length ws = simp length-set in
+      rw rooms-now (getD-set-same w7 (at + 6) (e .hi) 0 (omega (arith, size, l)))
 
   -- the names before are as they were, and the last is the entry's
   pub old-name : (s : List ℕ) (i : ℕ) → i < u → nameOf s (stored room ws u e) i ≡ nameOf s ws i

@@ -22,23 +22,23 @@ keyFrom k (b ∷ bs) = keyFrom (k % kept * 31 + b) bs
 abbrev pub keyOf : List ℕ → ℕ
 keyOf bs = keyFrom 0 bs
 
--- ---- tables: the keys of all names that there is room for, then six words for each
+-- ---- tables: the keys of all names that there is room for, then seven words for each
 
 abbrev pub nameWidth : ℕ
-nameWidth = 7
+nameWidth = 8
 
 abbrev pub keyAt : List ℕ → ℕ → ℕ
 keyAt ws i = getD ws i 0
 
 -- word j after the key of entry i
 abbrev pub nameWord : List ℕ → ℕ → ℕ → ℕ
-nameWord ws i j = getD ws (length ws / nameWidth + 6 * i + j) 0
+nameWord ws i j = getD ws (length ws / nameWidth + 7 * i + j) 0
 
 -- an entry stored in the row u of a table with room for so many names
 abbrev pub stored : ℕ → List ℕ → ℕ → Entry → List ℕ
 stored room ws u e =
-    let at = room + 6 * u in
-    set (set (set (set (set (set (set ws u (e .key)) at (e .start)) (at + 1) (e .end)) (at + 2) (e .token)) (at + 3) (e .kind)) (at + 4) (e .lo)) (at + 5) (e .hi)
+    let at = room + 7 * u in
+    set (set (set (set (set (set (set (set ws u (e .key)) at (e .start)) (at + 1) (e .end)) (at + 2) (e .token)) (at + 3) (e .form)) (at + 4) (e .kind)) (at + 5) (e .lo)) (at + 6) (e .hi)
 
 -- what f gives of k numbers from i on
 unfoldable pub listed : {A : Type 0} → (ℕ → A) → ℕ → ℕ → List A

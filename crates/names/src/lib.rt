@@ -2,7 +2,7 @@
 // of entries, searched in order of binding.
 //
 // A table with room for so many names has their keys first, next to one another, so that a search compares several at once,
-// and then six words for each name.
+// and then seven words for each name.
 ghost use mathlib.Core.Path.{_≡_};
 ghost use mathlib.Core.Bool.{false};
 ghost use Prim.Native.Nat.{ℕ, _+_, _*_, _/_, _<_, _≤_};
@@ -10,13 +10,14 @@ ghost use lib.ListN.{length};
 ghost use Rattle.language.specs.Lexemes.{same};
 ghost use Rattle.names.specs.Names.{nameWidth, keyOf, keyAt, nameWord, nameOf, NoneOf, Keyed, Others, namesIn, Finds};
 
-// A name and what it stands for: where it starts and ends in the source, its token, and a value in three words, or the number
-// of a module and two zeros. The first of the three is 0 where the name's statement failed.
+// A name and what it stands for: where it starts and ends in the source, its token, and a form and three words that say what it
+// stands for. The form is 0 where the name's statement failed, and of an import, whose kind is the number of its module.
 pub struct Entry {
     pub key: u64,
     pub start: u64,
     pub end: u64,
     pub token: u64,
+    pub form: u64,
     pub kind: u64,
     pub lo: u64,
     pub hi: u64,
@@ -24,9 +25,9 @@ pub struct Entry {
 
 impl Entry {
     // How many words a table has for each name it has room for: the key, and those that follow all keys.
-    pub const WORDS: usize = 7;
+    pub const WORDS: usize = 8;
 
-    const AFTER_KEY: usize = 6;
+    const AFTER_KEY: usize = 7;
 
     // The words after the key.
     pub const START: usize = 0;
@@ -35,11 +36,13 @@ impl Entry {
 
     pub const TOKEN: usize = 2;
 
-    pub const KIND: usize = 3;
+    pub const FORM: usize = 3;
 
-    pub const LOW: usize = 4;
+    pub const KIND: usize = 4;
 
-    pub const HIGH: usize = 5;
+    pub const LOW: usize = 5;
+
+    pub const HIGH: usize = 6;
 
     // What is kept of a key before the next byte, 2^58: 31 times that, and a byte, fit a word.
     const KEPT: u64 = 288230376151711744;
@@ -67,7 +70,7 @@ pub fn key_of(name: &[u8]) -> u64
 
 // Word j after the key of entry i.
 pub fn word(names: &[u64], i: usize, j: usize) -> u64
-    requires { ⌜ (i < length (now names) / nameWidth) × (j < 6) ⌝ }
+    requires { ⌜ (i < length (now names) / nameWidth) × (j < 7) ⌝ }
     ensures { λ r. ⌜ r ≡ nameWord (now (names .entry)) i j ⌝ }
 {
     names[names.len() / Entry::WORDS + Entry::AFTER_KEY * i + j]

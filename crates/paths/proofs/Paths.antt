@@ -17,23 +17,14 @@ use Rattle.language.specs.Tokens.{Content, contents}
 use Rattle.language.specs.Values as values
 use Rattle.language.specs.Values.{Entry, entries, entryAt, entryName, tableText, lookupFrom, lookup}
 use Rattle.language.specs.Judgements.{err, poisoned, unknownItem, notAModule, notAValue, nameAt, walk, lastItem, innerItem}
+use Rattle.language.specs.Terms as terms
 use Rattle.language.specs.Judgements as judgements
 use Rattle.language.proofs.TokensAt.{content-of, past-token}
-use Rattle.language.specs.Numbers.{tokenOf}
-use Rattle.rows.specs.declared.token.Token.{Token}
-use Rattle.rows.specs.Tokens.{tokenAs}
-use Rattle.findings.specs.declared.What.{What}
-use Rattle.findings.specs.Findings.{whatAs, atToken}
-use Rattle.findings.proofs.Texts.{at-token}
-use Rattle.values.specs.declared.Judged.the-variants.{Val, Err}
+use Rattle.values.specs.declared.Term.{Term}
+use Rattle.values.specs.declared.Judged.the-variants.{Val}
 use Rattle.values.specs.Values.{judgedAs}
 use Rattle.values.proofs.Values.{some-kind}
 use Rattle.paths.specs.Paths.{orNone}
-
--- an error at a token
-pub judged-err : (s : List ℕ) (at : ℕ) (w : judgements.What) {tok : Token} {what : What} → tok ≡ tokenAs (tokenOf s at) → what ≡ whatAs (tokenOf s) w
-    → Err (atToken tok what) ≡ judgedAs s (err at w)
-judged-err s at w e q = ap Err (at-token s at w e q)
 
 -- no entry has an empty name
 no-empty : (m : ℕ) → lookup m [] ≡ none
@@ -67,20 +58,20 @@ module _ (s : List ℕ) where
   abbrev texts : List Content
   texts = contents (tokens.tokens s)
 
-  module _ (left inside at k : ℕ) (e : k ≡ orZero (lookup inside (nameAt texts (at + 2)))) where
+  module _ (p left inside at k : ℕ) (e : k ≡ orZero (lookup inside (nameAt texts (at + 2)))) where
     module _ (z : k ≡ 0) where
       none-there : lookup inside (nameAt texts (at + 2)) ≡ none
       none-there = is-none (lookup inside (nameAt texts (at + 2))) (at-least entries 1 inside (nameAt texts (at + 2))) (sym z ∙ e)
 
-      missing : (n : ℕ) → 0 < n → err (at + 2) (unknownItem inside) ≡ walk texts n inside at
+      missing : (n : ℕ) → 0 < n → err (at + 2) (unknownItem inside) ≡ walk texts p n inside at
       unfolding walk
       missing zero h = absurd (omega arith)
       missing (suc zero) h =
-          ap (λ (o : Option ℕ). elim o [ none ↦ err (at + 2) (unknownItem inside) | some j ↦ lastItem texts (at + 2) (entryAt j .value) ]) (sym none-there)
+          ap (λ (o : Option ℕ). elim o [ none ↦ err (at + 2) (unknownItem inside) | some j ↦ lastItem texts p (at + 2) (entryAt j .value) ]) (sym none-there)
       missing (suc (suc n)) h =
-          ap (λ (o : Option ℕ). elim o [ none ↦ err (at + 2) (unknownItem inside) | some j ↦ innerItem texts (at + 2) (entryAt j .value) (walk texts (suc n) j (at + 2)) ]) (sym none-there)
+          ap (λ (o : Option ℕ). elim o [ none ↦ err (at + 2) (unknownItem inside) | some j ↦ innerItem texts (at + 2) (entryAt j .value) (walk texts p (suc n) j (at + 2)) ]) (sym none-there)
 
-    pub walk-missing : 0 < left → k ≡ 0 → err (at + 2) (unknownItem inside) ≡ walk texts left inside at
+    pub walk-missing : 0 < left → k ≡ 0 → err (at + 2) (unknownItem inside) ≡ walk texts p left inside at
     walk-missing l z = missing z left l
 
     module _ (n : k ≡ 0 → ⊥) where
@@ -98,21 +89,21 @@ module _ (s : List ℕ) where
                 absurd (n z)
           ]
 
-      pub walk-last : left ≡ 1 → lastItem texts (at + 2) (entryAt k .value) ≡ walk texts left inside at
+      pub walk-last : left ≡ 1 → lastItem texts p (at + 2) (entryAt k .value) ≡ walk texts p left inside at
       unfolding walk
       walk-last l =
-          rw l (ap (λ (o : Option ℕ). elim o [ none ↦ err (at + 2) (unknownItem inside) | some j ↦ lastItem texts (at + 2) (entryAt j .value) ]) (sym there))
+          rw l (ap (λ (o : Option ℕ). elim o [ none ↦ err (at + 2) (unknownItem inside) | some j ↦ lastItem texts p (at + 2) (entryAt j .value) ]) (sym there))
 
-      inner : (m : ℕ) → walk texts (suc (suc m)) inside at ≡ innerItem texts (at + 2) (entryAt k .value) (walk texts (suc m) k (at + 2))
+      inner : (m : ℕ) → walk texts p (suc (suc m)) inside at ≡ innerItem texts (at + 2) (entryAt k .value) (walk texts p (suc m) k (at + 2))
       unfolding walk
       inner m =
-          ap (λ (o : Option ℕ). elim o [ none ↦ err (at + 2) (unknownItem inside) | some j ↦ innerItem texts (at + 2) (entryAt j .value) (walk texts (suc m) j (at + 2)) ]) there
+          ap (λ (o : Option ℕ). elim o [ none ↦ err (at + 2) (unknownItem inside) | some j ↦ innerItem texts (at + 2) (entryAt j .value) (walk texts p (suc m) j (at + 2)) ]) there
 
-      not-module : (o : Option values.Value) (on : judgements.Judged) → (kindOf o ≡ 0 → ⊥) → err (at + 2) notAModule ≡ innerItem texts (at + 2) o on
+      not-module : (o : Option values.Value) (on : judgements.Judged terms.Term) → (kindOf o ≡ 0 → ⊥) → err (at + 2) notAModule ≡ innerItem texts (at + 2) o on
       not-module none on h = absurd (h refl)
       not-module (some v) on h = refl
 
-      a-module : (o : Option values.Value) (on : judgements.Judged) → kindOf o ≡ 0 → on ≡ innerItem texts (at + 2) o on
+      a-module : (o : Option values.Value) (on : judgements.Judged terms.Term) → kindOf o ≡ 0 → on ≡ innerItem texts (at + 2) o on
       a-module none on h = refl
       a-module (some v) on h = absurd (some-kind v h)
 
@@ -120,31 +111,31 @@ module _ (s : List ℕ) where
       two-left l h = omega arith
 
       module _ (l : 0 < left) (h : left ≡ 1 → ⊥) where
-        pub walk-stops : (kindOf (entryAt k .value) ≡ 0 → ⊥) → err (at + 2) notAModule ≡ walk texts left inside at
+        pub walk-stops : (kindOf (entryAt k .value) ≡ 0 → ⊥) → err (at + 2) notAModule ≡ walk texts p left inside at
         walk-stops z =
-            not-module (entryAt k .value) (walk texts (suc (left - 2)) k (at + 2)) z ∙ sym (inner (left - 2))
-            ∙ ap (λ (n : ℕ). walk texts n inside at) (sym (two-left l h))
+            not-module (entryAt k .value) (walk texts p (suc (left - 2)) k (at + 2)) z ∙ sym (inner (left - 2))
+            ∙ ap (λ (n : ℕ). walk texts p n inside at) (sym (two-left l h))
 
-        pub walk-on : kindOf (entryAt k .value) ≡ 0 → walk texts (left - 1) k (at + 2) ≡ walk texts left inside at
+        pub walk-on : kindOf (entryAt k .value) ≡ 0 → walk texts p (left - 1) k (at + 2) ≡ walk texts p left inside at
         walk-on z =
             let one : left - 1 ≡ suc (left - 2) = omega arith in
-            ap (λ (n : ℕ). walk texts n k (at + 2)) one ∙ a-module (entryAt k .value) (walk texts (suc (left - 2)) k (at + 2)) z ∙ sym (inner (left - 2))
-            ∙ ap (λ (n : ℕ). walk texts n inside at) (sym (two-left l h))
+            ap (λ (n : ℕ). walk texts p n k (at + 2)) one ∙ a-module (entryAt k .value) (walk texts p (suc (left - 2)) k (at + 2)) z ∙ sym (inner (left - 2))
+            ∙ ap (λ (n : ℕ). walk texts p n inside at) (sym (two-left l h))
 
-  pub walk-ended : (left inside at : ℕ) → left ≤ 0 → poisoned ≡ walk texts left inside at
+  pub walk-ended : (p left inside at : ℕ) → left ≤ 0 → poisoned ≡ walk texts p left inside at
   unfolding walk
-  walk-ended zero inside at h = refl
-  walk-ended (suc n) inside at h = absurd (omega arith)
+  walk-ended p zero inside at h = refl
+  walk-ended p (suc n) inside at h = absurd (omega arith)
 
 -- the value of an entry, or none
-pub item-value : (s : List ℕ) (ts : List Content) (t k l h : ℕ) (o : Option values.Value) → k ≡ kindOf o → l ≡ lowOf o → h ≡ highOf o → (k ≡ 0 → ⊥)
-    → Val (record { kind = k; lo = l; hi = h }) ≡ judgedAs s (lastItem ts t o)
-item-value s ts t k l h none p q r n = absurd (n p)
-item-value s ts t k l h (some v) p q r n = rw (p, q, r)
+pub item-value : (s : List ℕ) (ts : List Content) (p t k l h : ℕ) (o : Option values.Value) {w : Term} → k ≡ kindOf o → l ≡ lowOf o → h ≡ highOf o
+    → (k ≡ 0 → ⊥) → w ≡ record { at = p; form = 1; kind = k; lo = l; hi = h } → Val w ≡ judgedAs s (lastItem ts p t o)
+item-value s ts p t k l h none a b c n e = absurd (n a)
+item-value s ts p t k l h (some v) a b c n e = ap Val e ∙ rw (a, b, c)
 
-pub item-module : (s : List ℕ) (ts : List Content) (t : ℕ) (o : Option values.Value) → kindOf o ≡ 0 → lastItem ts t o ≡ err t notAValue
-item-module s ts t none h = refl
-item-module s ts t (some v) h = absurd (some-kind v h)
+pub item-module : (ts : List Content) (p t : ℕ) (o : Option values.Value) → kindOf o ≡ 0 → lastItem ts p t o ≡ err t notAValue
+item-module ts p t none h = refl
+item-module ts p t (some v) h = absurd (some-kind v h)
 
 -- ---- the words of an entry
 

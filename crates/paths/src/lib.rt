@@ -8,41 +8,32 @@ ghost use Rattle.language.specs.Values.{entryAt};
 ghost use Rattle.language.specs.Judgements.{lastItem, walk};
 ghost use Rattle.constants.specs.Constants.{tableRows};
 ghost use Rattle.rows.specs.Tokens.{tokenAs, TokenTable};
-ghost use Rattle.findings.specs.Findings.{atToken};
 ghost use Rattle.values.specs.Values.{judgedAs};
 use constants::Constants;
-use findings::Diagnostic;
 use findings::What;
 use rows::Token;
 use rows::Ty;
 use values::Judged;
-use values::Value;
 
-// An error at a token.
-pub fn error(tok: Token, what: What) -> Judged
-    ensures { λ r. ⌜ r ≡ Judged.Err (atToken tok what) ⌝ }
-{
-    Judged::Err(Diagnostic::at(tok, what))
-}
-
-// A path's last name is a value.
-fn last_item(rows: &[u64; Constants::WORDS], tok: Token, k: u64) -> Judged
+// A path's last name is a value, which stands at the path's first name, p.
+fn last_item(rows: &[u64; Constants::WORDS], p: u64, tok: Token, k: u64) -> Judged
     requires { ⌜ now rows ≡ tableRows ⌝ }
-    ensures { λ r. ⌜ ((s : List ℕ) (t : ℕ) → tok ≡ tokenAs (tokenOf s t) → r ≡ judgedAs s (lastItem (contents (tokens s)) t (entryAt k .value))) ⌝ }
+    ensures { λ r. ⌜ ((s : List ℕ) (t : ℕ) → tok ≡ tokenAs (tokenOf s t) → r ≡ judgedAs s (lastItem (contents (tokens s)) p t (entryAt k .value))) ⌝ }
 {
     let kind = constants::entry_word(rows, k, Constants::KIND);
     if kind == Ty::NONE {
-        return error(tok, What::NotAValue);
+        return values::error(tok, What::NotAValue);
     }
     let lo = constants::entry_word(rows, k, Constants::LOW);
     let hi = constants::entry_word(rows, k, Constants::HIGH);
-    Judged::Val(Value { kind, lo, hi })
+    Judged::Val(values::constant(p, kind, lo, hi))
 }
 
-// A path below a module of the constant table: so many more names, each two tokens after the one before, the first after t.
+// A path below a module of the constant table: so many more names, each two tokens after the one before, the first after t, which is
+// the path's first name.
 pub fn walk(source: &[u8], toks: &[u64], top: u64, t: u64, names: u64) -> Judged
     requires { ⌜ TokenTable (now source) (now toks) ⌝ }
-    ensures { λ r. ⌜ r ≡ judgedAs (now (source .entry)) (walk (contents (tokens (now (source .entry)))) names top t) ⌝ }
+    ensures { λ r. ⌜ r ≡ judgedAs (now (source .entry)) (walk (contents (tokens (now (source .entry)))) t names top t) ⌝ }
 {
     let table = Constants::new();
     let rows = table.rows;
@@ -54,14 +45,14 @@ pub fn walk(source: &[u8], toks: &[u64], top: u64, t: u64, names: u64) -> Judged
         let tok = rows::two_after(toks, at);
         let k = constants::lookup(&rows, &text, inside, rows::name_at(source, tok));
         if k == 0 {
-            return error(tok, What::UnknownItem(inside));
+            return values::error(tok, What::UnknownItem(inside));
         }
         let kind = constants::entry_word(&rows, k, Constants::KIND);
         if left == 1 {
-            return last_item(&rows, tok, k);
+            return last_item(&rows, t, tok, k);
         }
         if kind != Ty::NONE {
-            return error(tok, What::NotAModule);
+            return values::error(tok, What::NotAModule);
         }
         inside = k;
         at += 2;

@@ -104,11 +104,11 @@ pub fn diagnostic_row(diags: &[u64], i: usize) -> DiagnosticRow
     }
 }
 
-// What a check holds.
+// What a check holds: a statement, or a part of the expression of one. Its own place comes first, that of its expression later.
 pub struct StatementRow {}
 
 impl StatementRow {
-    pub const WORDS: usize = 7;
+    pub const WORDS: usize = 11;
 
     pub const LINE: usize = 0;
 
@@ -116,13 +116,42 @@ impl StatementRow {
 
     pub const KIND: usize = 2;
 
-    pub const TYPE: usize = 3;
+    // of a `let` its slot, of an argument the number of its parameter
+    pub const SLOT: usize = 3;
+
+    pub const FORM: usize = 4;
+
+    pub const EXPRESSION_LINE: usize = 5;
+
+    pub const EXPRESSION_COLUMN: usize = 6;
+
+    pub const TYPE: usize = 7;
 
     // which text its bytes are in
-    pub const TEXT: usize = 4;
+    pub const TEXT: usize = 8;
 
-    // what these mean depends on the type
-    pub const LOW: usize = 5;
+    // what these mean depends on the form and the type
+    pub const LOW: usize = 9;
 
-    pub const HIGH: usize = 6;
+    pub const HIGH: usize = 10;
+
+    // The kinds of statements, in the order of hir.rs `StmtKind`.
+    pub const LET: u64 = 1;
+
+    pub const EMIT: u64 = 2;
+
+    pub const WAIT: u64 = 3;
+
+    pub const EVAL: u64 = 4;
+
+    pub const DISCARD: u64 = 5;
+
+    // Then what a part is to the expression that it stands below.
+    pub const CALLEE: u64 = 6;
+
+    pub const ARGUMENT: u64 = 7;
+
+    pub const LEFT: u64 = 8;
+
+    pub const RIGHT: u64 = 9;
 }

@@ -7,6 +7,9 @@ impl Ty {
     // of a module, and of a name whose statement failed
     pub const NONE: u64 = 0;
 
+    // of a function that gives nothing
+    pub const VOID: u64 = 1;
+
     pub const BOOL: u64 = 2;
 
     pub const U8: u64 = 3;
@@ -22,6 +25,12 @@ impl Ty {
     pub const SOCK4: u64 = 8;
 
     pub const BYTES: u64 = 9;
+
+    pub const PKT: u64 = 10;
+
+    pub const PKT_GEN: u64 = 11;
+
+    pub const TIME_JUMP: u64 = 12;
 
     pub const FUNCTION: u64 = 14;
 

@@ -16,8 +16,9 @@ use wide::Wide;
 // The place, the severity and the kind.
 fn start(d: Diagnostic, out: &mut [u8], at: usize) -> usize {
     let kinds = b"\
-        - UnknownName UnknownItem - UnknownModule NotImported NotAModule NotAValue AlreadyBound NoMembers OperandType - \
-        - - - - - - - - - - IntegralTooLarge MultipleImports DiscardedValue Truncated";
+        - UnknownName UnknownItem - UnknownModule NotImported NotAModule NotAValue AlreadyBound NoMembers OperandType \
+        NotCallable TooManyArgs TooFewArgs - - - - - ArgType - VoidValue IntegralTooLarge MultipleImports DiscardedValue \
+        Truncated Overflow";
     let what = d.what;
     let kind = what.kind();
     let a = output::pair(out, at, d.line, d.column);
@@ -42,12 +43,31 @@ fn typed(name: &[u8], ty: Type, out: &mut [u8], at: usize) -> usize {
     q
 }
 
+// A blank, and a type that is wanted, which is no function.
+fn wanted(ty: u64, out: &mut [u8], at: usize) -> usize {
+    let p = output::byte(out, at, b' ');
+    types::word(out, p, ty)
+}
+
 // The operator, its side, and the type that it wants there.
-fn wanted(side: Side, ty: u64, out: &mut [u8], at: usize) -> usize {
+fn operand(side: Side, ty: u64, out: &mut [u8], at: usize) -> usize {
     let p = output::text(out, at, b" / ");
     let q = output::word(out, p, b"- left right", side.number());
-    let r = output::byte(out, q, b' ');
-    types::word(out, r, ty)
+    wanted(ty, out, q)
+}
+
+// The function, how many arguments it is given, and how many it takes.
+fn counted(name: &[u8], many: u64, most: u64, out: &mut [u8], at: usize) -> usize {
+    let p = named(name, out, at);
+    let q = output::field(out, p, many);
+    output::field(out, q, most)
+}
+
+// The function, its parameter, and the type that it wants there.
+fn argument(text: &[u8], f: u64, i: u64, ty: u64, out: &mut [u8], at: usize) -> usize {
+    let p = texts::entry(text, f, out, at);
+    let q = texts::param(text, f, i, out, p);
+    wanted(ty, out, q)
 }
 
 // A value that was cut.
@@ -70,14 +90,26 @@ fn fields(name: &[u8], text: &[u8], what: What, out: &mut [u8], at: usize) -> us
         }
         What::NoMembers(ty) => typed(name, ty, out, at),
         What::OperandType(side, ty, found) => {
-            let p = wanted(side, ty, out, at);
+            let p = operand(side, ty, out, at);
             typed(name, found, out, p)
         }
+        What::NotCallable(ty) => typed(name, ty, out, at),
+        What::TooManyArgs(_, many, most) => counted(name, many, most, out, at),
+        What::TooFewArgs(_, many, most) => counted(name, many, most, out, at),
+        What::ArgType(f, i, ty, found) => {
+            let p = argument(text, f, i, ty, out, at);
+            typed(name, found, out, p)
+        }
+        What::VoidValue => at,
         What::IntegralTooLarge => at,
         What::DiscardedValue(ty) => typed(name, ty, out, at),
         What::Truncated(n, ty) => {
             let p = value(n, out, at);
             typed(name, ty, out, p)
+        }
+        What::Overflow(found, ty) => {
+            let p = typed(name, found, out, at);
+            wanted(ty, out, p)
         }
         _ => named(name, out, at),
     }

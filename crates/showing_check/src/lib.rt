@@ -1,7 +1,9 @@
-// What a check finds, as text in the oracle's form: each row of the tables of diagnostics and statements is a line. Nothing
-// here asks that a table be one that the checker left.
+// What a check finds, as text in the oracle's form: each diagnostic is a line, and each statement with its parts. Nothing here asks
+// that a table be one that the checker left.
 mod answers;
+mod brackets;
 mod diagnostic;
+mod expression;
 mod statement;
 mod texts;
 mod types;

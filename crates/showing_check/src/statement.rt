@@ -1,93 +1,121 @@
-// Statements: a line has its place, its kind, and the constant that it holds, which stands at the same place. A string of
-// the source is shown as the list of its raw bodies.
+// Statements: a line has its place, its kind, of a `let` its slot and its name, and its expression. The rows of an expression's parts
+// follow its own, each before its own parts, so one walk along the rows shows them all.
 ghost use Prim.Native.Nat.{_≤_};
 ghost use lib.ListN.{length};
 ghost use Rattle.language.specs.Findings.{stmtWidth};
-use crate::texts;
-use crate::types;
+use crate::brackets;
+use crate::brackets::Open;
+use crate::brackets::Shown;
+use crate::expression;
 use printing::output;
 use printing::token;
 use rows::StatementRow;
-use rows::Text;
-use rows::Ty;
+use rows::TokenRow;
+use values::Term;
 
-// An address and its port.
-fn sock4(out: &mut [u8], at: usize, address: u64, port: u64) -> usize {
-    let p = output::quad(out, at, address);
-    let q = output::byte(out, p, b':');
-    output::number(out, q, port)
-}
-
-// A value that is no string of the source.
-fn plain(text: &[u8], out: &mut [u8], at: usize, ty: u64, value: u64, second: u64) -> usize {
-    match ty {
-        Ty::BOOL => token::boolean(out, at, value),
-        Ty::U8 | Ty::U16 | Ty::U32 | Ty::U64 => output::number(out, at, value),
-        Ty::IP4 => output::quad(out, at, value),
-        Ty::SOCK4 => sock4(out, at, value, second),
-        Ty::BYTES => texts::hex(text, out, at, value, second),
-        Ty::FUNCTION => texts::plain(text, out, at, value, second),
-        _ => at,
+// The name at a place: nothing where no token stands there.
+fn name(source: &[u8], tokens: &[u64], line: u64, column: u64, out: &mut [u8], at: usize) -> usize {
+    let count = tokens.len() / TokenRow::WORDS;
+    let mut i: usize = 0;
+    while i < count {
+        let t = rows::token_row(tokens, i);
+        if (t.line == line) & (t.column == column) {
+            return token::show_value(source, t, out, at);
+        }
+        i += 1;
     }
+    at
 }
 
-// A blank and the value.
-fn value(
-    source: &[u8],
-    text: &[u8],
-    tokens: &[u64],
-    row: &[u64],
-    out: &mut [u8],
-    at: usize,
-) -> usize
+// A blank, the slot of a `let`, and the name that it stands at.
+fn bound(source: &[u8], tokens: &[u64], row: &[u64], out: &mut [u8], at: usize) -> usize
     requires { ⌜ stmtWidth ≤ length (now row) ⌝ }
 {
-    let value = row[StatementRow::LOW];
-    if row[StatementRow::TEXT] == Text::SOURCE {
-        return token::bodies(source, token::row_at(tokens, value as usize), out, at);
-    }
-    let p = output::byte(out, at, b' ');
-    plain(
-        text,
+    let a = output::field(out, at, row[StatementRow::SLOT]);
+    let b = output::byte(out, a, b' ');
+    name(
+        source,
+        tokens,
+        row[StatementRow::LINE],
+        row[StatementRow::COLUMN],
         out,
-        p,
-        row[StatementRow::TYPE],
-        value,
-        row[StatementRow::HIGH],
+        b,
     )
 }
 
-// A word, and the place.
-fn placed(word: &[u8], row: &[u64], out: &mut [u8], at: usize) -> usize
+// What stands before the expression of a statement.
+fn start(source: &[u8], tokens: &[u64], row: &[u64], out: &mut [u8], at: usize) -> usize
     requires { ⌜ stmtWidth ≤ length (now row) ⌝ }
 {
-    let p = output::text(out, at, word);
-    output::pair(out, p, row[StatementRow::LINE], row[StatementRow::COLUMN])
+    let a = output::text(out, at, b"stmt ");
+    let b = output::pair(out, a, row[StatementRow::LINE], row[StatementRow::COLUMN]);
+    let kinds = b"- Let Emit Wait Eval Discard";
+    let c = output::word(out, b, kinds, row[StatementRow::KIND]);
+    if row[StatementRow::KIND] == StatementRow::LET {
+        let d = bound(source, tokens, row, out, c);
+        return output::byte(out, d, b' ');
+    }
+    output::byte(out, c, b' ')
 }
 
-// What stands before the value.
-fn start(row: &[u64], out: &mut [u8], at: usize) -> usize
+// What stands before an argument: the number of its parameter.
+fn argument(row: &[u64], out: &mut [u8], at: usize) -> usize
     requires { ⌜ stmtWidth ≤ length (now row) ⌝ }
 {
-    let a = placed(b"stmt ", row, out, at);
-    let b = output::word(out, a, b"- Discard", row[StatementRow::KIND]);
-    let c = placed(b" (const ", row, out, b);
-    types::word(out, c, row[StatementRow::TYPE])
+    let p = output::text(out, at, b" (arg");
+    let q = output::field(out, p, row[StatementRow::SLOT]);
+    output::byte(out, q, b' ')
 }
 
-fn line_of(
+// What stands before the expression of a row.
+fn before(source: &[u8], tokens: &[u64], row: &[u64], out: &mut [u8], at: usize) -> usize
+    requires { ⌜ stmtWidth ≤ length (now row) ⌝ }
+{
+    let kind = row[StatementRow::KIND];
+    match kind {
+        StatementRow::CALLEE | StatementRow::LEFT => at,
+        StatementRow::ARGUMENT => argument(row, out, at),
+        StatementRow::RIGHT => output::byte(out, at, b' '),
+        _ => start(source, tokens, row, out, at),
+    }
+}
+
+// A row, where so many expressions are open: it opens one more if it has parts, and else closes those that it ends.
+fn show(
     source: &[u8],
     text: &[u8],
     tokens: &[u64],
     row: &[u64],
+    stack: &mut [u64; Open::ROOM * Open::WORDS],
+    depth: usize,
     out: &mut [u8],
     at: usize,
-) -> usize
+) -> Shown
     requires { ⌜ stmtWidth ≤ length (now row) ⌝ }
+    requires { ⌜ depth ≤ 96 ⌝ }
+    ensures { λ r. ⌜ r .depth ≤ 96 ⌝ }
 {
-    let p = start(row, out, at);
-    let q = value(source, text, tokens, row, out, p);
-    output::text(out, q, b")\n")
+    let kind = row[StatementRow::KIND];
+    let high = row[StatementRow::HIGH];
+    let low = row[StatementRow::LOW];
+    let form = row[StatementRow::FORM];
+    let p = before(source, tokens, row, out, at);
+    let q = expression::start(row, out, p);
+    match form {
+        // the callee, and then its arguments
+        Term::CALL => Shown {
+            depth: brackets::push(stack, depth, high, kind, low),
+            at: q,
+        },
+        Term::SLASH => Shown {
+            depth: brackets::push(stack, depth, 1, kind, 0),
+            at: q,
+        },
+        _ => {
+            let r = expression::leaf(source, text, tokens, row, out, q);
+            brackets::close(text, stack, depth, kind, out, r)
+        }
+    }
 }
 
 // The first `count` rows of the table, or as many as it has.
@@ -100,7 +128,9 @@ pub fn statements(
     out: &mut [u8],
     at: usize,
 ) -> usize {
+    let mut stack = [0u64; Open::ROOM * Open::WORDS];
     let mut p = at;
+    let mut depth: usize = 0;
     let mut left = count;
     let mut word: usize = 0;
     while 0 < left {
@@ -108,7 +138,18 @@ pub fn statements(
             return p;
         }
         let next = word + StatementRow::WORDS;
-        p = line_of(source, text, tokens, &stmts[word..next], out, p);
+        let shown = show(
+            source,
+            text,
+            tokens,
+            &stmts[word..next],
+            &mut stack,
+            depth,
+            out,
+            p,
+        );
+        p = shown.at;
+        depth = shown.depth;
         word = next;
         left -= 1;
     }

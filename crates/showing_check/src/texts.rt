@@ -21,3 +21,18 @@ pub fn entry(text: &[u8], k: u64, out: &mut [u8], at: usize) -> usize {
     let end = constants::entry_word(&rows, k, Constants::NAME_END);
     plain(text, out, p, start, end)
 }
+
+// A blank, and the name of parameter i of an entry: no name where it has no such parameter.
+pub fn param(text: &[u8], k: u64, i: u64, out: &mut [u8], at: usize) -> usize {
+    let signature = constants::signature_of(k);
+    let first = signature.first;
+    let second = signature.second;
+    let p = output::byte(out, at, b' ');
+    if signature.params <= i {
+        return p;
+    }
+    if i == 0 {
+        return plain(text, out, p, first.start, first.end);
+    }
+    plain(text, out, p, second.start, second.end)
+}

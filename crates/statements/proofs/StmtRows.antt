@@ -4,38 +4,22 @@ use mathlib.Core.List.{List}
 use Prim.Native.Nat.{ℕ, _+_, _*_, _≤_, _<_}
 use native.Mathlib.Omega.{arith}
 use lib.ListN.{length}
-use Rattle.language.specs.Tokens as tokens
-use Rattle.language.specs.Tokens.{Content, contents}
 use Rattle.language.specs.Sentences.{Expr, Stmt, import′, let′, expr′, programSize, nodeWidth}
-use Rattle.language.specs.Judgements as judgements
-use Rattle.language.specs.Judgements.{Known, mostNames, goes, refuses, stmt}
+use Rattle.language.specs.Judgements.{Known, mostNames}
 use Rattle.rows.specs.Rows.{nodeWord}
 use Rattle.findings.specs.declared.Counts.{Counts}
 use Rattle.findings.specs.Findings.{mostCompared, plusSearch}
+use Rattle.holding.specs.Holding.{mostRows}
 use Rattle.judging.specs.Judging.{mostFindings, Knows, Ready, RepAt}
 use Rattle.statements.specs.declared.Turn.{Turn}
 use Rattle.statements.specs.declared.Turn.the-variants.{Went}
-use Rattle.statements.specs.Checking.{plusNumber, Room, StmtFits, StmtsAt, at-end, no-stmt, an-import, a-let, an-expr, RowFits, RowTurns, passes, takes, GoesOf, Exprs, TurnOf, Turns}
-
-abbrev ts : List ℕ → List Content
-ts s = contents (tokens.tokens s)
-
--- ---- the turn of an expression
-
-module _ (s : List ℕ) (k : Known) (c c′ : Counts) (x u y v : List ℕ) where
-  went : (t : judgements.Turn) → GoesOf s k c x u c′ y v t → TurnOf s k c x u (Went c′) y v t
-  went (goes k′ ds hs ls) g = g
-  went (refuses m t) g = g
-
-  expr-turn : (n : ℕ) (e : Expr) → Exprs s n k e c x u c′ y v → Turns s k c x u (Went c′) y v (stmt (ts s) n k (expr′ e))
-  unfolding stmt
-  expr-turn n e g = record { turn = went (stmt (ts s) n k (expr′ e)) (g .is) }
+use Rattle.statements.specs.Checking.{plusNumber, Room, StmtFits, StmtsAt, at-end, no-stmt, an-import, a-let, an-expr, RowFits, RowTurns, passes, takes, Turns}
 
 -- ---- a statement is begun, or a name searched: what was known stays so
 
 module _ (c e : Counts) (p : e .used ≡ c .used) (q : e .imported ≡ c .imported) {d : Counts} (b : d ≡ e) {s bindings imports : List ℕ} where
-  pub same-knows : {k : Known} → Knows s bindings imports c k → Knows s bindings imports d k
-  same-knows kn = record { is = rw (b, p, q) (kn .is) }
+  pub same-knows : {k : Known} → e .slots ≡ c .slots → Knows s bindings imports c k → Knows s bindings imports d k
+  same-knows o kn = record { is = rw (b, p, q, o) (kn .is) }
 
   pub same-ready : {toks : List ℕ} → Ready s toks bindings imports c → Ready s toks bindings imports d
   same-ready r =
@@ -57,8 +41,8 @@ module _ (c : Counts) {d : Counts} (b : d ≡ plusNumber c) where
   begun-number e = e ∙ sym (ap (λ (z : Counts). z .number) b)
 
   -- a turn that was taken from there
-  from-there : {s : List ℕ} {k : Known} {x u y v : List ℕ} {r : Turn} {t : judgements.Turn} → Turns s k d x u r y v t → Turns s k (plusNumber c) x u r y v t
-  from-there {s} {k} {x} {u} {y} {v} {r} {t} g = subst (λ (z : Counts). Turns s k z x u r y v t) b g
+  from-there : {s : List ℕ} {n : ℕ} {k : Known} {st : Stmt} {x u y v : List ℕ} {r : Turn} → Turns s n k st d x u r y v → Turns s n k st (plusNumber c) x u r y v
+  from-there {s} {n} {k} {st} {x} {u} {y} {v} {r} g = subst (λ (z : Counts). Turns s n k st z x u r y v) b g
 
 -- ---- rows
 
@@ -75,47 +59,49 @@ module _ {ws : List ℕ} {i : ℕ} (inside : nodeWidth * i + nodeWidth ≤ lengt
   pub import-room : {c d : Counts} → d ≡ plusNumber c → RowFits ws i c → nodeWord ws i 0 ≡ 11 → Room d
   import-room b f q =
       let one = import-size (f .stands) q in
-      rw b (record { findings = omega (arith, f .room, one); held = omega (arith, f .held, one) })
+      rw b (record { findings = omega (arith, f .room, one); held = omega (arith, f .held, one); slots = omega (arith, f .slots, one) })
 
-  tree-fits : {c : Counts} {ss : List Stmt} → StmtsAt ws i ss → 11 < nodeWord ws i 0 → c .errors + c .warnings + programSize ss ≤ mostFindings
-      → c .statements + programSize ss ≤ mostFindings → c .comparisons + mostNames * programSize ss ≤ mostCompared → StmtFits ws i c
-  tree-fits (at-end l) q room held looks = absurd (omega (arith, inside))
-  tree-fits (no-stmt f h on) q room held looks = absurd (omega (arith, q))
-  tree-fits (an-import f h on) q room held looks = absurd (omega (arith, q))
-  tree-fits (a-let {e = e} f h r on) q room held looks = record { tree = e; rep = r; room = omega (arith, room); held = omega (arith, held); looks = omega (arith, looks) }
-  tree-fits (an-expr {e = e} f h r on) q room held looks = record { tree = e; rep = r; room = omega (arith, room); held = omega (arith, held); looks = omega (arith, looks) }
+  tree-fits : {c : Counts} {ss : List Stmt} → StmtsAt ws i ss → 11 < nodeWord ws i 0 → c .errors + c .warnings + programSize ss + 1 ≤ mostFindings
+      → c .statements + programSize ss ≤ mostRows → c .slots + programSize ss ≤ mostFindings → c .comparisons + mostNames * programSize ss ≤ mostCompared → StmtFits ws i c
+  tree-fits (at-end l) q room held slots looks = absurd (omega (arith, inside))
+  tree-fits (no-stmt f h on) q room held slots looks = absurd (omega (arith, q))
+  tree-fits (an-import f h on) q room held slots looks = absurd (omega (arith, q))
+  tree-fits (a-let {e = e} f h r on) q room held slots looks =
+      record { tree = e; rep = r; room = omega (arith, room); held = omega (arith, held); slots = omega (arith, slots); looks = omega (arith, looks) }
+  tree-fits (an-expr {e = e} f h r on) q room held slots looks =
+      record { tree = e; rep = r; room = omega (arith, room); held = omega (arith, held); slots = omega (arith, slots); looks = omega (arith, looks) }
 
   -- of a `let` and of an expression
   pub stmt-fits : {c d : Counts} → d ≡ plusNumber c → RowFits ws i c → 11 < nodeWord ws i 0 → StmtFits ws i d
-  stmt-fits {c} b f q = rw b (tree-fits {c = plusNumber c} (f .stands) q (f .room) (f .held) (f .looks))
+  stmt-fits {c} b f q = rw b (tree-fits {c = plusNumber c} (f .stands) q (f .room) (f .held) (f .slots) (f .looks))
 
   -- what it gives
 
   module _ (s : List ℕ) (n : ℕ) (k : Known) (c : Counts) (x u : List ℕ) {d : Counts} (b : d ≡ plusNumber c) where
     pub row-import : {r : Turn} {y : List ℕ} {t : ℕ} {ss : List Stmt} → nodeWord ws i 0 ≡ 11 → t ≡ nodeWord ws i 1 → StmtsAt ws i ss
-        → Turns s k d x u r y u (stmt (ts s) n k (import′ t)) → RowTurns s ws i n k c x u r y u ss
+        → Turns s n k (import′ t) d x u r y u → RowTurns s ws i n k c x u r y u ss
     row-import q e (at-end l) g = absurd (omega (arith, inside))
     row-import q e (no-stmt f h on) g = absurd (omega (arith, q))
-    row-import {r} {y} q e (an-import f h on) g = takes on (from-there c b (subst (λ (z : ℕ). Turns s k d x u r y u (stmt (ts s) n k (import′ z))) e g))
+    row-import {r} {y} q e (an-import f h on) g = takes on (from-there c b (subst (λ (z : ℕ). Turns s n k (import′ z) d x u r y u) e g))
     row-import q e (a-let f h z on) g = absurd (omega (arith, q))
     row-import q e (an-expr f h z on) g = absurd (omega (arith, q))
 
-    pub row-let : {r : Turn} {y : List ℕ} {ss : List Stmt} → nodeWord ws i 0 ≡ 12 → StmtsAt ws i ss
-        → ((e : Expr) → RepAt ws (nodeWord ws i 2) e → Turns s k d x u r y u (stmt (ts s) n k (let′ (nodeWord ws i 1) e)))
-        → RowTurns s ws i n k c x u r y u ss
+    pub row-let : {r : Turn} {y v : List ℕ} {ss : List Stmt} → nodeWord ws i 0 ≡ 12 → StmtsAt ws i ss
+        → ((e : Expr) → RepAt ws (nodeWord ws i 2) e → Turns s n k (let′ (nodeWord ws i 1) e) d x u r y v)
+        → RowTurns s ws i n k c x u r y v ss
     row-let q (at-end l) g = absurd (omega (arith, inside))
     row-let q (no-stmt f h on) g = absurd (omega (arith, q))
     row-let q (an-import f h on) g = absurd (omega (arith, q))
     row-let q (a-let {e = e} f h z on) g = takes on (from-there c b (g e z))
     row-let q (an-expr f h z on) g = absurd (omega (arith, q))
 
-    pub row-expr : {c′ : Counts} {y v : List ℕ} {ss : List Stmt} → nodeWord ws i 0 ≡ 13 → StmtsAt ws i ss
-        → ((e : Expr) → RepAt ws (nodeWord ws i 2) e → Exprs s n k e d x u c′ y v) → RowTurns s ws i n k c x u (Went c′) y v ss
+    pub row-expr : {r : Turn} {y v : List ℕ} {ss : List Stmt} → nodeWord ws i 0 ≡ 13 → StmtsAt ws i ss
+        → ((e : Expr) → RepAt ws (nodeWord ws i 2) e → Turns s n k (expr′ e) d x u r y v) → RowTurns s ws i n k c x u r y v ss
     row-expr q (at-end l) g = absurd (omega (arith, inside))
     row-expr q (no-stmt f h on) g = absurd (omega (arith, q))
     row-expr q (an-import f h on) g = absurd (omega (arith, q))
     row-expr q (a-let f h z on) g = absurd (omega (arith, q))
-    row-expr {c′} {y} {v} q (an-expr {e = e} f h z on) g = takes on (from-there c b (expr-turn s k d c′ x u y v n e (g e z)))
+    row-expr q (an-expr {e = e} f h z on) g = takes on (from-there c b (g e z))
 
   -- a row of an expression is passed
   module _ (s : List ℕ) (n : ℕ) (k : Known) (c : Counts) (x u : List ℕ) where

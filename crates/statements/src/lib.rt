@@ -8,29 +8,30 @@ ghost use lib.ListN.{length};
 ghost use Rattle.language.specs.Tables.{tokenWidth};
 ghost use Rattle.language.specs.Tokens.{tokens, contents};
 ghost use Rattle.language.specs.Values.{lookup};
-ghost use Rattle.language.specs.Sentences.{Expr, Stmt, import′, let′, nodeWidth};
-ghost use Rattle.language.specs.Judgements.{Known, mostNames, mostImports, stmt, judgeAll};
+ghost use Rattle.language.specs.Sentences.{Expr, Stmt, import′, let′, expr′, nodeWidth};
+ghost use Rattle.language.specs.Judgements.{Known, mostNames, mostImports, judgeAll};
 ghost use Rattle.constants.specs.Constants.{orZero};
 ghost use Rattle.rows.specs.Rows.{nodeWord};
 ghost use Rattle.rows.specs.Tokens.{TokenTable};
 ghost use Rattle.names.specs.Names.{nameWidth, Keyed, stored};
 ghost use Rattle.judging.specs.Judging.{mostFindings, Ready, Knows, RepAt};
-ghost use Rattle.statements.specs.Checking.{noCounts, plusNumber, plusName, plusImport, plusStatement, Enters, HeldRow, Room, StmtFits, Tells, Exprs, Binds, BoundTwice, Turns, RowFits, StmtsAt, RowTurns, Comes};
+ghost use Rattle.statements.specs.Checking.{noCounts, plusNumber, heldTo, plusSlot, plusName, plusImport, Room, Enters, noValue, deedNumber, Does, Tells, Turns, StmtFits, Values, BindsValue, Binds, BoundTwice, RowFits, StmtsAt, RowTurns, AllSound, Comes};
 use constants::Constants;
 use findings::Counts;
 use findings::Diagnostic;
 use findings::What;
+use holding::Step;
 use names::Entry;
 use rows::NodeKind;
 use rows::NodeRow;
 use rows::StatementRow;
 use rows::TokKind;
 use rows::Token;
+use rows::Ty;
 use rows::Verdict;
 use values::Judged;
-use values::Judgement;
 use values::Narrowed;
-use values::Value;
+use values::Term;
 
 // The checker's state: the names that are bound and imported, in order of binding. `Counts` says how many of each are filled.
 pub struct Checker {
@@ -42,9 +43,6 @@ impl Checker {
     pub const NAMES: usize = 512;
 
     pub const IMPORTS: usize = 64;
-
-    // The kind of a statement that is held: hir.rs `StmtKind::Discard`.
-    pub const DISCARD: u64 = 1;
 
     // Empty entries.
     pub fn new() -> Self
@@ -63,6 +61,7 @@ impl Checker {
         Counts {
             used: 0,
             imported: 0,
+            slots: 0,
             errors: 0,
             warnings: 0,
             statements: 0,
@@ -95,14 +94,15 @@ fn put_binding(bindings: &mut [u64; Checker::NAMES * Entry::WORDS], row: usize, 
     requires { ⌜ row < mostNames ⌝ }
     ensures { λ _. ⌜ now (bindings .exit) ≡ stored mostNames (now (bindings .entry)) row e ⌝ }
 {
-    let at = Checker::NAMES + 6 * row;
+    let at = Checker::NAMES + 7 * row;
     bindings[row] = e.key;
     bindings[at] = e.start;
     bindings[at + 1] = e.end;
     bindings[at + 2] = e.token;
-    bindings[at + 3] = e.kind;
-    bindings[at + 4] = e.lo;
-    bindings[at + 5] = e.hi;
+    bindings[at + 3] = e.form;
+    bindings[at + 4] = e.kind;
+    bindings[at + 5] = e.lo;
+    bindings[at + 6] = e.hi;
 }
 
 // Stores a name that is imported.
@@ -110,18 +110,19 @@ fn put_import(imports: &mut [u64; Checker::IMPORTS * Entry::WORDS], row: usize, 
     requires { ⌜ row < mostImports ⌝ }
     ensures { λ _. ⌜ now (imports .exit) ≡ stored mostImports (now (imports .entry)) row e ⌝ }
 {
-    let at = Checker::IMPORTS + 6 * row;
+    let at = Checker::IMPORTS + 7 * row;
     imports[row] = e.key;
     imports[at] = e.start;
     imports[at + 1] = e.end;
     imports[at + 2] = e.token;
-    imports[at + 3] = e.kind;
-    imports[at + 4] = e.lo;
-    imports[at + 5] = e.hi;
+    imports[at + 3] = e.form;
+    imports[at + 4] = e.kind;
+    imports[at + 5] = e.lo;
+    imports[at + 6] = e.hi;
 }
 
 // The name at the token t, with its key and what it stands for.
-fn entry(tok: Token, t: u64, key: u64, v: Value) -> Entry
+fn entry(tok: Token, t: u64, key: u64, v: Term) -> Entry
     ensures { λ r. ⌜ Enters tok t key v r ⌝ }
 {
     if tok.kind == TokKind::IDENTIFIER {
@@ -130,6 +131,7 @@ fn entry(tok: Token, t: u64, key: u64, v: Value) -> Entry
             start: tok.start,
             end: tok.end,
             token: t,
+            form: v.form,
             kind: v.kind,
             lo: v.lo,
             hi: v.hi,
@@ -140,32 +142,27 @@ fn entry(tok: Token, t: u64, key: u64, v: Value) -> Entry
         start: 0,
         end: 0,
         token: t,
+        form: v.form,
         kind: v.kind,
         lo: v.lo,
         hi: v.hi,
     }
 }
 
-// ---- statements
-
-// Writes a statement that discards a value, where its row fits.
-fn put_stmt(stmts: &mut [u64], row: usize, tok: Token, v: Value)
-    requires { ⌜ row < mostFindings ⌝ }
-    ensures { λ _. ⌜ HeldRow tok v row (now (stmts .entry)) (now (stmts .exit)) ⌝ }
+// What a name stands for that has no value: of one that failed the kind is 0, of an import it is the number of its module.
+fn no_value(kind: u64) -> Term
+    ensures { λ r. ⌜ r ≡ noValue kind ⌝ }
 {
-    let text = values::shown(v);
-    let ty = values::type_of(v);
-    let words: [u64; StatementRow::WORDS] = [
-        tok.line,
-        tok.column,
-        Checker::DISCARD,
-        ty.kind,
-        text.from,
-        text.start,
-        text.end,
-    ];
-    table::put_row(stmts, row, &words);
+    Term {
+        at: 0,
+        form: Term::NONE,
+        kind,
+        lo: 0,
+        hi: 0,
+    }
 }
+
+// ---- counts
 
 // The next statement: imports, lets and expressions alike are numbered from 1.
 fn begun(counts: Counts) -> Counts
@@ -178,40 +175,87 @@ fn begun(counts: Counts) -> Counts
     }
 }
 
-fn held_one(counts: Counts) -> Counts
-    requires { ⌜ counts .statements < mostFindings ⌝ }
-    ensures { λ r. ⌜ r ≡ plusStatement counts ⌝ }
+// A statement holds the rows up to `next`.
+fn held_to(counts: Counts, next: usize) -> Counts
+    ensures { λ r. ⌜ r ≡ heldTo counts next ⌝ }
 {
     Counts {
-        statements: counts.statements + 1,
+        statements: next,
         ..counts
     }
 }
 
-// The value of an expression statement, at the token t: it is discarded, with a warning.
+// The same, and it makes a slot.
+fn slot_made(counts: Counts, next: usize) -> Counts
+    requires { ⌜ counts .slots < mostFindings ⌝ }
+    ensures { λ r. ⌜ r ≡ plusSlot counts next ⌝ }
+{
+    Counts {
+        slots: counts.slots + 1,
+        statements: next,
+        ..counts
+    }
+}
+
+// ---- expressions as statements
+
+// What a statement does with a value of a type.
+fn deed_of(kind: u64) -> u64
+    ensures { λ r. ⌜ r ≡ deedNumber kind ⌝ }
+{
+    match kind {
+        Ty::PKT => StatementRow::EMIT,
+        Ty::PKT_GEN => StatementRow::EMIT,
+        Ty::TIME_JUMP => StatementRow::WAIT,
+        Ty::VOID => StatementRow::EVAL,
+        _ => StatementRow::DISCARD,
+    }
+}
+
+// An expression statement at the token t. The rows of its value's parts end before the row `next`; its own is written here, where
+// it is known that the value stays.
+fn does(
+    toks: &[u64],
+    diags: &mut [u64],
+    stmts: &mut [u64],
+    t: u64,
+    v: Term,
+    next: usize,
+    counts: Counts,
+) -> Counts
+    requires { ⌜ tokenWidth ≤ length (now toks) ⌝ }
+    requires { ⌜ Room counts ⌝ }
+    ensures { λ r. ⌜ ((s : List ℕ) → TokenTable s (now (toks .entry)) → Does s t v next counts (now (diags .entry)) (now (stmts .entry)) r (now (diags .exit)) (now (stmts .exit))) ⌝ }
+{
+    let ty = values::type_of(v);
+    let kind = deed_of(ty.kind);
+    holding::put(toks, stmts, counts.statements, t, kind, 0, v);
+    let held = held_to(counts, next);
+    if kind == StatementRow::DISCARD {
+        let tok = rows::token_at(toks, t);
+        return findings::report(diags, held, Diagnostic::at(tok, What::DiscardedValue(ty)));
+    }
+    held
+}
+
+// The value of an expression statement at the token t: an integer with no size takes the smallest that holds it.
 fn tell(
     toks: &[u64],
     diags: &mut [u64],
     stmts: &mut [u64],
     t: u64,
-    v: Value,
+    v: Term,
+    next: usize,
     counts: Counts,
 ) -> Counts
     requires { ⌜ tokenWidth ≤ length (now toks) ⌝ }
     requires { ⌜ Room counts ⌝ }
-    ensures { λ r. ⌜ ((s : List ℕ) → TokenTable s (now (toks .entry)) → Tells s t v counts (now (diags .entry)) (now (stmts .entry)) r (now (diags .exit)) (now (stmts .exit))) ⌝ }
+    ensures { λ r. ⌜ ((s : List ℕ) → TokenTable s (now (toks .entry)) → Tells s t v next counts (now (diags .entry)) (now (stmts .entry)) r (now (diags .exit)) (now (stmts .exit))) ⌝ }
 {
-    let tok = rows::token_at(toks, t);
     match values::narrow(v) {
-        Narrowed::Fits(w) => {
-            put_stmt(stmts, counts.statements, tok, w);
-            held_one(findings::report(
-                diags,
-                counts,
-                Diagnostic::at(tok, What::DiscardedValue(values::type_of(w))),
-            ))
-        }
+        Narrowed::Fits(w) => does(toks, diags, stmts, t, w, next, counts),
         Narrowed::TooLarge => {
+            let tok = rows::token_at(toks, t);
             findings::report(diags, counts, Diagnostic::at(tok, What::IntegralTooLarge))
         }
     }
@@ -228,30 +272,41 @@ fn expr_stmt(
     stmts: &mut [u64],
     i: usize,
     counts: Counts,
-) -> Counts
+) -> Turn
     requires { ⌜ Ready (now source) (now toks) (now bindings) (now imports) counts ⌝ }
     requires { ⌜ StmtFits (now nodes) i counts × (nodeWidth * i + nodeWidth ≤ length (now nodes)) ⌝ }
     ensures { λ r. ⌜ ((n : ℕ) (k : Known) (e : Expr) → n ≡ counts .number → Knows (now (source .entry)) (now (bindings .entry)) (now (imports .entry)) counts k
         → RepAt (now (nodes .entry)) (nodeWord (now (nodes .entry)) i 2) e
-        → Exprs (now (source .entry)) n k e counts (now (diags .entry)) (now (stmts .entry)) r (now (diags .exit)) (now (stmts .exit))) ⌝ }
+        → Turns (now (source .entry)) n k (expr′ e) counts (now (diags .entry)) (now (stmts .entry)) r (now (diags .exit)) (now (stmts .exit))) ⌝ }
 {
     let e = rows::node_word(nodes, i, NodeRow::FIRST) as usize;
-    let j = judging::judge(source, toks, nodes, bindings, imports, diags, e, counts);
-    let out = j.out;
-    let found = j.counts;
+    let at = counts.statements;
+    let step = judging::judge(
+        source,
+        toks,
+        nodes,
+        bindings,
+        imports,
+        diags,
+        stmts,
+        e,
+        at,
+        counts,
+    );
+    let out = step.out;
+    let found = step.counts;
     match out {
-        Judged::Val(v) => tell(
-            toks,
-            diags,
-            stmts,
-            rows::node_word(nodes, e, NodeRow::TOKEN),
-            v,
-            found,
-        ),
-        Judged::Err(d) => findings::report(diags, found, d),
-        Judged::Poisoned => found,
+        Judged::Val(v) => {
+            let t = rows::node_word(nodes, e, NodeRow::TOKEN);
+            Turn::Went(tell(toks, diags, stmts, t, v, step.next, found))
+        }
+        Judged::Err(d) => Turn::Went(findings::report(diags, found, d)),
+        Judged::Poisoned => Turn::Went(found),
+        Judged::Stopped(p) => Turn::Refused(Verdict::CALLS, p),
     }
 }
+
+// ---- imports
 
 // The number of the module with a name, 0 where there is none.
 fn module_named(name: &[u8]) -> u64
@@ -275,7 +330,7 @@ fn import(
     requires { ⌜ TokenTable (now source) (now toks) × (counts .imported ≤ length (now imports) / nameWidth) × Keyed (now source) (now imports) (counts .imported) ⌝ }
     requires { ⌜ Room counts ⌝ }
     ensures { λ r. ⌜ ((n : ℕ) (k : Known) (b u : List ℕ) → n ≡ counts .number → Knows (now (source .entry)) b (now (imports .entry)) counts k
-        → Turns (now (source .entry)) k counts (now (diags .entry)) u r (now (diags .exit)) u (stmt (contents (tokens (now (source .entry)))) n k (import′ t))) ⌝ }
+        → Turns (now (source .entry)) n k (import′ t) counts (now (diags .entry)) u r (now (diags .exit)) u) ⌝ }
 {
     let tok = rows::token_at(toks, t);
     let name = rows::name_at(source, tok);
@@ -292,7 +347,7 @@ fn import(
         return Turn::Refused(Verdict::NAMES, t);
     }
     let kind = module_named(name);
-    let e = entry(tok, t, key, Value { kind, lo: 0, hi: 0 });
+    let e = entry(tok, t, key, no_value(kind));
     if kind == 0 {
         let more = findings::report(diags, counts, Diagnostic::at(tok, What::UnknownModule));
         return Turn::Imports(more, e);
@@ -300,20 +355,88 @@ fn import(
     Turn::Imports(counts, e)
 }
 
-// The name at the token t is bound to what its value came to; where that failed, to nothing.
-fn bind(diags: &mut [u64], tok: Token, t: u64, key: u64, j: Judgement) -> Turn
-    requires { ⌜ j .counts .errors + j .counts .warnings < mostFindings ⌝ }
-    ensures { λ r. ⌜ Binds tok t key j (now (diags .entry)) r (now (diags .exit)) ⌝ }
+// ---- lets
+
+// What a `let` is of must not be void.
+fn value_of(toks: &[u64], step: Step) -> Step
+    requires { ⌜ tokenWidth ≤ length (now toks) ⌝ }
+    ensures { λ r. ⌜ ((s : List ℕ) → TokenTable s (now (toks .entry)) → Values s step r) ⌝ }
 {
-    let out = j.out;
-    let counts = j.counts;
+    let out = step.out;
+    let counts = step.counts;
     match out {
-        Judged::Val(v) => Turn::Binds(counts, entry(tok, t, key, v)),
+        Judged::Val(v) => Step {
+            out: values::used(toks, v),
+            counts,
+            next: step.next,
+        },
+        _ => step,
+    }
+}
+
+// The name at the token t is bound to a value: a constant or a slot as it is, so that it takes no row; any other takes the next slot.
+fn bind_value(
+    toks: &[u64],
+    stmts: &mut [u64],
+    tok: Token,
+    t: u64,
+    key: u64,
+    v: Term,
+    next: usize,
+    counts: Counts,
+) -> Turn
+    requires { ⌜ tokenWidth ≤ length (now toks) ⌝ }
+    requires { ⌜ Room counts ⌝ }
+    ensures { λ r. ⌜ ((s : List ℕ) → TokenTable s (now (toks .entry)) → BindsValue s tok t key v next counts (now (stmts .entry)) r (now (stmts .exit))) ⌝ }
+{
+    if v.form <= Term::SLOT {
+        return Turn::Binds(counts, entry(tok, t, key, v));
+    }
+    let slot = counts.slots as u64;
+    holding::put(
+        toks,
+        stmts,
+        counts.statements,
+        t,
+        StatementRow::LET,
+        slot,
+        v,
+    );
+    let ty = values::type_of(v);
+    let made = Term {
+        at: t,
+        form: Term::SLOT,
+        kind: ty.kind,
+        lo: slot,
+        hi: ty.entry,
+    };
+    Turn::Binds(slot_made(counts, next), entry(tok, t, key, made))
+}
+
+// The name at the token t is bound to what its value came to; where that failed, to nothing.
+fn bind(
+    toks: &[u64],
+    diags: &mut [u64],
+    stmts: &mut [u64],
+    tok: Token,
+    t: u64,
+    key: u64,
+    step: Step,
+) -> Turn
+    requires { ⌜ tokenWidth ≤ length (now toks) ⌝ }
+    requires { ⌜ Room (step .counts) ⌝ }
+    ensures { λ r. ⌜ ((s : List ℕ) → TokenTable s (now (toks .entry)) → Binds s tok t key step (now (diags .entry)) (now (stmts .entry)) r (now (diags .exit)) (now (stmts .exit))) ⌝ }
+{
+    let out = step.out;
+    let counts = step.counts;
+    match out {
+        Judged::Val(v) => bind_value(toks, stmts, tok, t, key, v, step.next, counts),
         Judged::Err(d) => {
             let more = findings::report(diags, counts, d);
-            Turn::Binds(more, entry(tok, t, key, Value::NONE))
+            Turn::Binds(more, entry(tok, t, key, no_value(0)))
         }
-        Judged::Poisoned => Turn::Binds(counts, entry(tok, t, key, Value::NONE)),
+        Judged::Poisoned => Turn::Binds(counts, entry(tok, t, key, no_value(0))),
+        Judged::Stopped(p) => Turn::Refused(Verdict::CALLS, p),
     }
 }
 
@@ -339,15 +462,16 @@ fn let_stmt(
     bindings: &[u64],
     imports: &[u64],
     diags: &mut [u64],
+    stmts: &mut [u64],
     i: usize,
     counts: Counts,
 ) -> Turn
     requires { ⌜ Ready (now source) (now toks) (now bindings) (now imports) counts ⌝ }
     requires { ⌜ StmtFits (now nodes) i counts × (nodeWidth * i + nodeWidth ≤ length (now nodes)) ⌝ }
-    ensures { λ r. ⌜ ((n : ℕ) (k : Known) (e : Expr) (u : List ℕ) → n ≡ counts .number → Knows (now (source .entry)) (now (bindings .entry)) (now (imports .entry)) counts k
+    ensures { λ r. ⌜ ((n : ℕ) (k : Known) (e : Expr) → n ≡ counts .number → Knows (now (source .entry)) (now (bindings .entry)) (now (imports .entry)) counts k
         → RepAt (now (nodes .entry)) (nodeWord (now (nodes .entry)) i 2) e
-        → Turns (now (source .entry)) k counts (now (diags .entry)) u r (now (diags .exit)) u
-        (stmt (contents (tokens (now (source .entry)))) n k (let′ (nodeWord (now (nodes .entry)) i 1) e))) ⌝ }
+        → Turns (now (source .entry)) n k (let′ (nodeWord (now (nodes .entry)) i 1) e) counts (now (diags .entry)) (now (stmts .entry))
+        r (now (diags .exit)) (now (stmts .exit))) ⌝ }
 {
     let t = rows::node_word(nodes, i, NodeRow::TOKEN);
     let tok = rows::token_at(toks, t);
@@ -355,17 +479,29 @@ fn let_stmt(
     let key = names::key_of(name);
     let found = names::find(source, bindings, counts.used, key, name);
     let then = findings::searched(counts, found.compared);
-    let at = found.at;
-    if at < counts.used {
-        let first = names::word(bindings, at, Entry::TOKEN);
-        return Turn::Went(bound_twice(toks, diags, tok, first, then));
+    let first = found.at;
+    if first < counts.used {
+        let bound = names::word(bindings, first, Entry::TOKEN);
+        return Turn::Went(bound_twice(toks, diags, tok, bound, then));
     }
     if Checker::NAMES <= counts.used {
         return Turn::Refused(Verdict::NAMES, t);
     }
     let e = rows::node_word(nodes, i, NodeRow::FIRST) as usize;
-    let j = judging::judge(source, toks, nodes, bindings, imports, diags, e, then);
-    bind(diags, tok, t, key, j)
+    let at = then.statements;
+    let step = judging::judge(
+        source,
+        toks,
+        nodes,
+        bindings,
+        imports,
+        diags,
+        stmts,
+        e,
+        at,
+        then,
+    );
+    bind(toks, diags, stmts, tok, t, key, value_of(toks, step))
 }
 
 // Row i: a statement takes its turn, a row of an expression is passed.
@@ -396,8 +532,7 @@ fn stmt<'a>(
             rows::node_word(nodes, i, NodeRow::TOKEN),
             then,
         ),
-        NodeKind::LET => let_stmt(source, toks, nodes, bindings, imports, diags, i, then),
-        NodeKind::EXPRESSION => Turn::Went(expr_stmt(
+        NodeKind::LET => let_stmt(
             source,
             toks,
             nodes,
@@ -407,7 +542,18 @@ fn stmt<'a>(
             stmts,
             i,
             then,
-        )),
+        ),
+        NodeKind::EXPRESSION => expr_stmt(
+            source,
+            toks,
+            nodes,
+            bindings,
+            imports,
+            diags,
+            stmts,
+            i,
+            then,
+        ),
         _ => Turn::Went(counts),
     }
 }
@@ -442,7 +588,7 @@ pub fn run(
 ) -> Outcome
     requires { ⌜ TokenTable (now source) (now toks) ⌝ }
     requires { ⌜ RowFits (now nodes) 0 noCounts ⌝ }
-    ensures { λ r. ⌜ ((ss : List Stmt) → StmtsAt (now (nodes .entry)) 0 ss
+    ensures { λ r. ⌜ ((ss : List Stmt) → StmtsAt (now (nodes .entry)) 0 ss → AllSound (contents (tokens (now (source .entry)))) ss
         → Comes (now (source .entry)) (now (diags .entry)) (now (stmts .entry)) r (now (diags .exit)) (now (stmts .exit)) (judgeAll (contents (tokens (now (source .entry)))) ss)) ⌝ }
 {
     let mut checker = Checker::new();

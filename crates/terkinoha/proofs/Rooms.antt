@@ -11,21 +11,21 @@ use lib.Dec.{ltb, eqb}
 use lib.ListN.{length, length-map}
 use Rattle.language.specs.Canonical.{text}
 use Rattle.language.specs.Tables.{lexemeWidth, tokenWidth}
-use Rattle.language.specs.Findings.{stmtWidth}
+use Rattle.language.specs.Findings.{rowsOf, stmtWidth}
 use Rattle.language.specs.Utf8.{firstBad}
 use Rattle.language.specs.Lexemes.{scan}
 use Rattle.language.specs.Tokens.{mostBytes, Content, Token, items, firstWrong, Wrong, tokens, contents, placeOf}
 use Rattle.language.specs.Sentences as sentences
 use Rattle.language.specs.Sentences.{Out, Stmt, ok, program, nodes, nodeWidth}
 use Rattle.language.specs.Judgements.{Outcome, judged, refused, errorsIn, judgeAll}
-use Rattle.language.specs.Numbers.{Scanned, Lexed, Parsed, Canonised, Checked, verdict, scanned, counted, lexed, lexical, placed, lexedWithin, parsedAs, parsedNodes, firstCall, checked, judgedWithin, scanAnswer, lexAnswer, parseAnswer, canonAnswer, checkAnswer}
+use Rattle.language.specs.Numbers.{Scanned, Lexed, Parsed, Canonised, Checked, verdict, scanned, counted, lexed, lexical, placed, lexedWithin, parsedAs, checked, judgedWithin, scanAnswer, lexAnswer, parseAnswer, canonAnswer, checkAnswer}
 use Rattle.language.proofs.JudgementClaims.{all-counted}
 use Rattle.language.proofs.Tests.{by-cases}
 use Rattle.language.proofs.LexemeSpans.{spans-join}
 use Rattle.language.proofs.Done.{lex-done, lex-done-only}
 use Rattle.parse.proofs.TokenRows.{few-tokens}
 use Rattle.terkinoha.specs.Rooms.{ScanRoom, LexRoom, ParseRoom, CanonRoom, CheckRoom, ScanEnough, LexEnough, ParseEnough, CanonEnough, CheckEnough}
-use Rattle.language.proofs.Names.{names-refused}
+use Rattle.language.proofs.Names.{refused-for}
 use Rattle.parse.proofs.Few.{nodes-few}
 use Rattle.language.proofs.SentenceRefusals.{refused-number}
 use Rattle.terkinoha.proofs.Found.{found-few}
@@ -129,23 +129,18 @@ check-room s room t n k z h l i = go (program cs) refl
         × (a .errors + a .warnings ≤ lexAnswer s room .count)
 
     judged-in : (ss : List Stmt) (a b : ℕ) → length (nodes ss) ≤ lexAnswer s room .count → (o : Outcome) → judgeAll cs ss ≡ o → P (judgedWithin s k a b o)
-    judged-in ss a b m (refused v at) e = (let nine = names-refused cs ss v at .0 e .0 in rw nine (other 9 refl), omega arith)
+    judged-in ss a b m (refused v at) e = (elim (refused-for cs ss v at e) [ inl q ↦ rw q (other 8 refl) | inr q ↦ rw q (other 9 refl) ], omega arith)
     judged-in ss a b m (judged ds hs ls) e =
         let w = found-few cs ss e in
         let c = all-counted ds in
         by-cases P (eqb (errorsIn ds) 0)
-        (λ _. by-cases P (ltb k (length hs)) (λ f. absurd (omega (arith, ltb-true k (length hs) f, w .1))) (λ _. (other 0 refl, omega (arith, w .0, c))))
+        (λ _. by-cases P (ltb k (length (rowsOf hs))) (λ f. absurd (omega (arith, ltb-true k (length (rowsOf hs)) f, w .1))) (λ _. (other 0 refl, omega (arith, w .0, c))))
         (λ _. (other 0 refl, omega (arith, w .0, c)))
 
-    -- a program, by its first call
-    called : {ss : List Stmt} {at x : ℕ} → program cs ≡ ok ss at x → (c : Option ℕ) → firstCall (parsedNodes (program cs)) ≡ c → P (checkAnswer s t n k)
-    called e (some u) f = rw (parsed-too s room z t n h l e, f) (other 8 refl, omega arith)
-    called {ss} {at} {x} e none f =
-        let p = parseAnswer s t n in
-        rw (parsed-too s room z t n h l e, f) (judged-in ss (p .tokens) (p .nodes) (no-more s room z ss at x e) (checked s) (rw e))
-
     go : (o : Out (List Stmt)) → program cs ≡ o → P (checkAnswer s t n k)
-    go (ok ss at x) e = called e (firstCall (parsedNodes (program cs))) refl
+    go (ok ss at x) e =
+        let p = parseAnswer s t n in
+        rw (parsed-too s room z t n h l e) (judged-in ss (p .tokens) (p .nodes) (no-more s room z ss at x e) (checked s) (rw e))
     go (sentences.no m j at) e =
         elim (refused-number cs m j at e) [
           | inl q ↦ rw (parsed-in s room z t n h, e, q) (other 5 refl, omega arith)

@@ -7,7 +7,7 @@ use native.Mathlib.Nat.{le-trans, lt-of-lt-of-le, mul-le-mul-right, mul-right-co
 use native.Mathlib.Omega.{arith}
 use borrow.Author.Tests.{lt-ltb, le-ltb, eq-eqb, ne-eqb, eqb-true, ltb-true}
 use lib.Dec.{eqb, ltb}
-use Rattle.language.specs.Integers.{limit, IntType, bits, smallest, low16, isTruncated}
+use Rattle.language.specs.Integers.{limit, IntType, bits, smallest}
 use Rattle.language.proofs.Integers.{from, chosen, none-chosen}
 use Rattle.language.proofs.Tests.{both}
 use Rattle.wide.specs.declared.Scaled.the-variants.{Fits, Over}
@@ -58,14 +58,6 @@ size-case t hi lo z a b = rw (lower hi lo z, chosen t lo a b)
 
 pub too-large : (n : ℕ) → 2 ^ 64 ≤ n → TooLarge ≡ sizeOf (smallest n)
 too-large n a = rw (none-chosen n a)
-
--- ---- the lowest 16 bits
-
-pub low16-same : (hi lo : ℕ) → hi ≤ 0 → lo < 65536 → (lo ≡ low16 (hi * wordLimit + lo)) × (false ≡ isTruncated (hi * wordLimit + lo))
-low16-same hi lo z h = rw (lower hi lo z) (omega arith, rw (eq-eqb (lo % 65536) lo (omega arith)))
-
-pub low16-less : (n l : ℕ) → l ≡ low16 n → 65536 ≤ n → (l ≡ low16 n) × (true ≡ isTruncated n)
-low16-less n l e h = (e, rw (ne-eqb (n % 65536) n (λ q. omega arith)))
 
 -- ---- zero
 

@@ -4,7 +4,7 @@ ghost use Prim.Native.Nat.{_+_, _*_, _-_, _/_, _%_, _<_, _≤_};
 ghost use mathlib.Core.List.{_++_};
 ghost use lib.Dec.{eqb};
 ghost use lib.ListN.{length, replicate};
-ghost use Rattle.language.specs.Integers.{smallest, low16, isTruncated, mostDigits, decimal, mostHexDigits, hexadecimal, ascii};
+ghost use Rattle.language.specs.Integers.{smallest, mostDigits, decimal, mostHexDigits, hexadecimal, ascii};
 ghost use Rattle.language.specs.Canonical.{spellDigit, spellDigits};
 ghost use Rattle.wide.specs.Wide.{valueOf, scaled, sizeOf};
 
@@ -28,13 +28,6 @@ pub enum Size {
     U64,
     TooLarge,
 }
-
-// A number modulo 2^16, and whether that is another number.
-pub struct Low16 {
-    pub value: u64,
-    pub changed: bool,
-}
-
 // A number divided by a base, and the digit that is left.
 struct Quotient {
     rest: Wide,
@@ -160,30 +153,6 @@ impl Wide {
             return Size::U32;
         }
         Size::U64
-    }
-
-    // The number modulo 2^16: the upper word never counts.
-    pub fn low16(self) -> Low16
-        ensures { λ r. ⌜ (r .value ≡ low16 (valueOf self)) × (r .changed ≡ isTruncated (valueOf self)) ⌝ }
-    {
-        let hi = self.hi;
-        let lo = self.lo;
-        if 0 < hi {
-            return Low16 {
-                value: lo % 65536,
-                changed: true,
-            };
-        }
-        if lo < 65536 {
-            return Low16 {
-                value: lo,
-                changed: false,
-            };
-        }
-        Low16 {
-            value: lo % 65536,
-            changed: true,
-        }
     }
 
     // A long division: the upper word, then the halves of the lower, each with what is left of the part before it,

@@ -14,8 +14,8 @@ returns c =
     let found = held .before .before .before .before in
     not-parsed (read .parse-source .ensures) (tested .if1 .taken) (c .refused .ensures) (found .clear .ensures) (held .clear2 .ensures)
 
-check-tree-requires : tie.Need-check-tree-requires
-check-tree-requires c κs =
+check-statements-requires : tie.Need-check-statements-requires
+check-statements-requires c κs =
     let tested = c .before .before .before .before in
     let read = tested .before .before .before .before .before .before .before in
     let held = read .before .before .before .before .before in
@@ -34,11 +34,11 @@ returns-2 c =
     let read = end .before .before .before .before .before .before .before .before .before .before .before .before in
     let held = read .before .before .before .before in
     let found = held .before .before .before .before in
-    as-before (read .parse-source .ensures) (found .diags .given) (held .stmts .given) (end .check-tree .ensures)
+    as-before (read .parse-source .ensures) (found .diags .given) (held .stmts .given) (end .check-statements .ensures)
 
 pub check-source-spec : {M : Type 1} → statement M
 check-source-spec =
     tie.close
     (tie.spec (λ c. search needs) (λ c. search needs) (λ c. search needs) (λ c. search needs) (λ c. search needs)
-    (λ c. search needs) (λ c. search needs) (λ c. search needs) returns check-tree-requires (λ c. search needs)
+    (λ c. search needs) (λ c. search needs) (λ c. search needs) returns check-statements-requires (λ c. search needs)
     (λ c. search needs) same-length-7 same-length-8 returns-2)

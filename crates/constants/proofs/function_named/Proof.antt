@@ -8,10 +8,10 @@ use Rattle.constants.proofs.function_named.Statement.{statement}
 use Rattle.constants.proofs.function_named.Tie as tie
 
 abbrev Inv-loop : tie.InvT-loop
-Inv-loop rows start end k₀ k = (1 ≤ k) × (k ≤ 10) × (functionFrom (10 - k) k start end ≡ functionNamed start end)
+Inv-loop rows start end k₀ k = (1 ≤ k) × (k ≤ 15) × (functionFrom (15 - k) k start end ≡ functionNamed start end)
 
 abbrev μ-loop : tie.MeasureT-loop
-μ-loop rows start end k₀ k = 10 - k
+μ-loop rows start end k₀ k = 15 - k
 
 loop-holds : tie.Need-loop-holds Inv-loop μ-loop
 loop-holds c = (omega arith, omega arith, function-start _ _)

@@ -8,10 +8,10 @@ use Rattle.constants.proofs.lookup.Statement.{statement}
 use Rattle.constants.proofs.lookup.Tie as tie
 
 abbrev Inv-loop : tie.InvT-loop
-Inv-loop rows text inside name i₀ i = (i ≤ 9) × (orZero (from inside name i) ≡ orZero (lookup inside name))
+Inv-loop rows text inside name i₀ i = (i ≤ 14) × (orZero (from inside name i) ≡ orZero (lookup inside name))
 
 abbrev μ-loop : tie.MeasureT-loop
-μ-loop rows text inside name i₀ i = 9 - i
+μ-loop rows text inside name i₀ i = 14 - i
 
 loop-holds : tie.Need-loop-holds Inv-loop μ-loop
 loop-holds c = (search needs, refl)

@@ -1,24 +1,28 @@
-use mathlib.Core.Path.{refl, ap, _∙_}
-use Rattle.language.specs.Values.{typeOf}
+use mathlib.Core.Path.{ap, _∙_}
+use Rattle.language.specs.Terms.{termType}
 use Rattle.language.specs.Judgements.{noMembers}
 use Rattle.findings.specs.declared.What.the-variants.{NoMembers}
-use Rattle.paths.proofs.Paths.{judged-err}
-use Rattle.judging.proofs.Judging.{members, members-err, members-none}
+use Rattle.values.proofs.Values.{judged-err}
 use borrow.Author.Needs.{needs}
 use Rattle.judging.proofs.member.Statement.{statement}
 use Rattle.judging.proofs.member.Tie as tie
+use Rattle.judging.proofs.member.Reads as reads
+use Rattle.judging.proofs.member.Lts as lts
+use Rattle.rows.proofs.token_at.Reads as token-at-reads
+use Rattle.values.proofs.error.Reads as error-reads
+use Rattle.values.proofs.type_of.Reads as type-of-reads
+
+token-at-requires : tie.Need-token-at-requires
+token-at-requires c κs = search needs
+
+type-of-requires : tie.Need-type-of-requires
+type-of-requires c κs = search needs
+
+error-requires : tie.Need-error-requires
+error-requires c κs = search needs
 
 returns : tie.Need-returns
-returns c = λ s o. members s (c .before .before .before .before .before .before .before .before .args .t) (c .before .before .before .before .out .given .1) (λ u e. c .error .ensures ∙ judged-err s (c .before .before .before .before .before .before .before .before .args .t) (noMembers (typeOf u)) (c .before .before .token-at .ensures s o) (ap NoMembers (c .before .type-of .ensures .is u e))) refl
-
-returns-2 : tie.Need-returns-2
-returns-2 c = λ s o. members-err s (c .before .before .before .before .args .t) (c .enum-told .given .1)
-
-returns-3 : tie.Need-returns-3
-returns-3 c = λ s o. members-none s (c .before .before .before .before .args .t) (c .enum-told2 .given .1)
+returns c = λ s o. record { is = λ e q. c .error .ensures ∙ judged-err s (c .before .before .before .before .args .t) (noMembers (termType e)) (c .before .before .token-at .ensures s o) (ap NoMembers (c .before .type-of .ensures .is e q)) }
 
 pub member-spec : {M : Type 1} → statement M
-member-spec =
-    tie.close
-    (tie.spec (λ c. search needs) (λ c κs. search needs) (λ c κs. search needs) (λ c κs. search needs)
-    (λ c. search needs) (λ c. search needs) returns returns-2 returns-3)
+member-spec = tie.close (tie.spec token-at-requires type-of-requires error-requires returns)

@@ -2,7 +2,7 @@ use native.Mathlib.Omega.{arith}
 use mathlib.Core.Path.{_∙_}
 use Prim.Native.Nat.{_-_}
 use borrow.Author.Needs.{needs}
-use Rattle.statements.proofs.Runs.{Looped, start, again-went, again-name, again-import, room-name, room-import, stopped, finished}
+use Rattle.statements.proofs.Runs.{Looped, start, again-went, again-name, again-import, room-name, room-import, run-stopped, finished}
 use Rattle.statements.proofs.run.Statement.{statement}
 use Rattle.statements.proofs.run.Tie as tie
 
@@ -64,7 +64,7 @@ same-length-2 : tie.Need-same-length-2 Inv-loop μ-loop
 same-length-2 c = (c .before .before .before .before .before .before .before .stmt .kept .1 .1 .1 .1 .1 .1 .0) ∙ (c .before .before .before .before .before .before .before .before .before .before .before .before .before .before .before .before .loop .inv) .stmts
 
 returns : tie.Need-returns Inv-loop μ-loop
-returns c = stopped (c .before .before .before .before .before .before .before .before .before .before .before .before .before .before .before .before .loop .inv) _ _ (c .before .before .before .before .before .before .before .stmt .ensures) (c .before .number .given .1)
+returns c = run-stopped (c .before .before .before .before .before .before .before .before .before .before .before .before .before .before .before .before .loop .inv) _ _ (c .before .before .before .before .before .before .before .stmt .ensures) (c .before .number .given .1)
 
 same-length-3 : tie.Need-same-length-3 Inv-loop μ-loop
 same-length-3 c = (c .before .loop .inv) .diags

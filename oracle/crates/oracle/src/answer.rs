@@ -13,7 +13,7 @@ use resynth::loc::Loc;
 use resynth::parse::{ParseErrorKind, parse as parse_tokens};
 use resynth::stdlib::{STDLIB, WIDE};
 use resynth::str::{Buf, StringLiteralErrorKind};
-use resynth::{Held, call_parts, hold, looks, token};
+use resynth::{Held, call_parts, hold, looks, named, token};
 
 use crate::{bounds, canon};
 
@@ -744,18 +744,34 @@ fn held_stmt(out: &mut Out, stmt: &hir::Stmt, held: &Held, opts: Options) {
     out.push(b'\n');
 }
 
+/// The place of a refusal that resynth does not have: 8 or 9. Without the wider table every call is one of 8, and the smaller number
+/// goes first. With it only some are, and the earlier token decides.
+fn unjudged(src: &[u8], stmts: &[ast::Stmt], opts: Options) -> Result<Option<(u8, Loc)>> {
+    let call = if opts.wide {
+        named(root(opts), stmts)
+    } else {
+        Some(0)
+    };
+    let toks = tokens(src, opts)?;
+    let eight = call.and_then(|i| bounds::call(&toks, i)).map(|loc| (8, loc));
+    let nine = bounds::too_many_names(stmts).map(|loc| (9, loc));
+    Ok(match (eight, nine) {
+        (Some(eight), Some(nine)) if opts.wide && before(nine.1, eight.1) => Some(nine),
+        (eight, nine) => eight.or(nine),
+    })
+}
+
+fn before(a: Loc, b: Loc) -> bool {
+    (a.line(), a.col()) < (b.line(), b.col())
+}
+
 /// The statements to judge
 fn judged(src: &[u8], opts: Options) -> Result<Vec<ast::Stmt>> {
     let stmts = tree(src, opts)?;
-    if opts.bounds {
-        if !opts.wide
-            && let Some(loc) = bounds::call(&tokens(src, opts)?)
-        {
-            return Err(Refusal::Bound(8, loc));
-        }
-        if let Some(loc) = bounds::too_many_names(&stmts) {
-            return Err(Refusal::Bound(9, loc));
-        }
+    if opts.bounds
+        && let Some((number, loc)) = unjudged(src, &stmts, opts)?
+    {
+        return Err(Refusal::Bound(number, loc));
     }
     Ok(stmts)
 }

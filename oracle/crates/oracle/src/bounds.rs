@@ -1,5 +1,5 @@
 //! The refusals that resynth does not have, counted over its tokens and trees: a source, canonical
-//! text, lists, steps and names beyond the stated sizes, and a call where none is checked.
+//! text, lists, steps and names beyond the stated sizes, and the place of a call.
 
 use std::collections::{HashSet, VecDeque};
 
@@ -53,10 +53,11 @@ pub fn too_deep(toks: &VecDeque<Token>, stop: Option<Loc>) -> Option<Loc> {
     None
 }
 
-/// Number 8: the first call, in tokens that are sentences
-pub fn call(toks: &VecDeque<Token>) -> Option<Loc> {
+/// The `(` of a call, by its number from 0, in tokens that are sentences
+pub fn call(toks: &VecDeque<Token>, number: usize) -> Option<Loc> {
     toks.iter()
-        .find(|tok| *tok.tok() == Tok::LParen)
+        .filter(|tok| *tok.tok() == Tok::LParen)
+        .nth(number)
         .map(Token::loc)
 }
 

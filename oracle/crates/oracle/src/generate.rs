@@ -52,6 +52,7 @@ fn random_kind(kind: &str) -> Option<Make> {
         "tokens" => |rng, _| tokens(rng),
         "programs" => |rng, _| programs(rng),
         "calls" => |rng, _| calls(rng),
+        "bindings" => bindings,
         "damaged" => |rng, _| damaged(rng),
         "judgements" => judgements,
         "names" => names,
@@ -1122,6 +1123,93 @@ fn names(rng: &mut Rng, i: u64) -> Vec<u8> {
         }
         _ => scattered(rng),
     }
+}
+
+// Calls by what is called and what is given
+
+/// Bound before each source: values known before the run and not, of each type
+#[rustfmt::skip]
+const BOUND: &str = "import bench;let n=7;let big=70000;let huge=170141183460469231731687303715884105727;let s=\"t\";\
+    let f=bench::ping;let c=bench::pick;let u=bench::pick(9);let h=bench::host(1);let k=h/u;let p=bench::ping(h);\
+    let g=bench::burst(k,p);let j=bench::pause(u);let a=u;";
+
+/// What an argument, a callee or an operand can come to, and what errs in one of them
+#[rustfmt::skip]
+const GIVEN: [&str; 52] = [
+    "0", "255", "256", "65535", "65536", "4294967296", "18446744073709551615", "18446744073709551616", "true", "false",
+    "1.2.3.4", "1.2.3.4:80", "\"a\" \"b\"", "bench::HTTP", "bench::LOOP", "bench::BIG", "bench::ON", "bench::BANNER",
+    "bench::deep::ZERO", "bench::ping", "bench::mark", "bench::deep", "bench::none", "none::x", "zz", "n", "big", "huge",
+    "s", "f", "c", "u", "h", "k", "p", "g", "j", "a", "1.2.3.4/80", "h/u", "h/big", "1.2.3.4/u", "bench::mark(1)",
+    "bench::ping(h)", "bench::pick(big)", "bench::host(u)", "bench::pause(0)", "bench::burst(k,s)", "f(h)", "p.m",
+    "bench::ping(x:1)", "zz(x:1)",
+];
+
+const FUNCTIONS: [(&str, usize); 6] = [
+    ("ping", 1),
+    ("pause", 1),
+    ("burst", 2),
+    ("mark", 1),
+    ("pick", 1),
+    ("host", 1),
+];
+
+/// A call, or what stands for one, with calls in its arguments down to some depth
+fn nested(rng: &mut Rng, depth: usize) -> String {
+    let (name, wants) = FUNCTIONS[rng.below(FUNCTIONS.len())];
+    let callee = match rng.below(12) {
+        0 => rng.pick(&GIVEN).into(),
+        1 => rng.pick(&["f", "c"]).into(),
+        _ => format!("bench::{name}"),
+    };
+    let count = if rng.once_in(6) { rng.below(5) } else { wants };
+    let args: Vec<String> = (0..count)
+        .map(|_| {
+            let name = if rng.once_in(40) { "to: " } else { "" };
+            format!("{name}{}", given(rng, depth))
+        })
+        .collect();
+    format!("{callee}({})", args.join(","))
+}
+
+fn given(rng: &mut Rng, depth: usize) -> String {
+    match rng.below(6) {
+        0..=2 if depth > 0 => nested(rng, depth - 1),
+        3 if depth > 0 => format!("{}/{}", nested(rng, depth - 1), nested(rng, 0)),
+        _ => rng.pick(&GIVEN).into(),
+    }
+}
+
+/// Each function with each value alone, with each pair, and with 0 to 4 of one; each value as a callee, as an operand and as the value of
+/// a let; then calls in calls
+fn bindings(rng: &mut Rng, i: u64) -> Vec<u8> {
+    let (all, i) = (GIVEN.len(), i as usize);
+    let value = |i: usize| GIVEN[i % all];
+    let function = |i: usize| FUNCTIONS[i / all % FUNCTIONS.len()].0;
+    let alone = all * FUNCTIONS.len();
+    let rest = match i {
+        _ if i < alone => format!("bench::{}({});", function(i), value(i)),
+        _ if i < alone * (all + 1) => {
+            let i = i - alone;
+            format!("bench::{}({},{});", function(i), value(i / alone), value(i))
+        }
+        _ if i < alone * (all + 6) => {
+            let i = i - alone * (all + 1);
+            format!("bench::{}({});", function(i), vec![value(i); i / alone].join(","))
+        }
+        _ if i < alone * (all + 6) + 5 * all => {
+            let (shape, v) = ((i - alone * (all + 6)) / all, value(i - alone * (all + 6)));
+            ["let q=~;q;q;", "~(h);", "~/u;", "h/~;", "1.2.3.4/~;"][shape].replace('~', v)
+        }
+        _ => {
+            let statements = (0..1 + rng.below(4)).map(|i| {
+                let depth = if rng.once_in(30) { 33 } else { rng.below(5) };
+                let bind = if rng.once_in(3) { format!("let w{i}=") } else { String::new() };
+                format!("{bind}{};", nested(rng, depth))
+            });
+            statements.collect()
+        }
+    };
+    format!("{BOUND}{rest}").into_bytes()
 }
 
 // Damaged copies

@@ -5,7 +5,7 @@ use std::process::ExitCode;
 
 use resynth::lex::{LexErrorKind, LexemeKind, Scanner, Tok, Token};
 use resynth::str::Buf;
-use resynth::{all_uses, check_in, hold, looks};
+use resynth::{all_uses, check_in, first_named, hold, looks, named};
 
 use crate::answer::{self, Options, Refusal};
 use crate::generate::generate;
@@ -238,6 +238,22 @@ fn looks_few(src: &[u8], opts: Options, report: &mut Report) {
     }
 }
 
+/// A call that number 8 refuses has a named argument. Where resynth finds no error everything was judged and every callee is a
+/// function, so it is the first call with one; and where no call has one there is none.
+fn named_agrees(src: &[u8], opts: Options, report: &mut Report) {
+    let Ok(stmts) = answer::tree(src, opts) else {
+        return;
+    };
+    let first = first_named(&stmts);
+    let found = named(answer::root(opts), &stmts);
+    let errors = hold(answer::root(opts), stmts, |_, _| {}).errors;
+    let whole = first.is_none() || errors == 0;
+    let same = found.is_none_or(|call| first.is_some_and(|least| least <= call)) && (!whole || found == first);
+    if !same {
+        report.difference("named", src);
+    }
+}
+
 /// What `grouped` says of each diagnostic, its number aside, is what `check` says, and so are the
 /// counts before `comparisons`. Numbers never fall, each has one error at most, and each is that of
 /// the `;` which ends the statement, counted in the tokens.
@@ -344,7 +360,7 @@ pub fn selfcheck(seed: u64, count: u64) -> ExitCode {
 
     let mut sources = 0u64;
     let random =
-        ["mixed", "programs", "calls", "judgements", "names", "lines"].map(|kind| (kind, seed));
+        ["mixed", "programs", "calls", "bindings", "judgements", "names", "lines"].map(|kind| (kind, seed));
     let short = [0, 1, 2, 3, 4].map(|alphabet| ("short", alphabet));
     for (kind, seed) in random.into_iter().chain(short) {
         generate(kind, seed, count, &mut |src| {
@@ -364,6 +380,7 @@ pub fn selfcheck(seed: u64, count: u64) -> ExitCode {
                     checks_agree(src, opts, &mut report);
                     groups_agree(src, opts, &mut report);
                     looks_few(src, opts, &mut report);
+                    named_agrees(src, opts, &mut report);
                 }
             }
             Ok(())

@@ -19,7 +19,7 @@ pub mod str;
 pub mod sym;
 pub mod val;
 
-pub use check::bind::{Held, Looks, all_uses, hold, looks};
+pub use check::bind::{Held, Looks, all_uses, first_named, hold, looks, named};
 
 /// `check_in`, as it is
 pub fn check_in(

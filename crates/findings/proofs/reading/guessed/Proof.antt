@@ -35,7 +35,7 @@ returns-7 c = by-kind _ (c .match .keys7) refl
 
 returns-8 : tie.Need-returns-8
 unfolding guessBy
-returns-8 c = by-kind _ (c .before .match .keys8) (rw (c .type-in .ensures))
+returns-8 c = by-kind _ (c .match .keys8) (rw (c .before .type-in .ensures))
 
 returns-9 : tie.Need-returns-9
 unfolding guessBy
@@ -43,23 +43,49 @@ returns-9 c = by-kind _ (c .before .match .keys9) (c .operand-in .ensures)
 
 returns-10 : tie.Need-returns-10
 unfolding guessBy
-returns-10 c = by-kind _ (c .match .keys10) refl
+returns-10 c = by-kind _ (c .match .keys10) (rw (c .before .type-in .ensures))
 
 returns-11 : tie.Need-returns-11
 unfolding guessBy
-returns-11 c = by-kind _ (c .match .keys11) refl
+returns-11 c = by-kind _ (c .match .keys11) (rw (c .before .type-in .ensures))
 
 returns-12 : tie.Need-returns-12
 unfolding guessBy
-returns-12 c = by-kind _ (c .before .match .keys12) (rw (c .type-in2 .ensures))
+returns-12 c = by-kind _ (c .match .keys12) (rw (c .before .type-in .ensures))
 
 returns-13 : tie.Need-returns-13
 unfolding guessBy
-returns-13 c = by-kind _ (c .before .match .keys13) (c .truncated-in .ensures)
+returns-13 c = by-kind _ (c .match .keys13) (rw (c .before .type-in .ensures))
 
 returns-14 : tie.Need-returns-14
-returns-14 c = no-kind _ (c .match .rest)
+unfolding guessBy
+returns-14 c = by-kind _ (c .match .keys14) refl
+
+returns-15 : tie.Need-returns-15
+unfolding guessBy
+returns-15 c = by-kind _ (c .match .keys15) refl
+
+returns-16 : tie.Need-returns-16
+unfolding guessBy
+returns-16 c = by-kind _ (c .match .keys16) refl
+
+returns-17 : tie.Need-returns-17
+unfolding guessBy
+returns-17 c = by-kind _ (c .match .keys17) (rw (c .before .type-in .ensures))
+
+returns-18 : tie.Need-returns-18
+unfolding guessBy
+returns-18 c = by-kind _ (c .before .match .keys18) (c .truncated-in .ensures)
+
+returns-19 : tie.Need-returns-19
+unfolding guessBy
+returns-19 c = by-kind _ (c .match .keys19) (rw (c .before .type-in .ensures))
+
+returns-20 : tie.Need-returns-20
+returns-20 c = no-kind _ (c .match .rest)
 
 pub guessed-spec : {M : Type 1} → statement M
 guessed-spec =
-    tie.close (tie.spec (λ c. search needs) (λ c. search needs) (λ c. search needs) (λ c. search needs) returns returns-2 returns-3 returns-4 returns-5 returns-6 returns-7 returns-8 returns-9 returns-10 returns-11 returns-12 returns-13 returns-14)
+    tie.close
+    (tie.spec (λ c. search needs) (λ c. search needs) (λ c. search needs)
+    returns returns-2 returns-3 returns-4 returns-5 returns-6 returns-7 returns-8 returns-9 returns-10 returns-11 returns-12 returns-13 returns-14 returns-15 returns-16 returns-17 returns-18 returns-19 returns-20)

@@ -1,13 +1,19 @@
 //! Stands where check.rs says `mod bind;`. It holds resynth's own bind.rs one level lower, and
 //! beside it what a child of `check` can see: the statements as `Checker::run` holds them before
-//! `eliminate_dead_lets`, and in looks.rs the count of compared names.
+//! `eliminate_dead_lets`; in looks.rs the count of compared names, and in named.rs the calls that number
+//! 8 refuses, both by the questions of asking.rs.
 
+#[path = "asking.rs"]
+mod asking;
 #[path = "looks.rs"]
 mod looks;
+#[path = "named.rs"]
+mod named;
 #[path = "resynth_bind.rs"]
 mod resynth_bind;
 
 pub use looks::{Looks, all_uses, looks};
+pub use named::{first_named, named};
 pub(crate) use resynth_bind::{ArgIn, Bound};
 
 use std::cell::Cell;
