@@ -16,12 +16,12 @@ use Rattle.language.specs.Judgements.{firstNamed}
 use Rattle.language.proofs.Tests.{both, each-side}
 use Rattle.names.proofs.Stores.{listed-long}
 use Rattle.names.specs.declared.Found.{Found}
-use Rattle.names.specs.Names.{kept, keyFrom, keyOf, keyAt, nameOf, NoneOf, Keyed, Others, listed, namesIn, place, looked, Finds}
+use Rattle.names.specs.Names.{turned, keyFrom, keyOf, keyAt, nameOf, NoneOf, Keyed, Others, listed, namesIn, place, looked, Finds}
 
 -- ---- keys
 
 module _ (w : List ℕ) (i k : ℕ) where
-  pub key-step : i < length w → keyFrom (k % kept * 31 + getD w i 0) (drop (i + 1) w) ≡ keyFrom k (drop i w)
+  pub key-step : i < length w → keyFrom (turned k + getD w i 0) (drop (i + 1) w) ≡ keyFrom k (drop i w)
   unfolding keyFrom
   key-step h = let next : i + 1 ≡ suc i = omega arith in rw (next, drop-cons w i 0 h)
 
@@ -36,7 +36,7 @@ same-key [] (y ∷ ys) k e = absurd (false≢true e)
 same-key (x ∷ xs) [] k e = absurd (false≢true e)
 same-key (x ∷ xs) (y ∷ ys) k e =
     let h = both (eqb x y) (same xs ys) e in
-    rw (eqb-true x y (h .0)) (same-key xs ys (k % kept * 31 + y) (h .1))
+    rw (eqb-true x y (h .0)) (same-key xs ys (turned k + y) (h .1))
 
 -- a name with another key is another
 pub other-key : (v w : List ℕ) {a b : ℕ} → a ≡ keyOf v → b ≡ keyOf w → (a ≡ b → ⊥) → false ≡ same v w

@@ -11,13 +11,13 @@ use Rattle.names.specs.declared.Found.{Found}
 
 -- ---- keys
 
--- At each step 2^58 of a key are kept, so that the next stays below 2^63.
-abbrev pub kept : ℕ
-kept = 288230376151711744
+-- a key is turned by 5 bits, those from 2^58 on come down, and a byte is added
+abbrev pub turned : ℕ → ℕ
+turned k = k % 288230376151711744 * 32 + k / 288230376151711744
 
 unfoldable pub keyFrom : ℕ → List ℕ → ℕ
 keyFrom k [] = k
-keyFrom k (b ∷ bs) = keyFrom (k % kept * 31 + b) bs
+keyFrom k (b ∷ bs) = keyFrom (turned k + b) bs
 
 abbrev pub keyOf : List ℕ → ℕ
 keyOf bs = keyFrom 0 bs

@@ -44,8 +44,10 @@ impl Entry {
 
     pub const HIGH: usize = 6;
 
-    // What is kept of a key before the next byte, 2^58: 31 times that, and a byte, fit a word.
-    const KEPT: u64 = 288230376151711744;
+    // A key is turned by 5 bits before the next byte: what is below 2^58 goes up, what is above comes down. Both are shifts.
+    const BELOW: u64 = 288230376151711744;
+
+    const TURN: u64 = 32;
 }
 
 // Where a search stopped: the number of the entry, or how many there are where none has the name; and how many names it compared:
@@ -62,7 +64,7 @@ pub fn key_of(name: &[u8]) -> u64
     let mut key: u64 = 0;
     let mut i = 0;
     while i < name.len() {
-        key = (key % Entry::KEPT) * 31 + name[i] as u64;
+        key = (key % Entry::BELOW) * Entry::TURN + key / Entry::BELOW + name[i] as u64;
         i += 1;
     }
     key
