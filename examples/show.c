@@ -101,7 +101,7 @@ static void put_string(const struct script *script, const terkinoha_token *token
 /* A token as the script spells it. */
 static void put_token(const struct script *script, const terkinoha_token *token)
 {
-    if (token->kind == TERKINOHA_STRING_LITERAL)
+    if (token->kind == TERKINOHA_TOKEN_STRING_LITERAL)
         put_string(script, token);
     else
         put_bytes(stdout, script->bytes + token->start, token->end - token->start);
@@ -194,11 +194,11 @@ static int report(const struct script *script, terkinoha_verdict verdict)
     struct style style = style_of(TERKINOHA_SEVERITY_ERROR);
     put_head(script, verdict.line, verdict.column, style);
     fputs(terkinoha_verdict_text(verdict), stderr);
-    if (verdict.number == TERKINOHA_LEXICAL && verdict.kind == TERKINOHA_ERROR_UNEXPECTED_CHAR)
+    if (verdict.number == TERKINOHA_REFUSED_LEXICAL && verdict.kind == TERKINOHA_ERROR_UNEXPECTED_CHAR)
         fprintf(stderr, " U+%04" PRIX64, verdict.character);
     fputc('\n', stderr);
     if (verdict.line != 0)
-        point_at(script, verdict.line, verdict.column, verdict.number != TERKINOHA_NOT_UTF8, style);
+        point_at(script, verdict.line, verdict.column, verdict.number != TERKINOHA_REFUSED_NOT_UTF8, style);
     return 1;
 }
 
@@ -425,7 +425,7 @@ static void show_tokens(const struct script *script, const terkinoha_token *toke
     for (uint64_t i = 0; i < count; i++) {
         const terkinoha_token *token = &tokens[i];
         printf("%" PRIu64 ":%" PRIu64 " %s", token->line, token->column, terkinoha_kind_text(token->kind));
-        if (token->kind >= TERKINOHA_IDENTIFIER) {
+        if (token->kind >= TERKINOHA_TOKEN_IDENTIFIER) {
             putchar(' ');
             put_token(script, token);
         }

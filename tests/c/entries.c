@@ -101,12 +101,12 @@ static const unsigned placed = 0x3AC;
 /* A place where the number has one, a kind where it has kinds, and nothing else. */
 static void check_verdict(int entry, terkinoha_verdict v)
 {
-    uint64_t kinds = v.number == TERKINOHA_LEXICAL ? 6 : v.number == TERKINOHA_SYNTAX ? 2 : 0;
+    uint64_t kinds = v.number == TERKINOHA_REFUSED_LEXICAL ? 6 : v.number == TERKINOHA_REFUSED_SYNTAX ? 2 : 0;
     CHECK(v.number < 16 && (gives[entry] >> v.number & 1));
     CHECK(placed >> v.number & 1 ? v.line >= 1 && v.column >= 1 : v.line == 0 && v.column == 0);
     CHECK(kinds == 0 ? v.kind == 0 : 1 <= v.kind && v.kind <= kinds);
-    CHECK(v.character == 0 ||
-          (v.number == TERKINOHA_LEXICAL && v.kind == TERKINOHA_ERROR_UNEXPECTED_CHAR && v.character <= 0x10FFFF));
+    CHECK(v.character == 0 || (v.number == TERKINOHA_REFUSED_LEXICAL && v.kind == TERKINOHA_ERROR_UNEXPECTED_CHAR &&
+                               v.character <= 0x10FFFF));
 }
 
 /* How many rows, or bytes of text, are there to read: of findings as many as fit, of all else as many as counted. */
@@ -137,8 +137,8 @@ static void check_lexemes(struct lent lent, uint64_t count)
     uint64_t at = 0;
     for (uint64_t i = 0; i < count; i++) {
         CHECK(rows[i].start == at && rows[i].start < rows[i].end);
-        CHECK(rows[i].class_ >= TERKINOHA_CLASS_TRIVIA && rows[i].class_ <= TERKINOHA_CLASS_ERROR);
-        CHECK((rows[i].kind != 0) == (rows[i].class_ >= TERKINOHA_CLASS_TOKEN));
+        CHECK(rows[i].class_ >= TERKINOHA_LEXEME_TRIVIA && rows[i].class_ <= TERKINOHA_LEXEME_ERROR);
+        CHECK((rows[i].kind != 0) == (rows[i].class_ >= TERKINOHA_LEXEME_TOKEN));
         at = rows[i].end;
     }
     CHECK(at == lent.source.size);
@@ -150,10 +150,10 @@ static void check_tokens(struct lent lent, uint64_t count)
     const terkinoha_token *rows = (const terkinoha_token *)(const void *)lent.filled[ROWS].at;
     uint64_t at = 0, line = 1, line_start = 0;
     for (uint64_t i = 0; i < count; i++) {
-        CHECK(rows[i].kind >= TERKINOHA_EOF && rows[i].kind <= TERKINOHA_DEC_LITERAL);
-        CHECK((rows[i].kind == TERKINOHA_EOF) == (i == count - 1));
+        CHECK(rows[i].kind >= TERKINOHA_TOKEN_EOF && rows[i].kind <= TERKINOHA_TOKEN_DEC_LITERAL);
+        CHECK((rows[i].kind == TERKINOHA_TOKEN_EOF) == (i == count - 1));
         CHECK(at <= rows[i].start && rows[i].end <= lent.source.size);
-        if (rows[i].kind == TERKINOHA_EOF)
+        if (rows[i].kind == TERKINOHA_TOKEN_EOF)
             continue;
         CHECK(rows[i].start < rows[i].end);
         for (; at < rows[i].start; at++)
@@ -212,7 +212,7 @@ static uint64_t ends(struct lent lent, uint64_t tokens)
     const terkinoha_token *rows = (const terkinoha_token *)(const void *)lent.filled[ROWS].at;
     uint64_t count = 0;
     for (uint64_t i = 0; i < tokens; i++)
-        count += rows[i].kind == TERKINOHA_SEMI_COLON;
+        count += rows[i].kind == TERKINOHA_TOKEN_SEMI_COLON;
     return count;
 }
 
@@ -264,7 +264,7 @@ static int is_part_of_table(uint64_t start, uint64_t end)
 /* A finding shows a name of the source, a type, which is a function's with its name, or neither. */
 static int shows_name(const terkinoha_diagnostic *d, const terkinoha_token *token)
 {
-    return d->text == TERKINOHA_TEXT_SOURCE && token->kind == TERKINOHA_IDENTIFIER && d->start == token->start &&
+    return d->text == TERKINOHA_TEXT_SOURCE && token->kind == TERKINOHA_TOKEN_IDENTIFIER && d->start == token->start &&
            d->end == token->end && d->type == 0 && d->third == 0;
 }
 
@@ -391,7 +391,7 @@ static struct numbered next_statement(struct lent lent, struct outcome outcome, 
     struct numbered next = {last.number + 1, last.end, last.end, last.node};
     do {
         CHECK(next.end < outcome.counts[ROWS]);
-    } while (tokens[next.end++].kind != TERKINOHA_SEMI_COLON);
+    } while (tokens[next.end++].kind != TERKINOHA_TOKEN_SEMI_COLON);
     do {
         CHECK(next.node < outcome.counts[SECOND]);
     } while (nodes[next.node++].kind < TERKINOHA_NODE_IMPORT);
@@ -453,7 +453,7 @@ static int is_value(struct lent lent, uint64_t tokens, const terkinoha_statement
     case TERKINOHA_TYPE_SOCK4: return s->text == 0 && s->low <= UINT32_MAX && s->high <= UINT16_MAX;
     case TERKINOHA_TYPE_BYTES:
         return in_table || (s->text == TERKINOHA_TEXT_SOURCE && s->low < tokens && s->high == 0 &&
-                            rows[s->low].kind == TERKINOHA_STRING_LITERAL);
+                            rows[s->low].kind == TERKINOHA_TOKEN_STRING_LITERAL);
     case TERKINOHA_TYPE_FUNCTION: return in_table;
     default: return 0;
     }
@@ -627,9 +627,9 @@ static struct first first_call(int entry, const void *source, size_t size, int s
     struct first first;
     first.lent = lend(entry, source, size, enough(entry, size), side);
     first.outcome = tried(entry, first.lent);
-    CHECK(first.outcome.verdict.number != TERKINOHA_TOKEN_ROOM);
-    CHECK(first.outcome.verdict.number != TERKINOHA_NODE_ROOM);
-    CHECK(first.outcome.verdict.number != TERKINOHA_STATEMENT_ROOM);
+    CHECK(first.outcome.verdict.number != TERKINOHA_REFUSED_TOKEN_ROOM);
+    CHECK(first.outcome.verdict.number != TERKINOHA_REFUSED_NODE_ROOM);
+    CHECK(first.outcome.verdict.number != TERKINOHA_REFUSED_STATEMENT_ROOM);
     if (first.outcome.verdict.number != TERKINOHA_DONE)
         first.wanted = wanted_before(entry, source, size);
     else
@@ -644,19 +644,19 @@ static uint64_t expected(int entry, struct first first, struct rooms rooms)
     const size_t *wanted = first.wanted.bytes;
     uint64_t number = first.outcome.verdict.number;
     int trees = entry == PARSE || entry == CHECK_SOURCE;
-    if (number != TERKINOHA_DONE && number <= TERKINOHA_LEXICAL)
+    if (number != TERKINOHA_DONE && number <= TERKINOHA_REFUSED_LEXICAL)
         return number;
     if (rooms.bytes[ROWS] < wanted[ROWS])
-        return TERKINOHA_TOKEN_ROOM;
-    if (number == TERKINOHA_SYNTAX || number == TERKINOHA_TOO_DEEP)
+        return TERKINOHA_REFUSED_TOKEN_ROOM;
+    if (number == TERKINOHA_REFUSED_SYNTAX || number == TERKINOHA_REFUSED_TOO_DEEP)
         return number;
     if (trees && rooms.bytes[SECOND] < wanted[SECOND])
-        return TERKINOHA_NODE_ROOM;
+        return TERKINOHA_REFUSED_NODE_ROOM;
     if (number != TERKINOHA_DONE)
         return number;
     if (entry == CANONICALISE && rooms.bytes[SECOND] < wanted[SECOND])
-        return TERKINOHA_TEXT_ROOM;
-    return rooms.bytes[STATEMENTS] < wanted[STATEMENTS] ? TERKINOHA_STATEMENT_ROOM : TERKINOHA_DONE;
+        return TERKINOHA_REFUSED_TEXT_ROOM;
+    return rooms.bytes[STATEMENTS] < wanted[STATEMENTS] ? TERKINOHA_REFUSED_STATEMENT_ROOM : TERKINOHA_DONE;
 }
 
 /* The counts are the first call's in full; what is there to read is what it found. */
@@ -761,7 +761,7 @@ static void try_empty(void)
     lent_trying("empty areas", lent.source.at, 0);
     terkinoha_token *rows = (terkinoha_token *)(void *)lent.filled[ROWS].at;
     terkinoha_lexed lexed = terkinoha_lex(lent.source.at, 0, rows, 0);
-    CHECK(same_verdict(lexed.verdict, TERKINOHA_TOKEN_ROOM, 0, 0, 0, 0) && lexed.tokens == 0);
+    CHECK(same_verdict(lexed.verdict, TERKINOHA_REFUSED_TOKEN_ROOM, 0, 0, 0, 0) && lexed.tokens == 0);
     terkinoha_scanned scanned = terkinoha_scan(lent.source.at, 0, NULL, 0);
     CHECK(same_verdict(scanned.verdict, TERKINOHA_DONE, 0, 0, 0, 0) && scanned.lexemes == 0);
     terkinoha_token eof;
@@ -772,7 +772,7 @@ static void try_empty(void)
     CHECK(same_verdict(checked.verdict, TERKINOHA_DONE, 0, 0, 0, 0) && checked.tokens == 1);
     CHECK(checked.nodes + checked.errors + checked.warnings + checked.statements + checked.comparisons == 0);
     checked = terkinoha_check(NULL, 0, NULL, 0, NULL, 0, NULL, 0, NULL, 0);
-    CHECK(same_verdict(checked.verdict, TERKINOHA_TOKEN_ROOM, 0, 0, 0, 0) && checked.tokens == 0);
+    CHECK(same_verdict(checked.verdict, TERKINOHA_REFUSED_TOKEN_ROOM, 0, 0, 0, 0) && checked.tokens == 0);
     give_back(CHECK_SOURCE, lent);
 }
 

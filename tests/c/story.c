@@ -117,7 +117,8 @@ static void try_story(void)
     static terkinoha_token tokens[ROOM];
     lent_trying("the story", script, sizeof script - 1);
     terkinoha_lexed lexed = terkinoha_lex(script, sizeof script - 1, tokens, ROOM);
-    CHECK(lexed.verdict.number == TERKINOHA_DONE && lexed.tokens == 18 && tokens[0].kind == TERKINOHA_IMPORT_KEYWORD);
+    CHECK(lexed.verdict.number == TERKINOHA_DONE && lexed.tokens == 18);
+    CHECK(tokens[0].kind == TERKINOHA_TOKEN_IMPORT_KEYWORD);
 
     terkinoha_lexed ignored = terkinoha_lex("let @", 5, tokens, ROOM); /* refused; its number is not looked at */
     (void)ignored;
@@ -129,8 +130,8 @@ static void try_story(void)
 
     lexed = terkinoha_lex("a;", 2, tokens, ROOM);
     CHECK(lexed.verdict.number == TERKINOHA_DONE && lexed.tokens == 3);
-    CHECK(tokens[0].kind == TERKINOHA_IDENTIFIER && tokens[1].kind == TERKINOHA_SEMI_COLON);
-    CHECK(tokens[2].kind == TERKINOHA_EOF);
+    CHECK(tokens[0].kind == TERKINOHA_TOKEN_IDENTIFIER && tokens[1].kind == TERKINOHA_TOKEN_SEMI_COLON);
+    CHECK(tokens[2].kind == TERKINOHA_TOKEN_EOF);
     CHECK(tokens[3].kind == 0 && tokens[17].kind == 0);
 }
 
