@@ -236,7 +236,7 @@ enum terkinoha_kind {
  * `source + end`. String literals with no token between them, also across lines, are one token that
  * stands at the first: its span runs from the first quote past the last, and terkinoha_next_body
  * finds its bodies. `Eof` stands at line (lines + 1), column 1, with the empty span at the end of
- * the source.
+ * the source. terkinoha_token_at finds the token at a place.
  */
 typedef struct terkinoha_token {
     uint64_t kind;   /* enum terkinoha_kind */
@@ -595,6 +595,39 @@ terkinoha_check(const void *source, size_t source_size, terkinoha_token *tokens,
                                  (uint64_t *)nodes, node_room * TERKINOHA_WORDS_NODE, (uint64_t *)diagnostics,
                                  diagnostic_room * TERKINOHA_WORDS_DIAGNOSTIC, (uint64_t *)statements,
                                  statement_room * TERKINOHA_WORDS_STATEMENT);
+}
+
+/* ---- the token at a place -------------------------------------------------------------------- */
+
+/* The index of the token that covers a place, or `count` where none does. `tokens` are the first
+ * `count` rows of a table, as many as a call has counted. A token covers so many columns of its line,
+ * from its own on, as its span has bytes. Token t covers a place exactly when
+ *
+ *     t.line == line && t.column <= column && column - t.column < t.end - t.start
+ *
+ * and then no other token does. Of each place that a finding or a statement has, this is the token
+ * that stands there. Blanks and comments are covered by none, but those between the literals of one
+ * string are by it; `Eof`, with its empty span, covers no place. A string that goes on in later lines
+ * covers all of its first line from its column on, columns past the line's end too, and nothing of
+ * the later lines, for no row says where a line starts.
+ */
+static inline uint64_t terkinoha_token_at(const terkinoha_token *tokens, uint64_t count, uint64_t line,
+                                          uint64_t column)
+{
+    /* tokens before `low` start at the place or before it, those from `high` on after it */
+    uint64_t low = 0, high = count;
+    while (low < high) {
+        uint64_t middle = low + (high - low) / 2;
+        const terkinoha_token *token = &tokens[middle];
+        if (token->line < line || (token->line == line && token->column <= column))
+            low = middle + 1;
+        else
+            high = middle;
+    }
+    if (low == 0)
+        return count;
+    const terkinoha_token *last = &tokens[low - 1];
+    return last->line == line && column - last->column < last->end - last->start ? low - 1 : count;
 }
 
 /* ---- the bodies of a string ------------------------------------------------------------------ */

@@ -745,12 +745,69 @@ static void try_text(const void *source, size_t size)
     give_back(CANONICALISE, lent);
 }
 
+/* The token that covers a place, as the header says it, among all of them. */
+static uint64_t covering(const terkinoha_token *rows, uint64_t count, uint64_t line, uint64_t column)
+{
+    for (uint64_t i = 0; i < count; i++)
+        if (rows[i].line == line && rows[i].column <= column && column - rows[i].column < rows[i].end - rows[i].start)
+            return i;
+    return count;
+}
+
+static uint64_t covers(const terkinoha_token *rows, uint64_t count, uint64_t line, uint64_t column)
+{
+    uint64_t found = terkinoha_token_at(rows, count, line, column);
+    CHECK(found == covering(rows, count, line, column));
+    return found;
+}
+
+/* Each byte of a source, and places that it does not have: a token that covers a byte has it in its span. */
+static void check_places(struct lent lent, uint64_t count)
+{
+    const terkinoha_token *rows = (const terkinoha_token *)(const void *)lent.filled[ROWS].at;
+    uint64_t line = 1, column = 1;
+    for (size_t at = 0; at < lent.source.size; at++) {
+        uint64_t i = covers(rows, count, line, column);
+        CHECK(i == count || (rows[i].start <= at && at < rows[i].end));
+        column++;
+        if (lent.source.at[at] != '\n')
+            continue;
+        for (uint64_t past = 0; past < 4; past++)
+            covers(rows, count, line, column + past);
+        line++;
+        column = 1;
+        covers(rows, count, line, 0);
+    }
+    static const uint64_t columns[] = {0, 1, 2, UINT64_MAX};
+    for (size_t i = 0; i < sizeof columns / sizeof *columns; i++) {
+        covers(rows, count, 0, columns[i]);
+        covers(rows, count, 1, columns[i]);
+        covers(rows, count, line, column + columns[i]);
+        covers(rows, count, line + 1, columns[i]);
+        covers(rows, count, UINT64_MAX, columns[i]);
+    }
+}
+
+/* In a table of just as many rows as there are tokens: none before or after them is read. */
+static void try_places(const void *source, size_t size)
+{
+    for (int side = AT_START; side < SIDES; side++) {
+        struct first first = first_call(LEX, source, size, side);
+        struct lent lent = lend(LEX, source, size, first.wanted, side);
+        struct outcome outcome = tried(LEX, lent);
+        check_places(lent, outcome.counts[ROWS]);
+        give_back(LEX, lent);
+        give_back(LEX, first.lent);
+    }
+}
+
 static void try_source(const void *source, size_t size)
 {
     for (int entry = SCAN; entry < ENTRIES; entry++)
         for (int side = AT_START; side < SIDES; side++)
             try_rooms(entry, source, size, side);
     try_text(source, size);
+    try_places(source, size);
 }
 
 /* An empty area by a pointer that may not be followed is as good as NULL. */

@@ -95,6 +95,26 @@ static void try_token_rows(void)
     CHECK(memcmp(tokens, rows, sizeof rows) == 0);
 }
 
+/* A string covers what stands between its literals, in its first line; `Eof` and blanks cover nothing. */
+static void try_token_places(void)
+{
+    static const char source[] = "let a = \"\xc3\xa9\" # b\n \"c\"\n\n\t\"d\"; ef(0x1F)";
+    enum { LET, A, EQUALS, STRING, END, EF, OPEN, HEX, CLOSE, EOF_TOKEN, COUNT };
+    static const uint64_t places[][3] = {
+        {0, 1, COUNT}, {1, 0, COUNT}, {1, 1, LET}, {1, 3, LET}, {1, 4, COUNT}, {1, 5, A}, {1, 6, COUNT},
+        {1, 7, EQUALS}, {1, 8, COUNT}, {1, 9, STRING}, {1, 12, STRING}, {1, 13, STRING}, {1, 16, STRING},
+        {2, 1, COUNT}, {2, 2, COUNT}, {2, 9, COUNT}, {3, 1, COUNT}, {4, 2, COUNT}, {4, 4, COUNT}, {4, 5, END},
+        {4, 6, COUNT}, {4, 7, EF}, {4, 8, EF}, {4, 9, OPEN}, {4, 10, HEX}, {4, 13, HEX}, {4, 14, CLOSE},
+        {4, 15, COUNT}, {5, 1, COUNT}, {6, 1, COUNT}, {UINT64_MAX, UINT64_MAX, COUNT},
+    };
+    lent_trying("the token at a place", source, sizeof source - 1);
+    terkinoha_lexed a = terkinoha_lex(source, sizeof source - 1, tokens, MOST);
+    CHECK(same(a.verdict, 0, 0, 0, 0) && a.tokens == COUNT);
+    for (size_t i = 0; i < sizeof places / sizeof *places; i++)
+        CHECK(terkinoha_token_at(tokens, a.tokens, places[i][0], places[i][1]) == places[i][2]);
+    CHECK(terkinoha_token_at(NULL, 0, 1, 1) == 0);
+}
+
 /* ---- scan ---- */
 
 static void try_lexeme_rows(void)
@@ -661,6 +681,7 @@ int main(void)
     lent_start();
     try_lexings();
     try_token_rows();
+    try_token_places();
     try_lexeme_rows();
     try_parsings();
     try_node_rows();
