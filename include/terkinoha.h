@@ -44,8 +44,13 @@
  *     does each part of its expression, but there are never more of these rows than nodes;
  *   - diagnostics: any number of rows; as many as the source has tokens keep them all;
  *   - canonical text: TERKINOHA_MOST_BYTES bytes; number 10 then means a longer text.
+ *   At the worst, for 65,536 bytes of source, the four tables of a check have 65,537 rows each. A token
+ *   takes 56 bytes, a node 40, a diagnostic 96 and a statement 88: the tables take 3.7, 2.6, 6.3 and
+ *   5.8 MB, together 18,350,360 bytes, or 18.4 MB. The table of a scan takes 3.1 MB, 48 bytes a lexeme.
  *   Most scripts need far less. A host that minds memory takes two steps: it lexes with room for
  *   `size` + 1 tokens, then lends tables of just as many rows as were counted (examples/show.c).
+ *   A host reads at most TERKINOHA_MOST_BYTES + 1 bytes of a file: where there are so many, number 1
+ *   refuses them, whatever comes after.
  *
  * What names begin with
  *
@@ -331,13 +336,25 @@ enum terkinoha_text_place {
     TERKINOHA_TEXT_TABLE = 2   /* in TERKINOHA_TABLE_TEXT */
 };
 
-/* The names and bytes of the constant table, whose entries are numbered from 1. Its functions, which
- * take just the arguments that are named here, in this order:
+/* The names and bytes of the constant table. `bench` is the only module: there is no other that a
+ * script could import. These are its entries, each with the number that a row names it by and what it
+ * is: a type with its value, a function, which takes just the arguments that are named here, in this
+ * order, or a module, `bench` itself and one inside it.
  *
- *     ping(to: Ip4) gives Pkt              pause(time: u32) gives TimeJump
- *     burst(to: Sock4, body: bytes) gives PktGen
- *     mark(on: bool) gives void            pick(port: u16) gives u32
- *     host(number: u8) gives Ip4
+ *      1  bench              a module
+ *      2  bench::HTTP        u16 80
+ *      3  bench::LOOP        Ip4 127.0.0.1
+ *      4  bench::BIG         u32 70000
+ *      5  bench::ON          bool true
+ *      6  bench::BANNER      bytes `ok`
+ *      7  bench::ping        function (to: Ip4) gives Pkt
+ *      8  bench::deep        a module
+ *      9  bench::deep::ZERO  u8 0
+ *     10  bench::pause       function (time: u32) gives TimeJump
+ *     11  bench::burst       function (to: Sock4, body: bytes) gives PktGen
+ *     12  bench::mark        function (on: bool) gives void
+ *     13  bench::pick        function (port: u16) gives u32
+ *     14  bench::host        function (number: u8) gives Ip4
  */
 #define TERKINOHA_TABLE_TEXT "benchHTTPLOOPBIGONBANNERokpingdeepZEROpausetimebursttobodymarkonpickporthostnumber"
 
