@@ -221,7 +221,7 @@ static int report(const struct script *script, terkinoha_verdict verdict)
 /* A part of the constant table's text, in quotes. */
 static void put_item(uint64_t start, uint64_t end)
 {
-    fprintf(stderr, "`%.*s`", (int)(end - start), TERKINOHA_TABLE_TEXT + start);
+    fprintf(stderr, "`%.*s`", (int)(end - start), &TERKINOHA_TABLE_TEXT[start]);
 }
 
 /* The name that a finding shows. */

@@ -304,7 +304,7 @@ static int counts_arguments(const terkinoha_diagnostic *d, int many)
         const struct function *f = function_of(entry);
         const char *name = terkinoha_entry_name(entry);
         if (f != NULL && d->end - d->start == strlen(name) &&
-            memcmp(TERKINOHA_TABLE_TEXT + d->start, name, strlen(name)) == 0)
+            memcmp(&TERKINOHA_TABLE_TEXT[d->start], name, strlen(name)) == 0)
             return d->second == f->params && (many ? d->first > d->second : d->first < d->second) && d->third == 0;
     }
     return 0;

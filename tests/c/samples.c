@@ -480,7 +480,7 @@ static void try_statement_rows(void)
     CHECK(done(check(source, enough), 0, 10, 10));
     CHECK(memcmp(statements, rows, sizeof rows) == 0);
     CHECK(tokens[33].kind == TERKINOHA_TOKEN_STRING_LITERAL && tokens[33].low == 2);
-    CHECK(memcmp(TERKINOHA_TABLE_TEXT + 24, "ok", 2) == 0 && memcmp(TERKINOHA_TABLE_TEXT + 26, "ping", 4) == 0);
+    CHECK(memcmp(&TERKINOHA_TABLE_TEXT[24], "ok", 2) == 0 && memcmp(&TERKINOHA_TABLE_TEXT[26], "ping", 4) == 0);
 }
 
 /* ---- calls ---- */
