@@ -265,6 +265,19 @@ static void *check_all(void *given)
     return checked.verdict.number == TERKINOHA_DONE ? NULL : given;
 }
 
+/* In tables that the longest source does not fill. */
+static void *check_longest(void *given)
+{
+    enum { MOST = TERKINOHA_MOST_BYTES + 1 };
+    static terkinoha_token all_tokens[MOST];
+    static terkinoha_node all_nodes[MOST];
+    static terkinoha_statement all_statements[MOST];
+    const char *source = (const char *)given;
+    terkinoha_checked checked = terkinoha_check(source, strlen(source), all_tokens, MOST, all_nodes, MOST, found, 4096,
+                                                all_statements, MOST);
+    return checked.verdict.number == TERKINOHA_DONE ? NULL : given;
+}
+
 /* How much a call takes of a stack that was garbage, with what the thread itself takes: how small a stack may be made
  * differs between machines. The header says how much a call needs.
  */
@@ -332,6 +345,18 @@ static void try_stack_of_calls(void)
     CHECK(stack_of(check_all, source) < 256 * 1024);
 }
 
+/* Arguments are judged one after the other: however many there are, they take no more than two. */
+static void try_stack_of_arguments(void)
+{
+    static char many[TERKINOHA_MOST_BYTES + 1];
+    char two[] = "import bench;\nbench::ping(1,1);\n";
+    char *at = many + sprintf(many, "import bench;\nbench::ping(1");
+    for (int i = 1; i < 30000; i++)
+        at += sprintf(at, ",1");
+    strcpy(at, ");\n");
+    CHECK(stack_of(check_longest, many) <= stack_of(check_longest, two));
+}
+
 /* As many names as may be bound and imported, and as many steps as an expression may have, each inside the next. */
 static void try_stack_of_steps(void)
 {
@@ -364,6 +389,7 @@ int main(int argc, char **argv)
     try_stack_of_lists();
     try_stack_of_steps();
     try_stack_of_calls();
+    try_stack_of_arguments();
     printf("story: each answer is that of a first call, alone and beside another thread\n");
     return lent_done();
 }
