@@ -5,8 +5,9 @@
  * check: what is wrong with the script, and how many errors and warnings that are. stats: the same, and how many names
  * were compared with one that was wanted. tokens: a token to a line, with its
  * place. tree: a statement to a line, operator first. text: the canonical text.
- * A finding or a refusal is printed as FILE:LINE:COLUMN: error: TEXT, with the script's line and a caret below it. The
- * findings of one statement stand together, and an empty line between those of two.
+ * A finding or a refusal is printed as FILE:LINE:COLUMN: error: TEXT, with the script's line and a caret below the place; of
+ * a finding the whole token there is underlined. The findings of one statement stand together, and an empty line between
+ * those of two.
  * Exit status: 0 shown, with no errors; 1 refused, or errors found; 2 not read, or not all of it written.
  */
 #define _POSIX_C_SOURCE 200112L /* fileno, isatty */
@@ -101,7 +102,7 @@ static void put_string(const struct script *script, const terkinoha_token *token
 /* A token as the script spells it. */
 static void put_token(const struct script *script, const terkinoha_token *token)
 {
-    if (token->kind == TERKINOHA_STRING_LITERAL)
+    if (token->kind == TERKINOHA_TOKEN_STRING_LITERAL)
         put_string(script, token);
     else
         put_bytes(stdout, script->bytes + token->start, token->end - token->start);
@@ -127,12 +128,14 @@ static int find_line(const struct script *script, uint64_t number, size_t *start
     return 0;
 }
 
-/* As many columns as some bytes take: bytes of a character after its first take none. */
-static void put_blanks(FILE *out, const unsigned char *bytes, size_t size)
+/* A mark below each character of some bytes: bytes of a character after its first have none. A tab stays a tab, so that what
+ * comes after it stands right.
+ */
+static void put_below(FILE *out, const unsigned char *bytes, size_t size, char mark)
 {
     for (size_t i = 0; i < size; i++)
         if (bytes[i] < 0x80 || bytes[i] >= 0xC0)
-            fputc(bytes[i] == '\t' ? '\t' : ' ', out);
+            fputc(bytes[i] == '\t' ? '\t' : mark, out);
 }
 
 /* Bytes that may be no characters: a `?` for each that is not ASCII. */
@@ -158,33 +161,43 @@ static struct style style_of(uint64_t severity)
     return style;
 }
 
+/* What is pointed at: a place, and how many bytes from there on are underlined, 1 for a caret alone. */
+struct place {
+    uint64_t line, column;
+    size_t size;
+};
+
 /* FILE:LINE:COLUMN: error: */
-static void put_head(const struct script *script, uint64_t line, uint64_t column, struct style style)
+static void put_head(const struct script *script, struct place place, struct style style)
 {
     fprintf(stderr, "%s:", script->name);
-    if (line != 0)
-        fprintf(stderr, "%" PRIu64 ":%" PRIu64 ":", line, column);
+    if (place.line != 0)
+        fprintf(stderr, "%" PRIu64 ":%" PRIu64 ":", place.line, place.column);
     fprintf(stderr, " %s%s:%s ", style.strong, style.word, style.plain);
 }
 
-/* The script's line, and a caret below the place. What comes from there on may be no characters. */
-static void point_at(const struct script *script, uint64_t number, uint64_t column, int characters, struct style style)
+/* The script's line, a caret below the place and `~` below what else is underlined. What comes from the place on may be no
+ * characters.
+ */
+static void point_at(const struct script *script, struct place place, int characters, struct style style)
 {
     size_t start, end;
-    if (!find_line(script, number, &start, &end)) {
+    if (!find_line(script, place.line, &start, &end)) {
         fprintf(stderr, "(at the end of the script)\n");
         return;
     }
     const unsigned char *line = script->bytes + start;
-    size_t before = (size_t)column - 1, rest = end - start - before;
+    size_t before = (size_t)place.column - 1, rest = end - start - before;
     put_bytes(stderr, line, before);
     if (characters)
         put_bytes(stderr, line + before, rest);
     else
         put_ascii(stderr, line + before, rest);
     fputc('\n', stderr);
-    put_blanks(stderr, line, before);
-    fprintf(stderr, "%s^%s\n", style.strong, style.plain);
+    put_below(stderr, line, before, ' ');
+    fprintf(stderr, "%s^", style.strong);
+    put_below(stderr, line + before + 1, place.size - 1, '~');
+    fprintf(stderr, "%s\n", style.plain);
 }
 
 /* ---- a refusal ---- */
@@ -192,13 +205,14 @@ static void point_at(const struct script *script, uint64_t number, uint64_t colu
 static int report(const struct script *script, terkinoha_verdict verdict)
 {
     struct style style = style_of(TERKINOHA_SEVERITY_ERROR);
-    put_head(script, verdict.line, verdict.column, style);
+    struct place place = {verdict.line, verdict.column, 1}; /* a refusal leaves no tokens */
+    put_head(script, place, style);
     fputs(terkinoha_verdict_text(verdict), stderr);
-    if (verdict.number == TERKINOHA_LEXICAL && verdict.kind == TERKINOHA_ERROR_UNEXPECTED_CHAR)
+    if (verdict.number == TERKINOHA_REFUSED_LEXICAL && verdict.kind == TERKINOHA_ERROR_UNEXPECTED_CHAR)
         fprintf(stderr, " U+%04" PRIX64, verdict.character);
     fputc('\n', stderr);
     if (verdict.line != 0)
-        point_at(script, verdict.line, verdict.column, verdict.number != TERKINOHA_NOT_UTF8, style);
+        point_at(script, place, verdict.number != TERKINOHA_REFUSED_NOT_UTF8, style);
     return 1;
 }
 
@@ -207,7 +221,7 @@ static int report(const struct script *script, terkinoha_verdict verdict)
 /* A part of the constant table's text, in quotes. */
 static void put_item(uint64_t start, uint64_t end)
 {
-    fprintf(stderr, "`%.*s`", (int)(end - start), TERKINOHA_TABLE_TEXT + start);
+    fprintf(stderr, "`%.*s`", (int)(end - start), &TERKINOHA_TABLE_TEXT[start]);
 }
 
 /* The name that a finding shows. */
@@ -374,22 +388,52 @@ static void tell(const struct script *script, const terkinoha_diagnostic *found)
     }
 }
 
-static void put_finding(const struct script *script, const terkinoha_diagnostic *found)
+/* The tokens of the script. */
+struct tokens {
+    const terkinoha_token *rows;
+    uint64_t count;
+};
+
+/* How many bytes of a token stand in its line: of a string that goes on in a later one, those up to its last literal here. */
+static size_t size_in_line(const struct script *script, const terkinoha_token *token)
+{
+    const unsigned char *start = script->bytes + token->start;
+    const unsigned char *cut = (const unsigned char *)memchr(start, '\n', token->end - token->start);
+    if (cut == NULL)
+        return token->end - token->start;
+    uint64_t past = token->start, line_end = token->start + (uint64_t)(cut - start);
+    terkinoha_body body = terkinoha_next_body(script->bytes, script->size, past, line_end);
+    for (; body.found; body = terkinoha_next_body(script->bytes, script->size, past, line_end))
+        past = body.next;
+    return past - token->start;
+}
+
+/* A finding's place, and the token that stands there. */
+static struct place place_of(const struct script *script, struct tokens tokens, const terkinoha_diagnostic *found)
+{
+    uint64_t i = terkinoha_token_at(tokens.rows, tokens.count, found->line, found->column);
+    struct place place = {found->line, found->column, i < tokens.count ? size_in_line(script, &tokens.rows[i]) : 1};
+    return place;
+}
+
+static void put_finding(const struct script *script, struct tokens tokens, const terkinoha_diagnostic *found)
 {
     struct style style = style_of(found->severity);
-    put_head(script, found->line, found->column, style);
+    struct place place = place_of(script, tokens, found);
+    put_head(script, place, style);
     tell(script, found);
     fputc('\n', stderr);
-    point_at(script, found->line, found->column, 1, style);
+    point_at(script, place, 1, style);
 }
 
 /* Findings by their statements: the number never falls, so that another one begins the next group. */
-static void put_findings(const struct script *script, const terkinoha_diagnostic *found, uint64_t count)
+static void put_findings(const struct script *script, struct tokens tokens, const terkinoha_diagnostic *found,
+                         uint64_t count)
 {
     for (uint64_t i = 0; i < count; i++) {
         if (i > 0 && found[i].statement != found[i - 1].statement)
             fputc('\n', stderr);
-        put_finding(script, &found[i]);
+        put_finding(script, tokens, &found[i]);
     }
 }
 
@@ -406,7 +450,8 @@ static int show_check(const struct script *script, size_t room, int stats)
     if (checked.verdict.number != TERKINOHA_DONE) {
         status = report(script, checked.verdict);
     } else {
-        put_findings(script, found, checked.errors + checked.warnings);
+        struct tokens all = {tokens, checked.tokens};
+        put_findings(script, all, found, checked.errors + checked.warnings);
         printf("errors %" PRIu64 " warnings %" PRIu64 "\n", checked.errors, checked.warnings);
         if (stats)
             printf("comparisons %" PRIu64 "\n", checked.comparisons);
@@ -425,7 +470,7 @@ static void show_tokens(const struct script *script, const terkinoha_token *toke
     for (uint64_t i = 0; i < count; i++) {
         const terkinoha_token *token = &tokens[i];
         printf("%" PRIu64 ":%" PRIu64 " %s", token->line, token->column, terkinoha_kind_text(token->kind));
-        if (token->kind >= TERKINOHA_IDENTIFIER) {
+        if (token->kind >= TERKINOHA_TOKEN_IDENTIFIER) {
             putchar(' ');
             put_token(script, token);
         }

@@ -44,8 +44,28 @@
  *     does each part of its expression, but there are never more of these rows than nodes;
  *   - diagnostics: any number of rows; as many as the source has tokens keep them all;
  *   - canonical text: TERKINOHA_MOST_BYTES bytes; number 10 then means a longer text.
+ *   At the worst, for 65,536 bytes of source, the four tables of a check have 65,537 rows each. A token
+ *   takes 56 bytes, a node 40, a diagnostic 96 and a statement 88: the tables take 3.7, 2.6, 6.3 and
+ *   5.8 MB, together 18,350,360 bytes, or 18.4 MB. The table of a scan takes 3.1 MB, 48 bytes a lexeme.
  *   Most scripts need far less. A host that minds memory takes two steps: it lexes with room for
  *   `size` + 1 tokens, then lends tables of just as many rows as were counted (examples/show.c).
+ *   A host reads at most TERKINOHA_MOST_BYTES + 1 bytes of a file: where there are so many, number 1
+ *   refuses them, whatever comes after.
+ *
+ * What names begin with
+ *
+ *   A constant's name says what its value is of, and no two groups share a beginning:
+ *   - TERKINOHA_DONE, and TERKINOHA_REFUSED_ for the numbers from 1 on: `number` of a verdict;
+ *   - TERKINOHA_ERROR_: `kind` of a verdict with number 3, and of a lexeme that is an error;
+ *   - TERKINOHA_SYNTAX_: `kind` of a verdict with number 5;
+ *   - TERKINOHA_LEXEME_: `class_` of a lexeme;
+ *   - TERKINOHA_TOKEN_: `kind` of a token, and of a lexeme that is one;
+ *   - TERKINOHA_NODE_: `kind` of a node;
+ *   - TERKINOHA_FINDING_ and TERKINOHA_SEVERITY_: `kind` and `severity` of a diagnostic;
+ *   - TERKINOHA_STATEMENT_ and TERKINOHA_PART_: `kind` of a row of the statement table, which is a
+ *     statement or a part of one; TERKINOHA_FORM_: its `form`;
+ *   - TERKINOHA_TYPE_ and TERKINOHA_TEXT_: `type` and `text` of a diagnostic or a statement;
+ *   - TERKINOHA_MOST_: a limit; TERKINOHA_WORDS_: how many words a row has.
  */
 #ifndef TERKINOHA_H
 #define TERKINOHA_H
@@ -75,32 +95,32 @@ enum terkinoha_number {
     /* exactly when: done; no place */
     TERKINOHA_DONE = 0,
     /* exactly when: source over 65,536 bytes; no place */
-    TERKINOHA_TOO_LONG = 1,
+    TERKINOHA_REFUSED_TOO_LONG = 1,
     /* exactly when: not well-formed UTF-8;
      * place: the first byte, stepping by whole characters, where none starts */
-    TERKINOHA_NOT_UTF8 = 2,
+    TERKINOHA_REFUSED_NOT_UTF8 = 2,
     /* exactly when: a lexical error, its kind named; place: start of the first such lexeme.
      * The kind is of enum terkinoha_error. Scan has rows for such errors instead */
-    TERKINOHA_LEXICAL = 3,
+    TERKINOHA_REFUSED_LEXICAL = 3,
     /* exactly when: tokens with `Eof` (for scan: lexemes) exceed the room; no place */
-    TERKINOHA_TOKEN_ROOM = 4,
+    TERKINOHA_REFUSED_TOKEN_ROOM = 4,
     /* exactly when: kind 1: a token that cannot follow; kind 2: a port over 65,535;
      * place: that token. The kind is of enum terkinoha_syntax */
-    TERKINOHA_SYNTAX = 5,
+    TERKINOHA_REFUSED_SYNTAX = 5,
     /* exactly when: nodes exceed the room; no place */
-    TERKINOHA_NODE_ROOM = 6,
+    TERKINOHA_REFUSED_NODE_ROOM = 6,
     /* exactly when: a 33rd open list or a 65th step; place: that token */
-    TERKINOHA_TOO_DEEP = 7,
+    TERKINOHA_REFUSED_TOO_DEEP = 7,
     /* exactly when: a call with a named argument whose callee was judged to be a function;
      * place: its `(`. Errors that were found before do not matter */
-    TERKINOHA_CALLS = 8,
+    TERKINOHA_REFUSED_CALLS = 8,
     /* exactly when: a 513th distinct let name or 65th distinct import name, failed ones counted;
      * place: the earlier such name */
-    TERKINOHA_NAMES = 9,
+    TERKINOHA_REFUSED_NAMES = 9,
     /* exactly when: canonical text exceeds its room or 65,536 bytes; no place */
-    TERKINOHA_TEXT_ROOM = 10,
+    TERKINOHA_REFUSED_TEXT_ROOM = 10,
     /* exactly when: no errors, and statements exceed the room; no place */
-    TERKINOHA_STATEMENT_ROOM = 11
+    TERKINOHA_REFUSED_STATEMENT_ROOM = 11
 };
 
 /* The kinds of number 3, and of a lexeme that is an error. */
@@ -177,10 +197,10 @@ typedef struct terkinoha_checked {
 /* ---- lexemes --------------------------------------------------------------------------------- */
 
 enum terkinoha_class {
-    TERKINOHA_CLASS_TRIVIA = 1, /* blanks or a comment */
-    TERKINOHA_CLASS_STRING = 2, /* a string literal: its body is its span without the quotes */
-    TERKINOHA_CLASS_TOKEN = 3,
-    TERKINOHA_CLASS_ERROR = 4
+    TERKINOHA_LEXEME_TRIVIA = 1, /* blanks or a comment */
+    TERKINOHA_LEXEME_STRING = 2, /* a string literal: its body is its span without the quotes */
+    TERKINOHA_LEXEME_TOKEN = 3,
+    TERKINOHA_LEXEME_ERROR = 4
 };
 
 /* A row of scan's table. The spans are not empty and join in order to the line. */
@@ -197,31 +217,31 @@ typedef struct terkinoha_lexeme {
 
 /* The kinds of tokens. A lexeme is never `Eof` or a string: the lexer makes those two. */
 enum terkinoha_kind {
-    TERKINOHA_EOF = 1,
-    TERKINOHA_LPAREN = 2,
-    TERKINOHA_RPAREN = 3,
-    TERKINOHA_DOT = 4,
-    TERKINOHA_DOUBLE_COLON = 5,
-    TERKINOHA_COLON = 6,
-    TERKINOHA_SEMI_COLON = 7,
-    TERKINOHA_EQUALS = 8,
-    TERKINOHA_COMMA = 9,
-    TERKINOHA_SLASH = 10,
-    TERKINOHA_IMPORT_KEYWORD = 11,
-    TERKINOHA_LET_KEYWORD = 12,
-    TERKINOHA_IDENTIFIER = 13,
-    TERKINOHA_BOOLEAN_LITERAL = 14,
-    TERKINOHA_IPV4_LITERAL = 15,
-    TERKINOHA_STRING_LITERAL = 16,
-    TERKINOHA_HEX_LITERAL = 17,
-    TERKINOHA_DEC_LITERAL = 18
+    TERKINOHA_TOKEN_EOF = 1,
+    TERKINOHA_TOKEN_LPAREN = 2,
+    TERKINOHA_TOKEN_RPAREN = 3,
+    TERKINOHA_TOKEN_DOT = 4,
+    TERKINOHA_TOKEN_DOUBLE_COLON = 5,
+    TERKINOHA_TOKEN_COLON = 6,
+    TERKINOHA_TOKEN_SEMI_COLON = 7,
+    TERKINOHA_TOKEN_EQUALS = 8,
+    TERKINOHA_TOKEN_COMMA = 9,
+    TERKINOHA_TOKEN_SLASH = 10,
+    TERKINOHA_TOKEN_IMPORT_KEYWORD = 11,
+    TERKINOHA_TOKEN_LET_KEYWORD = 12,
+    TERKINOHA_TOKEN_IDENTIFIER = 13,
+    TERKINOHA_TOKEN_BOOLEAN_LITERAL = 14,
+    TERKINOHA_TOKEN_IPV4_LITERAL = 15,
+    TERKINOHA_TOKEN_STRING_LITERAL = 16,
+    TERKINOHA_TOKEN_HEX_LITERAL = 17,
+    TERKINOHA_TOKEN_DEC_LITERAL = 18
 };
 
 /* A row of a token table, in the order of the source. A name lies at `source + start` up to
  * `source + end`. String literals with no token between them, also across lines, are one token that
  * stands at the first: its span runs from the first quote past the last, and terkinoha_next_body
  * finds its bodies. `Eof` stands at line (lines + 1), column 1, with the empty span at the end of
- * the source.
+ * the source. terkinoha_token_at finds the token at a place.
  */
 typedef struct terkinoha_token {
     uint64_t kind;   /* enum terkinoha_kind */
@@ -316,13 +336,25 @@ enum terkinoha_text_place {
     TERKINOHA_TEXT_TABLE = 2   /* in TERKINOHA_TABLE_TEXT */
 };
 
-/* The names and bytes of the constant table, whose entries are numbered from 1. Its functions, which
- * take just the arguments that are named here, in this order:
+/* The names and bytes of the constant table. `bench` is the only module: there is no other that a
+ * script could import. These are its entries, each with the number that a row names it by and what it
+ * is: a type with its value, a function, which takes just the arguments that are named here, in this
+ * order, or a module, `bench` itself and one inside it.
  *
- *     ping(to: Ip4) gives Pkt              pause(time: u32) gives TimeJump
- *     burst(to: Sock4, body: bytes) gives PktGen
- *     mark(on: bool) gives void            pick(port: u16) gives u32
- *     host(number: u8) gives Ip4
+ *      1  bench              a module
+ *      2  bench::HTTP        u16 80
+ *      3  bench::LOOP        Ip4 127.0.0.1
+ *      4  bench::BIG         u32 70000
+ *      5  bench::ON          bool true
+ *      6  bench::BANNER      bytes `ok`
+ *      7  bench::ping        function (to: Ip4) gives Pkt
+ *      8  bench::deep        a module
+ *      9  bench::deep::ZERO  u8 0
+ *     10  bench::pause       function (time: u32) gives TimeJump
+ *     11  bench::burst       function (to: Sock4, body: bytes) gives PktGen
+ *     12  bench::mark        function (on: bool) gives void
+ *     13  bench::pick        function (port: u16) gives u32
+ *     14  bench::host        function (number: u8) gives Ip4
  */
 #define TERKINOHA_TABLE_TEXT "benchHTTPLOOPBIGONBANNERokpingdeepZEROpausetimebursttobodymarkonpickporthostnumber"
 
@@ -476,20 +508,20 @@ typedef struct terkinoha_statement {
 /* ---- sizes ----------------------------------------------------------------------------------- */
 
 /* How many 64-bit words a row has. */
-#define TERKINOHA_LEXEME_WORDS 6
-#define TERKINOHA_TOKEN_WORDS 7
-#define TERKINOHA_NODE_WORDS 5
-#define TERKINOHA_DIAGNOSTIC_WORDS 12
-#define TERKINOHA_STATEMENT_WORDS 11
+#define TERKINOHA_WORDS_LEXEME 6
+#define TERKINOHA_WORDS_TOKEN 7
+#define TERKINOHA_WORDS_NODE 5
+#define TERKINOHA_WORDS_DIAGNOSTIC 12
+#define TERKINOHA_WORDS_STATEMENT 11
 
 /* A struct is just its words: a compiler that puts anything between them is refused here. */
 #define TERKINOHA_ASSERT_WORDS(type, words) \
     typedef char terkinoha_assert_##type[sizeof(type) == (words) * sizeof(uint64_t) ? 1 : -1]
-TERKINOHA_ASSERT_WORDS(terkinoha_lexeme, TERKINOHA_LEXEME_WORDS);
-TERKINOHA_ASSERT_WORDS(terkinoha_token, TERKINOHA_TOKEN_WORDS);
-TERKINOHA_ASSERT_WORDS(terkinoha_node, TERKINOHA_NODE_WORDS);
-TERKINOHA_ASSERT_WORDS(terkinoha_diagnostic, TERKINOHA_DIAGNOSTIC_WORDS);
-TERKINOHA_ASSERT_WORDS(terkinoha_statement, TERKINOHA_STATEMENT_WORDS);
+TERKINOHA_ASSERT_WORDS(terkinoha_lexeme, TERKINOHA_WORDS_LEXEME);
+TERKINOHA_ASSERT_WORDS(terkinoha_token, TERKINOHA_WORDS_TOKEN);
+TERKINOHA_ASSERT_WORDS(terkinoha_node, TERKINOHA_WORDS_NODE);
+TERKINOHA_ASSERT_WORDS(terkinoha_diagnostic, TERKINOHA_WORDS_DIAGNOSTIC);
+TERKINOHA_ASSERT_WORDS(terkinoha_statement, TERKINOHA_WORDS_STATEMENT);
 TERKINOHA_ASSERT_WORDS(terkinoha_verdict, 5);
 TERKINOHA_ASSERT_WORDS(terkinoha_scanned, 6);
 TERKINOHA_ASSERT_WORDS(terkinoha_lexed, 6);
@@ -535,14 +567,14 @@ TERKINOHA_MUST_USE terkinoha_checked terkinoha_check_words(const void *source, s
 TERKINOHA_MUST_USE static inline terkinoha_scanned
 terkinoha_scan(const void *line, size_t line_size, terkinoha_lexeme *lexemes, size_t lexeme_room)
 {
-    return terkinoha_scan_words(line, line_size, (uint64_t *)lexemes, lexeme_room * TERKINOHA_LEXEME_WORDS);
+    return terkinoha_scan_words(line, line_size, (uint64_t *)lexemes, lexeme_room * TERKINOHA_WORDS_LEXEME);
 }
 
 /* Lexes a source into tokens. It is cut into lines at each byte 10. */
 TERKINOHA_MUST_USE static inline terkinoha_lexed
 terkinoha_lex(const void *source, size_t source_size, terkinoha_token *tokens, size_t token_room)
 {
-    return terkinoha_lex_words(source, source_size, (uint64_t *)tokens, token_room * TERKINOHA_TOKEN_WORDS);
+    return terkinoha_lex_words(source, source_size, (uint64_t *)tokens, token_room * TERKINOHA_WORDS_TOKEN);
 }
 
 /* Parses a source into tokens and nodes. */
@@ -550,8 +582,8 @@ TERKINOHA_MUST_USE static inline terkinoha_parsed
 terkinoha_parse(const void *source, size_t source_size, terkinoha_token *tokens, size_t token_room,
                 terkinoha_node *nodes, size_t node_room)
 {
-    return terkinoha_parse_words(source, source_size, (uint64_t *)tokens, token_room * TERKINOHA_TOKEN_WORDS,
-                                 (uint64_t *)nodes, node_room * TERKINOHA_NODE_WORDS);
+    return terkinoha_parse_words(source, source_size, (uint64_t *)tokens, token_room * TERKINOHA_WORDS_TOKEN,
+                                 (uint64_t *)nodes, node_room * TERKINOHA_WORDS_NODE);
 }
 
 /* Lexes a source into tokens and writes their canonical text: byte 10 after each `;`, one space
@@ -563,7 +595,7 @@ TERKINOHA_MUST_USE static inline terkinoha_canonised
 terkinoha_canonicalise(const void *source, size_t source_size, terkinoha_token *tokens, size_t token_room,
                        char *text, size_t text_room)
 {
-    return terkinoha_canonicalise_words(source, source_size, (uint64_t *)tokens, token_room * TERKINOHA_TOKEN_WORDS,
+    return terkinoha_canonicalise_words(source, source_size, (uint64_t *)tokens, token_room * TERKINOHA_WORDS_TOKEN,
                                         text, text_room);
 }
 
@@ -576,10 +608,43 @@ terkinoha_check(const void *source, size_t source_size, terkinoha_token *tokens,
                 terkinoha_node *nodes, size_t node_room, terkinoha_diagnostic *diagnostics,
                 size_t diagnostic_room, terkinoha_statement *statements, size_t statement_room)
 {
-    return terkinoha_check_words(source, source_size, (uint64_t *)tokens, token_room * TERKINOHA_TOKEN_WORDS,
-                                 (uint64_t *)nodes, node_room * TERKINOHA_NODE_WORDS, (uint64_t *)diagnostics,
-                                 diagnostic_room * TERKINOHA_DIAGNOSTIC_WORDS, (uint64_t *)statements,
-                                 statement_room * TERKINOHA_STATEMENT_WORDS);
+    return terkinoha_check_words(source, source_size, (uint64_t *)tokens, token_room * TERKINOHA_WORDS_TOKEN,
+                                 (uint64_t *)nodes, node_room * TERKINOHA_WORDS_NODE, (uint64_t *)diagnostics,
+                                 diagnostic_room * TERKINOHA_WORDS_DIAGNOSTIC, (uint64_t *)statements,
+                                 statement_room * TERKINOHA_WORDS_STATEMENT);
+}
+
+/* ---- the token at a place -------------------------------------------------------------------- */
+
+/* The index of the token that covers a place, or `count` where none does. `tokens` are the first
+ * `count` rows of a table, as many as a call has counted. A token covers so many columns of its line,
+ * from its own on, as its span has bytes. Token t covers a place exactly when
+ *
+ *     t.line == line && t.column <= column && column - t.column < t.end - t.start
+ *
+ * and then no other token does. Of each place that a finding or a statement has, this is the token
+ * that stands there. Blanks and comments are covered by none, but those between the literals of one
+ * string are by it; `Eof`, with its empty span, covers no place. A string that goes on in later lines
+ * covers all of its first line from its column on, columns past the line's end too, and nothing of
+ * the later lines, for no row says where a line starts.
+ */
+static inline uint64_t terkinoha_token_at(const terkinoha_token *tokens, uint64_t count, uint64_t line,
+                                          uint64_t column)
+{
+    /* tokens before `low` start at the place or before it, those from `high` on after it */
+    uint64_t low = 0, high = count;
+    while (low < high) {
+        uint64_t middle = low + (high - low) / 2;
+        const terkinoha_token *token = &tokens[middle];
+        if (token->line < line || (token->line == line && token->column <= column))
+            low = middle + 1;
+        else
+            high = middle;
+    }
+    if (low == 0)
+        return count;
+    const terkinoha_token *last = &tokens[low - 1];
+    return last->line == line && column - last->column < last->end - last->start ? low - 1 : count;
 }
 
 /* ---- the bodies of a string ------------------------------------------------------------------ */
@@ -635,19 +700,19 @@ static inline const char *terkinoha_verdict_text(terkinoha_verdict verdict)
 {
     switch (verdict.number) {
     case TERKINOHA_DONE: return "done";
-    case TERKINOHA_TOO_LONG: return "script longer than 65536 bytes";
-    case TERKINOHA_NOT_UTF8: return "not well-formed UTF-8";
-    case TERKINOHA_LEXICAL: return terkinoha_error_text(verdict.kind);
-    case TERKINOHA_TOKEN_ROOM: return "more tokens than the table has room for";
-    case TERKINOHA_SYNTAX:
+    case TERKINOHA_REFUSED_TOO_LONG: return "script longer than 65536 bytes";
+    case TERKINOHA_REFUSED_NOT_UTF8: return "not well-formed UTF-8";
+    case TERKINOHA_REFUSED_LEXICAL: return terkinoha_error_text(verdict.kind);
+    case TERKINOHA_REFUSED_TOKEN_ROOM: return "more tokens than the table has room for";
+    case TERKINOHA_REFUSED_SYNTAX:
         return verdict.kind == TERKINOHA_SYNTAX_INT_OUT_OF_RANGE ? "integer literal out of range"
                                                                  : "unexpected token";
-    case TERKINOHA_NODE_ROOM: return "more nodes than the table has room for";
-    case TERKINOHA_TOO_DEEP: return "more than 32 open argument lists, or 64 steps in one expression";
-    case TERKINOHA_CALLS: return "a named argument, which cannot be checked";
-    case TERKINOHA_NAMES: return "more than 512 let names, or 64 import names";
-    case TERKINOHA_TEXT_ROOM: return "canonical text longer than its room, or 65536 bytes";
-    case TERKINOHA_STATEMENT_ROOM: return "more statements than the table has room for";
+    case TERKINOHA_REFUSED_NODE_ROOM: return "more nodes than the table has room for";
+    case TERKINOHA_REFUSED_TOO_DEEP: return "more than 32 open argument lists, or 64 steps in one expression";
+    case TERKINOHA_REFUSED_CALLS: return "a named argument, which cannot be checked";
+    case TERKINOHA_REFUSED_NAMES: return "more than 512 let names, or 64 import names";
+    case TERKINOHA_REFUSED_TEXT_ROOM: return "canonical text longer than its room, or 65536 bytes";
+    case TERKINOHA_REFUSED_STATEMENT_ROOM: return "more statements than the table has room for";
     default: return "unknown refusal";
     }
 }
@@ -656,24 +721,24 @@ static inline const char *terkinoha_verdict_text(terkinoha_verdict verdict)
 static inline const char *terkinoha_kind_text(uint64_t kind)
 {
     switch (kind) {
-    case TERKINOHA_EOF: return "end of script";
-    case TERKINOHA_LPAREN: return "`(`";
-    case TERKINOHA_RPAREN: return "`)`";
-    case TERKINOHA_DOT: return "`.`";
-    case TERKINOHA_DOUBLE_COLON: return "`::`";
-    case TERKINOHA_COLON: return "`:`";
-    case TERKINOHA_SEMI_COLON: return "`;`";
-    case TERKINOHA_EQUALS: return "`=`";
-    case TERKINOHA_COMMA: return "`,`";
-    case TERKINOHA_SLASH: return "`/`";
-    case TERKINOHA_IMPORT_KEYWORD: return "`import`";
-    case TERKINOHA_LET_KEYWORD: return "`let`";
-    case TERKINOHA_IDENTIFIER: return "name";
-    case TERKINOHA_BOOLEAN_LITERAL: return "boolean";
-    case TERKINOHA_IPV4_LITERAL: return "IPv4 address";
-    case TERKINOHA_STRING_LITERAL: return "string";
-    case TERKINOHA_HEX_LITERAL: return "hexadecimal integer";
-    case TERKINOHA_DEC_LITERAL: return "decimal integer";
+    case TERKINOHA_TOKEN_EOF: return "end of script";
+    case TERKINOHA_TOKEN_LPAREN: return "`(`";
+    case TERKINOHA_TOKEN_RPAREN: return "`)`";
+    case TERKINOHA_TOKEN_DOT: return "`.`";
+    case TERKINOHA_TOKEN_DOUBLE_COLON: return "`::`";
+    case TERKINOHA_TOKEN_COLON: return "`:`";
+    case TERKINOHA_TOKEN_SEMI_COLON: return "`;`";
+    case TERKINOHA_TOKEN_EQUALS: return "`=`";
+    case TERKINOHA_TOKEN_COMMA: return "`,`";
+    case TERKINOHA_TOKEN_SLASH: return "`/`";
+    case TERKINOHA_TOKEN_IMPORT_KEYWORD: return "`import`";
+    case TERKINOHA_TOKEN_LET_KEYWORD: return "`let`";
+    case TERKINOHA_TOKEN_IDENTIFIER: return "name";
+    case TERKINOHA_TOKEN_BOOLEAN_LITERAL: return "boolean";
+    case TERKINOHA_TOKEN_IPV4_LITERAL: return "IPv4 address";
+    case TERKINOHA_TOKEN_STRING_LITERAL: return "string";
+    case TERKINOHA_TOKEN_HEX_LITERAL: return "hexadecimal integer";
+    case TERKINOHA_TOKEN_DEC_LITERAL: return "decimal integer";
     default: return "unknown token";
     }
 }

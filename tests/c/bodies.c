@@ -70,7 +70,8 @@ static void try_many(const void *source, size_t size)
 {
     terkinoha_token tokens[2];
     terkinoha_lexed lexed = terkinoha_lex(source, size, tokens, 2);
-    CHECK(lexed.verdict.number == TERKINOHA_DONE && lexed.tokens == 2 && tokens[0].kind == TERKINOHA_STRING_LITERAL);
+    CHECK(lexed.verdict.number == TERKINOHA_DONE && lexed.tokens == 2);
+    CHECK(tokens[0].kind == TERKINOHA_TOKEN_STRING_LITERAL);
     uint64_t count = 0, at = tokens[0].start;
     for (int round = 0; round < 20; round++) {
         terkinoha_body body = terkinoha_next_body(source, size, tokens[0].start, tokens[0].end);

@@ -101,12 +101,12 @@ static const unsigned placed = 0x3AC;
 /* A place where the number has one, a kind where it has kinds, and nothing else. */
 static void check_verdict(int entry, terkinoha_verdict v)
 {
-    uint64_t kinds = v.number == TERKINOHA_LEXICAL ? 6 : v.number == TERKINOHA_SYNTAX ? 2 : 0;
+    uint64_t kinds = v.number == TERKINOHA_REFUSED_LEXICAL ? 6 : v.number == TERKINOHA_REFUSED_SYNTAX ? 2 : 0;
     CHECK(v.number < 16 && (gives[entry] >> v.number & 1));
     CHECK(placed >> v.number & 1 ? v.line >= 1 && v.column >= 1 : v.line == 0 && v.column == 0);
     CHECK(kinds == 0 ? v.kind == 0 : 1 <= v.kind && v.kind <= kinds);
-    CHECK(v.character == 0 ||
-          (v.number == TERKINOHA_LEXICAL && v.kind == TERKINOHA_ERROR_UNEXPECTED_CHAR && v.character <= 0x10FFFF));
+    CHECK(v.character == 0 || (v.number == TERKINOHA_REFUSED_LEXICAL && v.kind == TERKINOHA_ERROR_UNEXPECTED_CHAR &&
+                               v.character <= 0x10FFFF));
 }
 
 /* How many rows, or bytes of text, are there to read: of findings as many as fit, of all else as many as counted. */
@@ -137,8 +137,8 @@ static void check_lexemes(struct lent lent, uint64_t count)
     uint64_t at = 0;
     for (uint64_t i = 0; i < count; i++) {
         CHECK(rows[i].start == at && rows[i].start < rows[i].end);
-        CHECK(rows[i].class_ >= TERKINOHA_CLASS_TRIVIA && rows[i].class_ <= TERKINOHA_CLASS_ERROR);
-        CHECK((rows[i].kind != 0) == (rows[i].class_ >= TERKINOHA_CLASS_TOKEN));
+        CHECK(rows[i].class_ >= TERKINOHA_LEXEME_TRIVIA && rows[i].class_ <= TERKINOHA_LEXEME_ERROR);
+        CHECK((rows[i].kind != 0) == (rows[i].class_ >= TERKINOHA_LEXEME_TOKEN));
         at = rows[i].end;
     }
     CHECK(at == lent.source.size);
@@ -150,10 +150,10 @@ static void check_tokens(struct lent lent, uint64_t count)
     const terkinoha_token *rows = (const terkinoha_token *)(const void *)lent.filled[ROWS].at;
     uint64_t at = 0, line = 1, line_start = 0;
     for (uint64_t i = 0; i < count; i++) {
-        CHECK(rows[i].kind >= TERKINOHA_EOF && rows[i].kind <= TERKINOHA_DEC_LITERAL);
-        CHECK((rows[i].kind == TERKINOHA_EOF) == (i == count - 1));
+        CHECK(rows[i].kind >= TERKINOHA_TOKEN_EOF && rows[i].kind <= TERKINOHA_TOKEN_DEC_LITERAL);
+        CHECK((rows[i].kind == TERKINOHA_TOKEN_EOF) == (i == count - 1));
         CHECK(at <= rows[i].start && rows[i].end <= lent.source.size);
-        if (rows[i].kind == TERKINOHA_EOF)
+        if (rows[i].kind == TERKINOHA_TOKEN_EOF)
             continue;
         CHECK(rows[i].start < rows[i].end);
         for (; at < rows[i].start; at++)
@@ -212,7 +212,7 @@ static uint64_t ends(struct lent lent, uint64_t tokens)
     const terkinoha_token *rows = (const terkinoha_token *)(const void *)lent.filled[ROWS].at;
     uint64_t count = 0;
     for (uint64_t i = 0; i < tokens; i++)
-        count += rows[i].kind == TERKINOHA_SEMI_COLON;
+        count += rows[i].kind == TERKINOHA_TOKEN_SEMI_COLON;
     return count;
 }
 
@@ -264,7 +264,7 @@ static int is_part_of_table(uint64_t start, uint64_t end)
 /* A finding shows a name of the source, a type, which is a function's with its name, or neither. */
 static int shows_name(const terkinoha_diagnostic *d, const terkinoha_token *token)
 {
-    return d->text == TERKINOHA_TEXT_SOURCE && token->kind == TERKINOHA_IDENTIFIER && d->start == token->start &&
+    return d->text == TERKINOHA_TEXT_SOURCE && token->kind == TERKINOHA_TOKEN_IDENTIFIER && d->start == token->start &&
            d->end == token->end && d->type == 0 && d->third == 0;
 }
 
@@ -304,7 +304,7 @@ static int counts_arguments(const terkinoha_diagnostic *d, int many)
         const struct function *f = function_of(entry);
         const char *name = terkinoha_entry_name(entry);
         if (f != NULL && d->end - d->start == strlen(name) &&
-            memcmp(TERKINOHA_TABLE_TEXT + d->start, name, strlen(name)) == 0)
+            memcmp(&TERKINOHA_TABLE_TEXT[d->start], name, strlen(name)) == 0)
             return d->second == f->params && (many ? d->first > d->second : d->first < d->second) && d->third == 0;
     }
     return 0;
@@ -391,7 +391,7 @@ static struct numbered next_statement(struct lent lent, struct outcome outcome, 
     struct numbered next = {last.number + 1, last.end, last.end, last.node};
     do {
         CHECK(next.end < outcome.counts[ROWS]);
-    } while (tokens[next.end++].kind != TERKINOHA_SEMI_COLON);
+    } while (tokens[next.end++].kind != TERKINOHA_TOKEN_SEMI_COLON);
     do {
         CHECK(next.node < outcome.counts[SECOND]);
     } while (nodes[next.node++].kind < TERKINOHA_NODE_IMPORT);
@@ -453,7 +453,7 @@ static int is_value(struct lent lent, uint64_t tokens, const terkinoha_statement
     case TERKINOHA_TYPE_SOCK4: return s->text == 0 && s->low <= UINT32_MAX && s->high <= UINT16_MAX;
     case TERKINOHA_TYPE_BYTES:
         return in_table || (s->text == TERKINOHA_TEXT_SOURCE && s->low < tokens && s->high == 0 &&
-                            rows[s->low].kind == TERKINOHA_STRING_LITERAL);
+                            rows[s->low].kind == TERKINOHA_TOKEN_STRING_LITERAL);
     case TERKINOHA_TYPE_FUNCTION: return in_table;
     default: return 0;
     }
@@ -627,9 +627,9 @@ static struct first first_call(int entry, const void *source, size_t size, int s
     struct first first;
     first.lent = lend(entry, source, size, enough(entry, size), side);
     first.outcome = tried(entry, first.lent);
-    CHECK(first.outcome.verdict.number != TERKINOHA_TOKEN_ROOM);
-    CHECK(first.outcome.verdict.number != TERKINOHA_NODE_ROOM);
-    CHECK(first.outcome.verdict.number != TERKINOHA_STATEMENT_ROOM);
+    CHECK(first.outcome.verdict.number != TERKINOHA_REFUSED_TOKEN_ROOM);
+    CHECK(first.outcome.verdict.number != TERKINOHA_REFUSED_NODE_ROOM);
+    CHECK(first.outcome.verdict.number != TERKINOHA_REFUSED_STATEMENT_ROOM);
     if (first.outcome.verdict.number != TERKINOHA_DONE)
         first.wanted = wanted_before(entry, source, size);
     else
@@ -644,19 +644,19 @@ static uint64_t expected(int entry, struct first first, struct rooms rooms)
     const size_t *wanted = first.wanted.bytes;
     uint64_t number = first.outcome.verdict.number;
     int trees = entry == PARSE || entry == CHECK_SOURCE;
-    if (number != TERKINOHA_DONE && number <= TERKINOHA_LEXICAL)
+    if (number != TERKINOHA_DONE && number <= TERKINOHA_REFUSED_LEXICAL)
         return number;
     if (rooms.bytes[ROWS] < wanted[ROWS])
-        return TERKINOHA_TOKEN_ROOM;
-    if (number == TERKINOHA_SYNTAX || number == TERKINOHA_TOO_DEEP)
+        return TERKINOHA_REFUSED_TOKEN_ROOM;
+    if (number == TERKINOHA_REFUSED_SYNTAX || number == TERKINOHA_REFUSED_TOO_DEEP)
         return number;
     if (trees && rooms.bytes[SECOND] < wanted[SECOND])
-        return TERKINOHA_NODE_ROOM;
+        return TERKINOHA_REFUSED_NODE_ROOM;
     if (number != TERKINOHA_DONE)
         return number;
     if (entry == CANONICALISE && rooms.bytes[SECOND] < wanted[SECOND])
-        return TERKINOHA_TEXT_ROOM;
-    return rooms.bytes[STATEMENTS] < wanted[STATEMENTS] ? TERKINOHA_STATEMENT_ROOM : TERKINOHA_DONE;
+        return TERKINOHA_REFUSED_TEXT_ROOM;
+    return rooms.bytes[STATEMENTS] < wanted[STATEMENTS] ? TERKINOHA_REFUSED_STATEMENT_ROOM : TERKINOHA_DONE;
 }
 
 /* The counts are the first call's in full; what is there to read is what it found. */
@@ -745,12 +745,69 @@ static void try_text(const void *source, size_t size)
     give_back(CANONICALISE, lent);
 }
 
+/* The token that covers a place, as the header says it, among all of them. */
+static uint64_t covering(const terkinoha_token *rows, uint64_t count, uint64_t line, uint64_t column)
+{
+    for (uint64_t i = 0; i < count; i++)
+        if (rows[i].line == line && rows[i].column <= column && column - rows[i].column < rows[i].end - rows[i].start)
+            return i;
+    return count;
+}
+
+static uint64_t covers(const terkinoha_token *rows, uint64_t count, uint64_t line, uint64_t column)
+{
+    uint64_t found = terkinoha_token_at(rows, count, line, column);
+    CHECK(found == covering(rows, count, line, column));
+    return found;
+}
+
+/* Each byte of a source, and places that it does not have: a token that covers a byte has it in its span. */
+static void check_places(struct lent lent, uint64_t count)
+{
+    const terkinoha_token *rows = (const terkinoha_token *)(const void *)lent.filled[ROWS].at;
+    uint64_t line = 1, column = 1;
+    for (size_t at = 0; at < lent.source.size; at++) {
+        uint64_t i = covers(rows, count, line, column);
+        CHECK(i == count || (rows[i].start <= at && at < rows[i].end));
+        column++;
+        if (lent.source.at[at] != '\n')
+            continue;
+        for (uint64_t past = 0; past < 4; past++)
+            covers(rows, count, line, column + past);
+        line++;
+        column = 1;
+        covers(rows, count, line, 0);
+    }
+    static const uint64_t columns[] = {0, 1, 2, UINT64_MAX};
+    for (size_t i = 0; i < sizeof columns / sizeof *columns; i++) {
+        covers(rows, count, 0, columns[i]);
+        covers(rows, count, 1, columns[i]);
+        covers(rows, count, line, column + columns[i]);
+        covers(rows, count, line + 1, columns[i]);
+        covers(rows, count, UINT64_MAX, columns[i]);
+    }
+}
+
+/* In a table of just as many rows as there are tokens: none before or after them is read. */
+static void try_places(const void *source, size_t size)
+{
+    for (int side = AT_START; side < SIDES; side++) {
+        struct first first = first_call(LEX, source, size, side);
+        struct lent lent = lend(LEX, source, size, first.wanted, side);
+        struct outcome outcome = tried(LEX, lent);
+        check_places(lent, outcome.counts[ROWS]);
+        give_back(LEX, lent);
+        give_back(LEX, first.lent);
+    }
+}
+
 static void try_source(const void *source, size_t size)
 {
     for (int entry = SCAN; entry < ENTRIES; entry++)
         for (int side = AT_START; side < SIDES; side++)
             try_rooms(entry, source, size, side);
     try_text(source, size);
+    try_places(source, size);
 }
 
 /* An empty area by a pointer that may not be followed is as good as NULL. */
@@ -761,7 +818,7 @@ static void try_empty(void)
     lent_trying("empty areas", lent.source.at, 0);
     terkinoha_token *rows = (terkinoha_token *)(void *)lent.filled[ROWS].at;
     terkinoha_lexed lexed = terkinoha_lex(lent.source.at, 0, rows, 0);
-    CHECK(same_verdict(lexed.verdict, TERKINOHA_TOKEN_ROOM, 0, 0, 0, 0) && lexed.tokens == 0);
+    CHECK(same_verdict(lexed.verdict, TERKINOHA_REFUSED_TOKEN_ROOM, 0, 0, 0, 0) && lexed.tokens == 0);
     terkinoha_scanned scanned = terkinoha_scan(lent.source.at, 0, NULL, 0);
     CHECK(same_verdict(scanned.verdict, TERKINOHA_DONE, 0, 0, 0, 0) && scanned.lexemes == 0);
     terkinoha_token eof;
@@ -772,7 +829,7 @@ static void try_empty(void)
     CHECK(same_verdict(checked.verdict, TERKINOHA_DONE, 0, 0, 0, 0) && checked.tokens == 1);
     CHECK(checked.nodes + checked.errors + checked.warnings + checked.statements + checked.comparisons == 0);
     checked = terkinoha_check(NULL, 0, NULL, 0, NULL, 0, NULL, 0, NULL, 0);
-    CHECK(same_verdict(checked.verdict, TERKINOHA_TOKEN_ROOM, 0, 0, 0, 0) && checked.tokens == 0);
+    CHECK(same_verdict(checked.verdict, TERKINOHA_REFUSED_TOKEN_ROOM, 0, 0, 0, 0) && checked.tokens == 0);
     give_back(CHECK_SOURCE, lent);
 }
 

@@ -16,7 +16,7 @@
 enum { TOKENS, NODES, DIAGNOSTICS, STATEMENTS, AREAS };
 
 /* Room for the widest row, with words beside it on both sides. */
-static uint64_t areas[AREAS][ROWS * TERKINOHA_DIAGNOSTIC_WORDS + 2 * BESIDE];
+static uint64_t areas[AREAS][ROWS * TERKINOHA_WORDS_DIAGNOSTIC + 2 * BESIDE];
 
 static void must(int holds, const char *what)
 {
@@ -84,7 +84,7 @@ static uint64_t statement_at(uint64_t tokens, uint64_t line, uint64_t column)
     for (uint64_t i = 0; i < tokens; i++) {
         if (rows[i].line == line && rows[i].column == column)
             return number;
-        number += rows[i].kind == TERKINOHA_SEMI_COLON;
+        number += rows[i].kind == TERKINOHA_TOKEN_SEMI_COLON;
     }
     return 0;
 }

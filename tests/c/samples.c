@@ -75,19 +75,19 @@ static void try_token_rows(void)
 {
     static const char source[] = "let a = 1.2.3.4/80; # web\n \"b\"\n\"c\" true "
                                  "170141183460469231731687303715884105727 0xfF";
-    static const uint64_t rows[][TERKINOHA_TOKEN_WORDS] = {
-        {TERKINOHA_LET_KEYWORD, 1, 1, 0, 3, 0, 0},
-        {TERKINOHA_IDENTIFIER, 1, 5, 4, 5, 0, 0},
-        {TERKINOHA_EQUALS, 1, 7, 6, 7, 0, 0},
-        {TERKINOHA_IPV4_LITERAL, 1, 9, 8, 15, 0x01020304, 0},
-        {TERKINOHA_SLASH, 1, 16, 15, 16, 0, 0},
-        {TERKINOHA_DEC_LITERAL, 1, 17, 16, 18, 80, 0},
-        {TERKINOHA_SEMI_COLON, 1, 19, 18, 19, 0, 0},
-        {TERKINOHA_STRING_LITERAL, 2, 2, 27, 34, 2, 0},
-        {TERKINOHA_BOOLEAN_LITERAL, 3, 5, 35, 39, 1, 0},
-        {TERKINOHA_DEC_LITERAL, 3, 10, 40, 79, UINT64_MAX, UINT64_MAX >> 1},
-        {TERKINOHA_HEX_LITERAL, 3, 50, 80, 84, 255, 0},
-        {TERKINOHA_EOF, 4, 1, 84, 84, 0, 0},
+    static const uint64_t rows[][TERKINOHA_WORDS_TOKEN] = {
+        {TERKINOHA_TOKEN_LET_KEYWORD, 1, 1, 0, 3, 0, 0},
+        {TERKINOHA_TOKEN_IDENTIFIER, 1, 5, 4, 5, 0, 0},
+        {TERKINOHA_TOKEN_EQUALS, 1, 7, 6, 7, 0, 0},
+        {TERKINOHA_TOKEN_IPV4_LITERAL, 1, 9, 8, 15, 0x01020304, 0},
+        {TERKINOHA_TOKEN_SLASH, 1, 16, 15, 16, 0, 0},
+        {TERKINOHA_TOKEN_DEC_LITERAL, 1, 17, 16, 18, 80, 0},
+        {TERKINOHA_TOKEN_SEMI_COLON, 1, 19, 18, 19, 0, 0},
+        {TERKINOHA_TOKEN_STRING_LITERAL, 2, 2, 27, 34, 2, 0},
+        {TERKINOHA_TOKEN_BOOLEAN_LITERAL, 3, 5, 35, 39, 1, 0},
+        {TERKINOHA_TOKEN_DEC_LITERAL, 3, 10, 40, 79, UINT64_MAX, UINT64_MAX >> 1},
+        {TERKINOHA_TOKEN_HEX_LITERAL, 3, 50, 80, 84, 255, 0},
+        {TERKINOHA_TOKEN_EOF, 4, 1, 84, 84, 0, 0},
     };
     lent_trying("lex, row by row", source, sizeof source - 1);
     terkinoha_lexed a = terkinoha_lex(source, sizeof source - 1, tokens, MOST);
@@ -95,19 +95,39 @@ static void try_token_rows(void)
     CHECK(memcmp(tokens, rows, sizeof rows) == 0);
 }
 
+/* A string covers what stands between its literals, in its first line; `Eof` and blanks cover nothing. */
+static void try_token_places(void)
+{
+    static const char source[] = "let a = \"\xc3\xa9\" # b\n \"c\"\n\n\t\"d\"; ef(0x1F)";
+    enum { LET, A, EQUALS, STRING, END, EF, OPEN, HEX, CLOSE, EOF_TOKEN, COUNT };
+    static const uint64_t places[][3] = {
+        {0, 1, COUNT}, {1, 0, COUNT}, {1, 1, LET}, {1, 3, LET}, {1, 4, COUNT}, {1, 5, A}, {1, 6, COUNT},
+        {1, 7, EQUALS}, {1, 8, COUNT}, {1, 9, STRING}, {1, 12, STRING}, {1, 13, STRING}, {1, 16, STRING},
+        {2, 1, COUNT}, {2, 2, COUNT}, {2, 9, COUNT}, {3, 1, COUNT}, {4, 2, COUNT}, {4, 4, COUNT}, {4, 5, END},
+        {4, 6, COUNT}, {4, 7, EF}, {4, 8, EF}, {4, 9, OPEN}, {4, 10, HEX}, {4, 13, HEX}, {4, 14, CLOSE},
+        {4, 15, COUNT}, {5, 1, COUNT}, {6, 1, COUNT}, {UINT64_MAX, UINT64_MAX, COUNT},
+    };
+    lent_trying("the token at a place", source, sizeof source - 1);
+    terkinoha_lexed a = terkinoha_lex(source, sizeof source - 1, tokens, MOST);
+    CHECK(same(a.verdict, 0, 0, 0, 0) && a.tokens == COUNT);
+    for (size_t i = 0; i < sizeof places / sizeof *places; i++)
+        CHECK(terkinoha_token_at(tokens, a.tokens, places[i][0], places[i][1]) == places[i][2]);
+    CHECK(terkinoha_token_at(NULL, 0, 1, 1) == 0);
+}
+
 /* ---- scan ---- */
 
 static void try_lexeme_rows(void)
 {
     static const char line[] = "a \"b\"@\n;# c";
-    static const uint64_t rows[][TERKINOHA_LEXEME_WORDS] = {
-        {0, 1, TERKINOHA_CLASS_TOKEN, TERKINOHA_IDENTIFIER, 0, 0},
-        {1, 2, TERKINOHA_CLASS_TRIVIA, 0, 0, 0},
-        {2, 5, TERKINOHA_CLASS_STRING, 0, 0, 0},
-        {5, 6, TERKINOHA_CLASS_ERROR, TERKINOHA_ERROR_UNEXPECTED_CHAR, '@', 0},
-        {6, 7, TERKINOHA_CLASS_ERROR, TERKINOHA_ERROR_UNEXPECTED_CHAR, '\n', 0},
-        {7, 8, TERKINOHA_CLASS_TOKEN, TERKINOHA_SEMI_COLON, 0, 0},
-        {8, 11, TERKINOHA_CLASS_TRIVIA, 0, 0, 0},
+    static const uint64_t rows[][TERKINOHA_WORDS_LEXEME] = {
+        {0, 1, TERKINOHA_LEXEME_TOKEN, TERKINOHA_TOKEN_IDENTIFIER, 0, 0},
+        {1, 2, TERKINOHA_LEXEME_TRIVIA, 0, 0, 0},
+        {2, 5, TERKINOHA_LEXEME_STRING, 0, 0, 0},
+        {5, 6, TERKINOHA_LEXEME_ERROR, TERKINOHA_ERROR_UNEXPECTED_CHAR, '@', 0},
+        {6, 7, TERKINOHA_LEXEME_ERROR, TERKINOHA_ERROR_UNEXPECTED_CHAR, '\n', 0},
+        {7, 8, TERKINOHA_LEXEME_TOKEN, TERKINOHA_TOKEN_SEMI_COLON, 0, 0},
+        {8, 11, TERKINOHA_LEXEME_TRIVIA, 0, 0, 0},
     };
     lent_trying("scan, row by row", line, sizeof line - 1);
     terkinoha_scanned a = terkinoha_scan(line, sizeof line - 1, lexemes, MOST);
@@ -117,7 +137,7 @@ static void try_lexeme_rows(void)
     /* its line is line 1, whatever it holds */
     lent_trying("scan", "a\nb\xff", 4);
     a = terkinoha_scan("a\nb\xff", 4, lexemes, MOST);
-    CHECK(same(a.verdict, TERKINOHA_NOT_UTF8, 0, 1, 4) && a.lexemes == 0);
+    CHECK(same(a.verdict, TERKINOHA_REFUSED_NOT_UTF8, 0, 1, 4) && a.lexemes == 0);
 }
 
 /* ---- parse ---- */
@@ -157,7 +177,7 @@ static void try_node_rows(void)
 {
     /* tokens:  0 f  1 (  2 a  3 ,  4 b  5 :  6 2  7 )  8 .  9 m  10 /  11 c  12 ::  13 d  14 ;  15 let  16 x .. */
     static const char source[] = "f(a, b: 2).m / c::d; let x = 1.2.3.4:80; import y;";
-    static const uint64_t rows[][TERKINOHA_NODE_WORDS] = {
+    static const uint64_t rows[][TERKINOHA_WORDS_NODE] = {
         {TERKINOHA_NODE_LOCAL, 0, 0, 0, 0},
         {TERKINOHA_NODE_LOCAL, 2, 0, 0, 0},
         {TERKINOHA_NODE_ARGUMENT, 2, 1, 5, 0},
@@ -190,9 +210,9 @@ static void try_depth(const char *start, const char *piece, uint64_t most)
         lent_trying("parse, deep", source, strlen(source));
         terkinoha_parsed a = terkinoha_parse(source, strlen(source), tokens, MOST, nodes, MOST);
         if (count > most)
-            CHECK(same(a.verdict, TERKINOHA_TOO_DEEP, 0, 1, strlen(start) + strlen(piece) * most + 1));
+            CHECK(same(a.verdict, TERKINOHA_REFUSED_TOO_DEEP, 0, 1, strlen(start) + strlen(piece) * most + 1));
         else
-            CHECK(same(a.verdict, TERKINOHA_SYNTAX, TERKINOHA_SYNTAX_UNEXPECTED_TOKEN, 2, 1)); /* no `;` */
+            CHECK(same(a.verdict, TERKINOHA_REFUSED_SYNTAX, TERKINOHA_SYNTAX_UNEXPECTED_TOKEN, 2, 1)); /* no `;` */
     }
 }
 
@@ -218,7 +238,7 @@ static void try_canonisings(void)
         CHECK(same(a.verdict, 0, 0, 0, 0) && a.bytes == strlen(want) && strcmp(text, want) == 0);
         if (*want != '\0') {
             a = terkinoha_canonicalise(source, strlen(source), tokens, MOST, text, strlen(want) - 1);
-            CHECK(same(a.verdict, TERKINOHA_TEXT_ROOM, 0, 0, 0) && a.tokens == 0 && a.bytes == 0);
+            CHECK(same(a.verdict, TERKINOHA_REFUSED_TEXT_ROOM, 0, 0, 0) && a.tokens == 0 && a.bytes == 0);
         }
     }
 }
@@ -338,7 +358,7 @@ static void try_checkings(void)
 static void try_finding_rows(void)
 {
     static const char source[] = "let p = 65536;\nlet a = 1.2.3.4/p;\na;\nb;\nlet c = b;\nc;\n";
-    static const uint64_t rows[][TERKINOHA_DIAGNOSTIC_WORDS] = {
+    static const uint64_t rows[][TERKINOHA_WORDS_DIAGNOSTIC] = {
         {2, 17, 2, TERKINOHA_FINDING_TRUNCATED, 0, 0, 0, TERKINOHA_TYPE_U16, 65536, 0, 0, 2},
         {3, 1, 2, TERKINOHA_FINDING_DISCARDED_VALUE, 0, 0, 0, TERKINOHA_TYPE_SOCK4, 0, 0, 0, 3},
         {4, 1, 1, TERKINOHA_FINDING_UNKNOWN_NAME, 1, 37, 38, 0, 0, 0, 0, 4},
@@ -370,7 +390,7 @@ static void try_kinds(void)
                                  "18446744073709551616;\n"
                                  "1.2.3.4/170141183460469231731687303715884105727;\n"
                                  "bench::ping;\n";
-    static const uint64_t rows[][TERKINOHA_DIAGNOSTIC_WORDS] = {
+    static const uint64_t rows[][TERKINOHA_WORDS_DIAGNOSTIC] = {
         {2, 8, 2, TERKINOHA_FINDING_MULTIPLE_IMPORTS, 1, 21, 26, 0, 0, 0, 0, 2},
         {3, 8, 1, TERKINOHA_FINDING_UNKNOWN_MODULE, 1, 35, 39, 0, 0, 0, 0, 3},
         {4, 9, 1, TERKINOHA_FINDING_UNKNOWN_NAME, 1, 49, 50, 0, 0, 0, 0, 4},
@@ -444,7 +464,7 @@ static void try_statement_rows(void)
                                  "bench::ping;\nbench::deep::ZERO;\n\"a\"\n\"b\";\n1.2.3.4:80;\n5000000000;\n";
 #define DISCARD(line, type, text, low, high) \
     {line, 1, TERKINOHA_STATEMENT_DISCARD, 0, TERKINOHA_FORM_CONSTANT, line, 1, TERKINOHA_TYPE_##type, text, low, high}
-    static const uint64_t rows[][TERKINOHA_STATEMENT_WORDS] = {
+    static const uint64_t rows[][TERKINOHA_WORDS_STATEMENT] = {
         DISCARD(2, U16, 0, 80, 0),
         DISCARD(3, IP4, 0, 0x7F000001, 0),
         DISCARD(4, U32, 0, 70000, 0),
@@ -459,8 +479,8 @@ static void try_statement_rows(void)
     };
     CHECK(done(check(source, enough), 0, 10, 10));
     CHECK(memcmp(statements, rows, sizeof rows) == 0);
-    CHECK(tokens[33].kind == TERKINOHA_STRING_LITERAL && tokens[33].low == 2);
-    CHECK(memcmp(TERKINOHA_TABLE_TEXT + 24, "ok", 2) == 0 && memcmp(TERKINOHA_TABLE_TEXT + 26, "ping", 4) == 0);
+    CHECK(tokens[33].kind == TERKINOHA_TOKEN_STRING_LITERAL && tokens[33].low == 2);
+    CHECK(memcmp(&TERKINOHA_TABLE_TEXT[24], "ok", 2) == 0 && memcmp(&TERKINOHA_TABLE_TEXT[26], "ping", 4) == 0);
 }
 
 /* ---- calls ---- */
@@ -470,7 +490,7 @@ static void try_call_findings(void)
 {
     static const struct {
         const char *call;
-        uint64_t row[TERKINOHA_DIAGNOSTIC_WORDS];
+        uint64_t row[TERKINOHA_WORDS_DIAGNOSTIC];
     } cases[] = {
         {"bench::ping(bench::ping);", {2, 13, 1, TERKINOHA_FINDING_ARG_TYPE, 2, 26, 30, TERKINOHA_TYPE_FUNCTION, 7, 0, TERKINOHA_TYPE_IP4, 2}},
         {"bench::burst(1.2.3.4:5, f);", {2, 25, 1, TERKINOHA_FINDING_UNKNOWN_NAME, 1, 38, 39, 0, 0, 0, 0, 2}},
@@ -496,7 +516,7 @@ static void try_parts(void)
 {
     static const char source[] = "import bench;\nlet h = bench::host(7);\nlet k = h;\nbench::burst(k/bench::pick(8), \"a\");\n"
                                  "bench::pause(1);\nbench::mark(0);\nk;\n";
-    static const uint64_t rows[][TERKINOHA_STATEMENT_WORDS] = {
+    static const uint64_t rows[][TERKINOHA_WORDS_STATEMENT] = {
         {2, 5, TERKINOHA_STATEMENT_LET, 0, TERKINOHA_FORM_CALL, 2, 16, TERKINOHA_TYPE_IP4, 0, 14, 1},
         {2, 9, TERKINOHA_PART_CALLEE, 0, TERKINOHA_FORM_CONSTANT, 2, 9, TERKINOHA_TYPE_FUNCTION, 2, 72, 76},
         {2, 21, TERKINOHA_PART_ARGUMENT, 0, TERKINOHA_FORM_CONSTANT, 2, 21, TERKINOHA_TYPE_U8, 0, 7, 0},
@@ -523,7 +543,7 @@ static void try_parts(void)
     CHECK(done(check(source, just), 0, 2, just.statements)); /* `pick` is wider than a port; `k` is discarded */
     CHECK(memcmp(statements, rows, sizeof rows - sizeof *rows) == 0);
     CHECK(done(check(source, enough), 0, 2, just.statements) && memcmp(statements, rows, sizeof rows) == 0);
-    CHECK(refused(check(source, less), TERKINOHA_STATEMENT_ROOM, 0, 0));
+    CHECK(refused(check(source, less), TERKINOHA_REFUSED_STATEMENT_ROOM, 0, 0));
 }
 
 /* Smaller numbers go first, and findings are none. */
@@ -535,15 +555,15 @@ static void try_refusals(void)
         uint64_t number, line, column;
     } refusals[] = {
         /* met when the callee is judged, before any argument is */
-        {"import bench;\nbench::ping(zz, a: 1);", ENOUGH, TERKINOHA_CALLS, 2, 12},
-        {"import bench;\nx;\nlet v = bench::pick(bench::host(1, b: z), y);", ENOUGH, TERKINOHA_CALLS, 3, 32},
-        {"import bench;bench::ping(a: bench::ping(b: 1));", ENOUGH, TERKINOHA_CALLS, 1, 25}, /* the outer one */
-        {"import bench;bench::ping(a:1);", {13, 7, 0, 0}, TERKINOHA_CALLS, 1, 25},
-        {"f(a:1);", {8, 4, MOST, MOST}, TERKINOHA_NODE_ROOM, 0, 0},
-        {"f(a:1);", {7, 5, MOST, MOST}, TERKINOHA_TOKEN_ROOM, 0, 0},
-        {"1; 2;", {5, 4, 0, 1}, TERKINOHA_STATEMENT_ROOM, 0, 0},
-        {"1; 2;", {5, 3, MOST, 0}, TERKINOHA_NODE_ROOM, 0, 0},
-        {"1;", {3, 2, MOST, 0}, TERKINOHA_STATEMENT_ROOM, 0, 0},
+        {"import bench;\nbench::ping(zz, a: 1);", ENOUGH, TERKINOHA_REFUSED_CALLS, 2, 12},
+        {"import bench;\nx;\nlet v = bench::pick(bench::host(1, b: z), y);", ENOUGH, TERKINOHA_REFUSED_CALLS, 3, 32},
+        {"import bench;bench::ping(a: bench::ping(b: 1));", ENOUGH, TERKINOHA_REFUSED_CALLS, 1, 25}, /* the outer one */
+        {"import bench;bench::ping(a:1);", {13, 7, 0, 0}, TERKINOHA_REFUSED_CALLS, 1, 25},
+        {"f(a:1);", {8, 4, MOST, MOST}, TERKINOHA_REFUSED_NODE_ROOM, 0, 0},
+        {"f(a:1);", {7, 5, MOST, MOST}, TERKINOHA_REFUSED_TOKEN_ROOM, 0, 0},
+        {"1; 2;", {5, 4, 0, 1}, TERKINOHA_REFUSED_STATEMENT_ROOM, 0, 0},
+        {"1; 2;", {5, 3, MOST, 0}, TERKINOHA_REFUSED_NODE_ROOM, 0, 0},
+        {"1;", {3, 2, MOST, 0}, TERKINOHA_REFUSED_STATEMENT_ROOM, 0, 0},
     };
     for (size_t i = 0; i < sizeof refusals / sizeof *refusals; i++)
         CHECK(refused(check(refusals[i].source, refusals[i].rooms), refusals[i].number, refusals[i].line,
@@ -553,8 +573,10 @@ static void try_refusals(void)
                      "5(d: 4);",
                      enough),
                4, 0, 0));
-    CHECK(same(check("1.2.3.4:65536;", enough).verdict, TERKINOHA_SYNTAX, TERKINOHA_SYNTAX_INT_OUT_OF_RANGE, 1, 9));
-    CHECK(same(check("1.2.3.4:0x50;", enough).verdict, TERKINOHA_SYNTAX, TERKINOHA_SYNTAX_UNEXPECTED_TOKEN, 1, 9));
+    CHECK(same(check("1.2.3.4:65536;", enough).verdict, TERKINOHA_REFUSED_SYNTAX, TERKINOHA_SYNTAX_INT_OUT_OF_RANGE, 1,
+               9));
+    CHECK(same(check("1.2.3.4:0x50;", enough).verdict, TERKINOHA_REFUSED_SYNTAX, TERKINOHA_SYNTAX_UNEXPECTED_TOKEN, 1,
+               9));
 }
 
 /* Just enough room; statements want none where there is an error, and findings never want any. */
@@ -593,7 +615,7 @@ static void try_names(const char *format, unsigned most, uint64_t column, uint64
     add(format, 0, 1);
     CHECK(done(check_many(), errors + 1 - warnings_of_again, warnings_of_again, 0));
     add(format, most, 2);
-    CHECK(refused(check_many(), TERKINOHA_NAMES, most + 2, column));
+    CHECK(refused(check_many(), TERKINOHA_REFUSED_NAMES, most + 2, column));
 }
 
 static void try_all_names(void)
@@ -608,14 +630,15 @@ static void try_all_names(void)
     add("1; let a%u = 1;\n", 0, TERKINOHA_MOST_NAMES);
     add("import a%u;\n", 0, TERKINOHA_MOST_IMPORTS + 1);
     add("let a%u = 1;\n", TERKINOHA_MOST_NAMES, 1);
-    CHECK(refused(check(many, no_statements), TERKINOHA_NAMES, TERKINOHA_MOST_NAMES + TERKINOHA_MOST_IMPORTS + 1, 8));
+    CHECK(refused(check(many, no_statements), TERKINOHA_REFUSED_NAMES,
+                  TERKINOHA_MOST_NAMES + TERKINOHA_MOST_IMPORTS + 1, 8));
     /* between 8 and 9 the earlier token decides */
     add("import bench; bench::ping(a: %u);\n", 0, 1);
-    CHECK(refused(check_many(), TERKINOHA_NAMES, TERKINOHA_MOST_NAMES + TERKINOHA_MOST_IMPORTS + 1, 8));
+    CHECK(refused(check_many(), TERKINOHA_REFUSED_NAMES, TERKINOHA_MOST_NAMES + TERKINOHA_MOST_IMPORTS + 1, 8));
     many[0] = '\0';
     add("import bench; bench::ping(a: %u);\n", 0, 1);
     add("let a%u = 1;\n", 0, TERKINOHA_MOST_NAMES + 1);
-    CHECK(refused(check_many(), TERKINOHA_CALLS, 1, 26));
+    CHECK(refused(check_many(), TERKINOHA_REFUSED_CALLS, 1, 26));
 }
 
 /* ---- texts ---- */
@@ -658,6 +681,7 @@ int main(void)
     lent_start();
     try_lexings();
     try_token_rows();
+    try_token_places();
     try_lexeme_rows();
     try_parsings();
     try_node_rows();

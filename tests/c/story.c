@@ -117,7 +117,8 @@ static void try_story(void)
     static terkinoha_token tokens[ROOM];
     lent_trying("the story", script, sizeof script - 1);
     terkinoha_lexed lexed = terkinoha_lex(script, sizeof script - 1, tokens, ROOM);
-    CHECK(lexed.verdict.number == TERKINOHA_DONE && lexed.tokens == 18 && tokens[0].kind == TERKINOHA_IMPORT_KEYWORD);
+    CHECK(lexed.verdict.number == TERKINOHA_DONE && lexed.tokens == 18);
+    CHECK(tokens[0].kind == TERKINOHA_TOKEN_IMPORT_KEYWORD);
 
     terkinoha_lexed ignored = terkinoha_lex("let @", 5, tokens, ROOM); /* refused; its number is not looked at */
     (void)ignored;
@@ -129,8 +130,8 @@ static void try_story(void)
 
     lexed = terkinoha_lex("a;", 2, tokens, ROOM);
     CHECK(lexed.verdict.number == TERKINOHA_DONE && lexed.tokens == 3);
-    CHECK(tokens[0].kind == TERKINOHA_IDENTIFIER && tokens[1].kind == TERKINOHA_SEMI_COLON);
-    CHECK(tokens[2].kind == TERKINOHA_EOF);
+    CHECK(tokens[0].kind == TERKINOHA_TOKEN_IDENTIFIER && tokens[1].kind == TERKINOHA_TOKEN_SEMI_COLON);
+    CHECK(tokens[2].kind == TERKINOHA_TOKEN_EOF);
     CHECK(tokens[3].kind == 0 && tokens[17].kind == 0);
 }
 
@@ -264,6 +265,19 @@ static void *check_all(void *given)
     return checked.verdict.number == TERKINOHA_DONE ? NULL : given;
 }
 
+/* In tables that the longest source does not fill. */
+static void *check_longest(void *given)
+{
+    enum { MOST = TERKINOHA_MOST_BYTES + 1 };
+    static terkinoha_token all_tokens[MOST];
+    static terkinoha_node all_nodes[MOST];
+    static terkinoha_statement all_statements[MOST];
+    const char *source = (const char *)given;
+    terkinoha_checked checked = terkinoha_check(source, strlen(source), all_tokens, MOST, all_nodes, MOST, found, 4096,
+                                                all_statements, MOST);
+    return checked.verdict.number == TERKINOHA_DONE ? NULL : given;
+}
+
 /* How much a call takes of a stack that was garbage, with what the thread itself takes: how small a stack may be made
  * differs between machines. The header says how much a call needs.
  */
@@ -331,6 +345,18 @@ static void try_stack_of_calls(void)
     CHECK(stack_of(check_all, source) < 256 * 1024);
 }
 
+/* Arguments are judged one after the other: however many there are, they take no more than two. */
+static void try_stack_of_arguments(void)
+{
+    static char many[TERKINOHA_MOST_BYTES + 1];
+    char two[] = "import bench;\nbench::ping(1,1);\n";
+    char *at = many + sprintf(many, "import bench;\nbench::ping(1");
+    for (int i = 1; i < 30000; i++)
+        at += sprintf(at, ",1");
+    strcpy(at, ");\n");
+    CHECK(stack_of(check_longest, many) <= stack_of(check_longest, two));
+}
+
 /* As many names as may be bound and imported, and as many steps as an expression may have, each inside the next. */
 static void try_stack_of_steps(void)
 {
@@ -363,6 +389,7 @@ int main(int argc, char **argv)
     try_stack_of_lists();
     try_stack_of_steps();
     try_stack_of_calls();
+    try_stack_of_arguments();
     printf("story: each answer is that of a first call, alone and beside another thread\n");
     return lent_done();
 }
