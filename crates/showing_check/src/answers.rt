@@ -1,6 +1,5 @@
 // Whole answers: what was found, what the check program prints, and what the modes `check` and `grouped` do.
 use crate::diagnostic;
-use crate::statement;
 use checker::CheckAnswer;
 use constants::Constants;
 use libc::STDERR_FILENO;
@@ -113,7 +112,7 @@ fn judged(
         out,
         at,
     );
-    statement::statements(source, &text, tokens, stmts, checked.statements, out, p)
+    showing_held::statements(source, &text, tokens, stmts, checked.statements, out, p)
 }
 
 // The mode `check`.

@@ -1,7 +1,5 @@
 // Diagnostics: a line has its place, `E` or `W`, its kind, and its fields in the order of check.rs. What a row was is read by the
 // crate `findings`.
-use crate::texts;
-use crate::types;
 use findings::Diagnostic;
 use findings::Read;
 use findings::Side;
@@ -11,6 +9,8 @@ use rows::DiagnosticRow;
 use rows::Text;
 use rows::Ty;
 use rows::Type;
+use showing_held::texts;
+use showing_held::types;
 use wide::Wide;
 
 // The place, the severity and the kind.

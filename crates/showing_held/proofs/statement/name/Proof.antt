@@ -3,8 +3,8 @@ use mathlib.Core.Path.{_≡_}
 use Prim.Native.Nat.{_-_}
 use lib.ListN.{length}
 use borrow.Author.Needs.{needs}
-use Rattle.showing_check.proofs.statement.name.Statement.{statement}
-use Rattle.showing_check.proofs.statement.name.Tie as tie
+use Rattle.showing_held.proofs.statement.name.Statement.{statement}
+use Rattle.showing_held.proofs.statement.name.Tie as tie
 
 abbrev Inv-loop : tie.InvT-loop
 Inv-loop source tokens line column out₀ at count i₀ out i = length out ≡ length out₀

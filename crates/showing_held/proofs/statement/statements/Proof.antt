@@ -3,8 +3,8 @@ use mathlib.Core.Path.{_≡_}
 use Prim.Native.Nat.{_≤_}
 use lib.ListN.{length}
 use borrow.Author.Needs.{needs}
-use Rattle.showing_check.proofs.statement.statements.Statement.{statement}
-use Rattle.showing_check.proofs.statement.statements.Tie as tie
+use Rattle.showing_held.proofs.statement.statements.Statement.{statement}
+use Rattle.showing_held.proofs.statement.statements.Tie as tie
 
 abbrev Inv-loop : tie.InvT-loop
 Inv-loop source text tokens stmts count out₀ at stack₀ p₀ depth₀ left₀ word₀ out stack p depth left word =

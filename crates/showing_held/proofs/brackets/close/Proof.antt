@@ -3,8 +3,8 @@ use mathlib.Core.Path.{_≡_}
 use Prim.Native.Nat.{_≤_}
 use lib.ListN.{length}
 use borrow.Author.Needs.{needs}
-use Rattle.showing_check.proofs.brackets.close.Statement.{statement}
-use Rattle.showing_check.proofs.brackets.close.Tie as tie
+use Rattle.showing_held.proofs.brackets.close.Statement.{statement}
+use Rattle.showing_held.proofs.brackets.close.Tie as tie
 
 abbrev Inv-loop : tie.InvT-loop
 Inv-loop text stack₀ depth kind out₀ at p₀ closed₀ left₀ stack out p closed left =
