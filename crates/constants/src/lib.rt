@@ -68,6 +68,7 @@ impl Constants {
     pub const HOST: u64 = 14;
 
     // A copy of the table, to be lent: a constant array is made anew wherever it is named.
+    #[rattlefmt::skip]
     pub fn new() -> Self
         ensures { λ r. ⌜ (r .rows ≡ tableRows) × (r .text ≡ tableText) ⌝ }
     {

@@ -28,12 +28,11 @@ add-key-2 : tie.Need-add-key-2 Inv-loop μ-loop
 add-key-2 c = omega (arith, c .shared-slice-known .given (c .before .before .loop .i), c .before .before .loop .inv .2)
 
 loop-again : tie.Need-loop-again Inv-loop μ-loop
-loop-again c =
-    (
-      search needs,
-      key-step _ _ _ (c .before .loop-test .taken) ∙ c .before .before .loop .inv .1,
-      omega (arith, c .shared-slice-known .given (c .before .before .loop .i), c .before .before .loop .inv .2),
-    )
+loop-again c = (
+  search needs,
+  key-step _ _ _ (c .before .loop-test .taken) ∙ c .before .before .loop .inv .1,
+  omega (arith, c .shared-slice-known .given (c .before .before .loop .i), c .before .before .loop .inv .2),
+)
 
 returns : tie.Need-returns Inv-loop μ-loop
 returns c = key-end _ _ _ (c .loop-test .left) ∙ c .before .loop .inv .1
