@@ -425,12 +425,12 @@ static void put_bodies(struct text *out, const struct script *script, const terk
 static void put_value(struct text *out, const struct script *script, const terkinoha_token *token)
 {
     switch (token->kind) {
-    case TERKINOHA_IDENTIFIER: put_span(out, script, token->start, token->end); break;
-    case TERKINOHA_BOOLEAN_LITERAL: put_bool(out, token->low); break;
-    case TERKINOHA_IPV4_LITERAL: put_address(out, token->low); break;
-    case TERKINOHA_STRING_LITERAL: put_bodies(out, script, token); break;
-    case TERKINOHA_HEX_LITERAL:
-    case TERKINOHA_DEC_LITERAL: put_integer(out, token->high, token->low); break;
+    case TERKINOHA_TOKEN_IDENTIFIER: put_span(out, script, token->start, token->end); break;
+    case TERKINOHA_TOKEN_BOOLEAN_LITERAL: put_bool(out, token->low); break;
+    case TERKINOHA_TOKEN_IPV4_LITERAL: put_address(out, token->low); break;
+    case TERKINOHA_TOKEN_STRING_LITERAL: put_bodies(out, script, token); break;
+    case TERKINOHA_TOKEN_HEX_LITERAL:
+    case TERKINOHA_TOKEN_DEC_LITERAL: put_integer(out, token->high, token->low); break;
     }
 }
 
@@ -460,7 +460,7 @@ static void put_refusal(struct text *out, terkinoha_verdict verdict)
         put_place(out, verdict.line, verdict.column);
     }
     put_format(out, ": %s", terkinoha_verdict_text(verdict));
-    if (verdict.number == TERKINOHA_LEXICAL && verdict.kind == TERKINOHA_ERROR_UNEXPECTED_CHAR)
+    if (verdict.number == TERKINOHA_REFUSED_LEXICAL && verdict.kind == TERKINOHA_ERROR_UNEXPECTED_CHAR)
         put_character(out, verdict.character);
     put_string(out, "\n");
 }
@@ -490,8 +490,8 @@ static struct rooms enough_for(const struct script *script)
 static terkinoha_token as_token(const terkinoha_lexeme *lexeme)
 {
     terkinoha_token token = {lexeme->kind, 0, 0, lexeme->start, lexeme->end, lexeme->low, lexeme->high};
-    if (lexeme->class_ == TERKINOHA_CLASS_STRING) {
-        token.kind = TERKINOHA_STRING_LITERAL;
+    if (lexeme->class_ == TERKINOHA_LEXEME_STRING) {
+        token.kind = TERKINOHA_TOKEN_STRING_LITERAL;
         token.low = 1;
     }
     return token;
@@ -500,7 +500,7 @@ static terkinoha_token as_token(const terkinoha_lexeme *lexeme)
 static void put_token(struct text *out, const struct script *script, const terkinoha_token *token)
 {
     put_string(out, terkinoha_kind_text(token->kind));
-    if (token->kind >= TERKINOHA_IDENTIFIER)
+    if (token->kind >= TERKINOHA_TOKEN_IDENTIFIER)
         put_string(out, " ");
     put_value(out, script, token);
     put_string(out, "\n");
@@ -510,9 +510,9 @@ static void put_lexeme(struct text *out, const struct script *script, const terk
 {
     terkinoha_token token = as_token(lexeme);
     put_format(out, "%" PRIu64 "..%" PRIu64 " ", lexeme->start, lexeme->end);
-    if (lexeme->class_ == TERKINOHA_CLASS_TRIVIA) {
+    if (lexeme->class_ == TERKINOHA_LEXEME_TRIVIA) {
         put_string(out, "trivia\n");
-    } else if (lexeme->class_ == TERKINOHA_CLASS_ERROR) {
+    } else if (lexeme->class_ == TERKINOHA_LEXEME_ERROR) {
         put_format(out, "error: %s", terkinoha_error_text(lexeme->kind));
         if (lexeme->kind == TERKINOHA_ERROR_UNEXPECTED_CHAR)
             put_character(out, lexeme->low);
