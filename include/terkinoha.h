@@ -77,6 +77,13 @@
 extern "C" {
 #endif
 
+/* ---- version --------------------------------------------------------------------------------- */
+
+/* Another one wherever a host has to be compiled anew. A host that finds terkinoha_version() to be
+ * another number was compiled with the header of another archive, and reads rows wrongly.
+ */
+#define TERKINOHA_VERSION 2
+
 /* ---- limits ---------------------------------------------------------------------------------- */
 
 #define TERKINOHA_MOST_BYTES 65536 /* of a source, and of canonical text */
@@ -538,6 +545,9 @@ TERKINOHA_ASSERT_WORDS(size_t, 1);
 #endif
 
 /* ---- the calls, as the archive has them ------------------------------------------------------ */
+
+/* The version of the header that the archive goes with. */
+TERKINOHA_MUST_USE uint64_t terkinoha_version(void);
 
 /* Here tables are 64-bit words, and are counted in words: the room is the number of whole rows, and
  * words left over are zero too. C hosts will rather use the calls below these, which count rows;

@@ -679,6 +679,7 @@ static void try_texts(void)
 int main(void)
 {
     lent_start();
+    CHECK(terkinoha_version() == TERKINOHA_VERSION);
     try_lexings();
     try_token_rows();
     try_token_places();

@@ -9,6 +9,7 @@ ghost use Rattle.parse.specs.Entry.{ParseSource};
 ghost use Rattle.canon.specs.Entry.{CanonSource};
 ghost use Rattle.checker.specs.Entry.{CheckSource};
 ghost use Rattle.terkinoha.specs.Bodies.{none, FirstOf, NextBody, BodyAt};
+ghost use Rattle.terkinoha.specs.Version.{version};
 use canon::Canonised;
 use checker::CheckAnswer;
 use lex::Lexed;
@@ -17,6 +18,14 @@ use parse::ParseAnswer;
 use scan::Scanned;
 use scan::Scanner;
 use scan::Step;
+
+// The version of the header that this code goes with.
+#[no_mangle]
+pub extern "C" fn terkinoha_version() -> u64
+    ensures { λ r. ⌜ r ≡ version ⌝ }
+{
+    2
+}
 
 // Scans a line, which may hold byte 10, into a lent table of lexemes.
 #[no_mangle]
