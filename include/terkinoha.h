@@ -510,7 +510,7 @@ TERKINOHA_ASSERT_WORDS(size_t, 1);
 /* Here tables are 64-bit words, and are counted in words: the room is the number of whole rows, and
  * words left over are zero too. C hosts will rather use the calls below these, which count rows;
  * other languages bind these, or any function of this header: the shared library has the inline ones
- * too.
+ * too (examples/host.py).
  */
 TERKINOHA_MUST_USE terkinoha_scanned terkinoha_scan_words(const void *line, size_t line_size,
                                                           uint64_t *lexemes, size_t lexemes_words);
