@@ -2,7 +2,7 @@
  *
  * Terkinoha takes the raw bytes of a script and scans, lexes, parses, checks or canonicalises them.
  * What it finds goes into tables that the host lends. C99 or later, or C++, on x86-64 Linux. Link with
- * libterkinoha.a; it needs nothing but memcpy, memmove and memset.
+ * libterkinoha.a or libterkinoha.so; they need nothing but memcpy, memmove and memset.
  *
  *     terkinoha_token tokens[100];
  *     terkinoha_lexed lexed = terkinoha_lex(script, script_size, tokens, 100);
@@ -551,7 +551,8 @@ TERKINOHA_MUST_USE uint64_t terkinoha_version(void);
 
 /* Here tables are 64-bit words, and are counted in words: the room is the number of whole rows, and
  * words left over are zero too. C hosts will rather use the calls below these, which count rows;
- * other languages bind these.
+ * other languages bind these, or any function of this header: the shared library has the inline ones
+ * too (examples/host.py).
  */
 TERKINOHA_MUST_USE terkinoha_scanned terkinoha_scan_words(const void *line, size_t line_size,
                                                           uint64_t *lexemes, size_t lexemes_words);
