@@ -12,9 +12,9 @@ from ctypes import CDLL, Structure, c_char_p, c_size_t, c_uint64, c_void_p
 # ---- what is here of terkinoha.h; tests/c/agree holds it to that
 DONE = 0
 MOST_BYTES = 65536
-TOKEN_WORDS = 7
-NODE_WORDS = 5
-STATEMENT_WORDS = 11
+WORDS_TOKEN = 7
+WORDS_NODE = 5
+WORDS_STATEMENT = 11
 SEVERITY_ERROR = 1
 TEXT_SOURCE = 1
 
@@ -59,10 +59,10 @@ def read(name):
 def check(library, name, source):
     """The lines of a script's findings, that of its counts, and the exit status."""
     size, room = len(source), len(source) + 1  # a script never has more tokens ..
-    answer = library.terkinoha_lex(source, size, (c_uint64 * (room * TOKEN_WORDS))(), room)
+    answer = library.terkinoha_lex(source, size, (c_uint64 * (room * WORDS_TOKEN))(), room)
     if answer.verdict.number == DONE:
         room = answer.tokens  # .. nor more findings, nodes or rows of statements than tokens
-        tokens, nodes, statements = ((c_uint64 * (room * words))() for words in (TOKEN_WORDS, NODE_WORDS, STATEMENT_WORDS))
+        tokens, nodes, statements = ((c_uint64 * (room * words))() for words in (WORDS_TOKEN, WORDS_NODE, WORDS_STATEMENT))
         found = (Diagnostic * room)()
         answer = library.terkinoha_check(source, size, tokens, room, nodes, room, found, room, statements, room)
     if answer.verdict.number != DONE:
