@@ -174,12 +174,9 @@ fn lowest(
 {
     let found = leaf(source, toks, nodes, bindings, imports, i, counts);
     let out = found.out;
-    let then = found.counts;
-    Step {
-        out,
-        counts: then,
-        next: at + 1,
-    }
+    let counts = found.counts;
+    let next = at + 1;
+    Step { out, counts, next }
 }
 
 // ---- `.` and `/`
