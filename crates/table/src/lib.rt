@@ -1,3 +1,4 @@
+#![tactic(auto)]
 // Stores into lent tables. A store past the end is ignored, so that whoever fills a table counts everything and
 // judges the count at the end.
 ghost use Rattle.std.specs.Prelude.{◌≡◌, [], ◌≤◌, length, set};

@@ -1,0 +1,6 @@
+use mathlib.Core.Path.{sym}
+use lib.Seq.{set_out}
+use Rattle.table.proofs.put_byte.Goals as goal
+
+pub returns-else-i-text : goal.returns-else-i-text
+returns-else-i-text c = sym (set_out _ _ _ c.if-i-text.false)
