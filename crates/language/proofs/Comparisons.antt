@@ -1,9 +1,8 @@
 -- A search compares no more names than are bound, and there are no more searches than lets and local uses.
 use Prim.Native.Nat.{ℕ, suc, ◌+◌, ◌*◌, ◌≤◌}
-use mathlib.Core.Path.{◌≡◌, refl, sym, ap, subst, ◌∙◌}
-use mathlib.Core.Bool.{Bool, true, false}
+use mathlib.Core.Path.{◌≡◌, refl, subst}
 use mathlib.Core.List.Memᴰ
-use mathlib.Core.List.{List, [], ◌∷◌, ◌++◌, append_assoc, append-nil}
+use mathlib.Core.List.{List, [], ◌∷◌, ◌++◌, append_assoc}
 use mathlib.Core.Option.{Option, none, some}
 use native.Mathlib.Nat.{suc-mul}
 use native.Mathlib.Omega.{arith}
@@ -16,7 +15,7 @@ use Rattle.language.specs.Integers.{IntType, u16, low_bits}
 use Rattle.language.specs.Sentences.{Expr, literal, sock4, local, path, member, call, slash', Args, none_given, given, named, Stmt, import', let', expr', first_of, expr_size, args_size, stmt_size, program}
 use Rattle.language.specs.Values.{Value, is_sized, Ty, ty_void, ty_bool, ty_int, ty_ip4, ty_sock4, ty_bytes, ty_pkt, ty_pkt_gen, ty_time_jump, ty_function, ty_integer, same_ty, is_integral, fits, Param, entry_at, lookup}
 use Rattle.language.specs.Terms.{Atom, constant, Term, atom, term_at, term_type, atom_of, constant_of, function_of}
-use Rattle.language.specs.Judgements.{integral_too_large, Diag, Judged, val, err, poisoned, stopped, Judgement, judgement, fine, wrong, and_then, goes_on, Known, known, Import, Binding, Held, Turn, goes, refuses, Outcome, judged, refused, find, find_import, compared, most_imports, most_names, name_at, integer_of, unsized_of, narrowed, used, cut, widened, narrow_to, as_bool, as_bytes, as_it_is, fit, Arg, next_arg, any_named, called_name, fitted, bind_from, bind_all, of_function, applied, left_operand, right_operand, over, membered, judge, judge_args, imported, import_stmt, bound_as, bound, let_stmt, sized, told, stmt, onward, run, judge_all}
+use Rattle.language.specs.Judgements.{integral_too_large, Diag, Judged, val, err, poisoned, stopped, Judgement, judgement, fine, wrong, and_then, goes_on, Known, known, Import, Binding, Held, Turn, goes, refuses, find, find_import, compared, most_imports, most_names, name_at, integer_of, unsized_of, narrowed, used, cut, widened, narrow_to, as_bool, as_bytes, as_it_is, fit, Arg, next_arg, any_named, called_name, fitted, bind_from, bind_all, of_function, applied, left_operand, right_operand, over, membered, judge, judge_args, imported, import_stmt, bound_as, bound, let_stmt, sized, told, stmt, onward, run, judge_all}
 use Rattle.language.specs.Names.{let_names, distinct}
 use Rattle.language.specs.Numbers.{statements_of, checked, looks_by, sum, comparisons}
 use Rattle.language.specs.Comparisons.{uses_in, arg_uses, stmt_uses, all_uses, ComparisonsFew, SearchesFew}

@@ -14,7 +14,7 @@ use Rattle.language.specs.Canonical.{text}
 use Rattle.language.specs.Sentences.{Out, ok, no, Stmt, nodes}
 use Rattle.language.specs.Judgements.{Outcome, judged, refused, named_number, names_number, errors_in}
 use Rattle.language.specs.Findings.{rows_of}
-use Rattle.language.specs.Numbers.{Verdict, verdict, placed, lexical, token_place, Scanned, scanned, scan_answer, Lexed, lexed, lex_answer, Parsed, parsed_as, parse_answer, parsed_nodes, Canonised, canon_answer, Checked, refused_check, statements_of, checked, judged_within, check_answer}
+use Rattle.language.specs.Numbers.{Verdict, verdict, placed, lexical, token_place, Scanned, scanned, scan_answer, Lexed, lexed, lex_answer, Parsed, parsed_as, parse_answer, Canonised, canon_answer, Checked, statements_of, checked, judged_within, check_answer}
 use Rattle.language.specs.Names.{FirstTooMany}
 use Rattle.language.specs.Named.{NamedCall}
 use Rattle.language.specs.Exactly.{TooLong, NotUtf8, WrongLexeme, TokensExceed, Unexpected, OneMore, NodesExceed, bare, done, wrong_told, lexing, sentences, judging, parse, Reason, unexpected_token, int_out_of_range, one_too_many, scan_rows, lex_rows, parse_rows, canon_rows, check_rows, ScanExactly, LexExactly, ParseExactly, CanonExactly, CheckExactly}

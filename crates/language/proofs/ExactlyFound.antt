@@ -38,14 +38,14 @@ first_wrong_lem (i ∷ is) w e =
           (i ∷ f.0, f.1, ap (λ (xs : List Item). i ∷ xs) f.2, f.3, h f.0 ∙ f.4)
     ]
 
-none_wrong : {is : List Item} → first_wrong is ≡ none → (i : Item) (e : LexErrorKind) → Memᴰ i is → i.piece ≡ wrong e → ⊥
+none_wrong : (i : Item) {is : List Item} → first_wrong is ≡ none → (e : LexErrorKind) → Memᴰ i is → i.piece ≡ wrong e → ⊥
 unfolding first_wrong
-none_wrong z i e (Memᴰ.head {x} {xs} q) k =
+none_wrong i z e (Memᴰ.head {x} {xs} q) k =
     let p : x.piece ≡ wrong e = rw (← q) k in
     let f : first_wrong (x ∷ xs) ≡ some (record { kind = e; at = x }) = rw p in
     absent z f
-none_wrong z i e (Memᴰ.tail {x} {xs} m) k =
-    elim (sorted x x.piece refl) [ inl h ↦ absent z (h.2 xs) | inr h ↦ none_wrong (sym (h xs) ∙ z) i e m k ]
+none_wrong i z e (Memᴰ.tail {x} {xs} m) k =
+    elim (sorted x x.piece refl) [ inl h ↦ absent z (h.2 xs) | inr h ↦ none_wrong i (sym (h xs) ∙ z) e m k ]
 
 pub wrong_is_first : WrongIsFirst
-wrong_is_first is = (first_wrong_lem is, none_wrong)
+wrong_is_first is = (first_wrong_lem is, λ z i e m k. none_wrong i z e m k)

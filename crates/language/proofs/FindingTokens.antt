@@ -8,24 +8,22 @@ use mathlib.Core.List.{List, [], ◌∷◌, ◌++◌, Memᴰ}
 use mathlib.Core.Option.{Option, none, some}
 use native.Mathlib.Omega.{arith}
 use native.Mathlib.Decide.{dec_lt}
-use borrow.Author.Tests.{ltb-true, leb-true}
 use lib.Dec.{ltb, leb, eqb}
-use lib.ListN.{length, get_or}
-use Rattle.language.specs.Integers.{u16}
+use lib.ListN.{length}
 use Rattle.language.specs.Lexemes.{Tok, l_paren, r_paren, dot, double_colon, colon, semi_colon, equals, comma, slash, import_keyword, let_keyword, identifier, boolean_literal, ipv4_literal, hex_literal, dec_literal, same}
 use Rattle.language.specs.Tokens.{Content, eof, plain, name, string}
 use Rattle.language.specs.Sentences.{Expr, Args, Stmt, first_of, Out, ok, no, is, program}
 use Rattle.language.specs.Grammar.{PathNames, is_start, is_name_lem, Chain, is_literal_lem, is_address, is_sock4_lem, is_local, is_path, is_member, is_call, Slashed, is_chain, is_slash, Expression, is_expression, Argument, is_given, is_named_lem, Arguments, is_none, is_more, Bracketed, is_closed, is_last, Statement, is_import, is_let, is_expr, Program, is_end, is_next}
 use Rattle.language.specs.Values.{Value, is_integer, is_bool, is_sized, is_ip4, is_sock4, is_string, is_text, is_function, Ty, ty_void, ty_bool, ty_int, ty_ip4, ty_sock4, ty_bytes, ty_pkt, ty_pkt_gen, ty_time_jump, ty_function, ty_integer, type_of, Entry, entry, table_text, entries, entry_at, entry_name, lookup_from, lookup}
 use Rattle.language.specs.Terms.{Atom, constant, slot, Term, atom, called, divided, Terms, no_more, more, term_at, term_type, atom_of, function_of}
-use Rattle.language.specs.Judgements.{left, right, What, unknown_name, unknown_item, unknown_module, not_imported, not_a_module, not_a_value, already_bound, no_members, operand_type, not_callable, too_many_args, too_few_args, arg_type, void_value, integral_too_large, multiple_imports, discarded_value, truncated, overflow, Diag, is_error, errors_in, Judged, val, err, poisoned, stopped, Judgement, and_then, Known, known, Import, Binding, Deed, lets, emits, waits, evals, discards, deed_of, Held, held, Turn, goes, refuses, Outcome, refused, first_named, find, find_import, compared, most_imports, most_names, content, name_at, tok_value, literal_value, narrowed, used, last_item, inner_item, walk, below, bound_to, called_name, judge, judge_args, imported, import_stmt, bound_as, bound, let_stmt, does, sized, told, stmt, onward, run, judge_all}
+use Rattle.language.specs.Judgements.{What, unknown_name, unknown_item, unknown_module, not_imported, not_a_module, not_a_value, already_bound, no_members, operand_type, not_callable, too_many_args, too_few_args, arg_type, void_value, integral_too_large, multiple_imports, discarded_value, truncated, overflow, Diag, is_error, errors_in, Judged, val, err, poisoned, stopped, Judgement, and_then, Known, known, Import, Binding, Deed, lets, emits, waits, evals, discards, deed_of, Held, held, Turn, goes, refuses, Outcome, refused, first_named, find, find_import, compared, most_imports, most_names, content, name_at, tok_value, literal_value, narrowed, used, last_item, inner_item, walk, below, bound_to, called_name, judge, judge_args, imported, import_stmt, bound_as, bound, let_stmt, does, sized, told, stmt, onward, run, judge_all}
 use Rattle.language.specs.Numbers.{statements_of, found_by, held_by}
 use Rattle.language.specs.Checks.{PartOf, ModuleEntry, FunctionEntry}
 use Rattle.language.specs.Told.{PlainTy}
 use Rattle.language.specs.Slots.{Reads, ReadsAtom, ReadsAll, Makes, Slotted, none_held, one_held}
 use Rattle.language.specs.Numbered.{ends, statement_at}
 use Rattle.language.proofs.Tests.{never, both, each_side}
-use Rattle.language.proofs.Each.{Each, All, of_none, of_one, of_both, each_also, Pairs, no_pair, pairs, pairs_both}
+use Rattle.language.proofs.Each.{Each, of_none, of_one, of_both, each_also, Pairs, no_pair, pairs, pairs_both}
 use Rattle.language.proofs.SentenceOutcomes.{Every, before_end}
 use Rattle.language.proofs.GrammarSound.{found_program}
 use Rattle.language.proofs.GrammarPlaces.{names_next, chain_on, slashed_on, expr_on, arg_on, args_on_lem, list_on, chain_first, slashed_first, expr_first}

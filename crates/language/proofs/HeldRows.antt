@@ -2,7 +2,7 @@
 use Prim.Native.Nat.{ℕ, suc}
 use mathlib.Core.Path.{refl}
 use mathlib.Core.List.Memᴰ
-use mathlib.Core.List.{List, [], ◌∷◌, ◌++◌}
+use mathlib.Core.List.{List, [], ◌∷◌}
 use Rattle.language.specs.Tokens.{Content}
 use Rattle.language.specs.Terms.{Term, atom, called, divided, Terms, no_more, more, term_at}
 use Rattle.language.specs.Judgements.{Held}

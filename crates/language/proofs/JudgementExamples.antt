@@ -8,7 +8,7 @@ use Rattle.language.specs.Tokens.{Content, eof, plain, name, string}
 use Rattle.language.specs.Sentences.{let', expr', import', literal, local, path, member, slash'}
 use Rattle.language.specs.Values.{is_bool, is_sized, is_sock4, ty_bool, ty_int, ty_ip4, ty_sock4, ty_bytes, ty_integer, entries, lookup_from, table_text}
 use Rattle.language.specs.Terms.{constant, atom}
-use Rattle.language.specs.Judgements.{compared, unknown_name, unknown_item, unknown_module, not_imported, not_a_module, not_a_value, already_bound, no_members, operand_type, left, right, integral_too_large, multiple_imports, discarded_value, truncated, diag, held, discards, judged, judge_all, run, stmt, judge, judge_args, next_arg, used, narrowed, narrow_to, over, membered, and_then, walk, first_named}
+use Rattle.language.specs.Judgements.{compared, unknown_name, unknown_item, unknown_module, not_imported, not_a_module, not_a_value, already_bound, no_members, operand_type, left, right, integral_too_large, multiple_imports, discarded_value, truncated, diag, held, discards, judged, judge_all, run, stmt, judge, used, narrowed, narrow_to, over, membered, and_then, walk, first_named}
 
 a : Content
 a = name (97 ∷ [])

@@ -2,9 +2,9 @@
 -- warning. Who uses it says what is to hold (`Rules`), and of which tokens.
 use Prim.Native.Nat.{ℕ, suc, ◌+◌, ◌<◌}
 use mathlib.Core.Path.{◌≡◌, refl, sym}
-use mathlib.Core.Bool.{Bool, true, false}
+use mathlib.Core.Bool.{Bool, false}
 use mathlib.Core.List.Memᴰ
-use mathlib.Core.List.{List, [], ◌∷◌, ◌++◌}
+use mathlib.Core.List.{List, [], ◌∷◌}
 use mathlib.Core.Option.{Option, none, some}
 use native.Mathlib.Omega.{arith}
 use lib.Dec.{ltb}
@@ -14,7 +14,7 @@ use Rattle.language.specs.Integers.{IntType, u16, bits, smallest, low_bits, is_t
 use Rattle.language.specs.Sentences.{Args}
 use Rattle.language.specs.Values.{Value, is_bool, is_sized, is_sock4, Ty, ty_void, ty_bool, ty_int, ty_ip4, ty_sock4, ty_bytes, ty_pkt, ty_pkt_gen, ty_time_jump, ty_function, ty_integer, same_ty, bits_of, is_integral, fits, Param, param, entry_at}
 use Rattle.language.specs.Terms.{constant, Term, atom, called, divided, Terms, no_more, more, term_at, term_type, constant_of, function_of}
-use Rattle.language.specs.Judgements.{left, right, What, operand_type, not_callable, too_many_args, too_few_args, arg_type, void_value, integral_too_large, no_members, truncated, overflow, Diag, diag, Judged, val, err, poisoned, stopped, Judgement, judgement, fine, wrong, goes_on, and_then, ip4_of, integer_of, unsized_of, narrowed, used, cut, widened, narrow_to, as_bool, as_bytes, as_it_is, fit, Arg, arg, next_arg, any_named, fitted, bind_from, bind_all, of_function, applied, left_operand, right_operand, folded, known_ip4, known_integer, joined, over, membered}
+use Rattle.language.specs.Judgements.{left, right, What, operand_type, not_callable, too_many_args, too_few_args, arg_type, void_value, integral_too_large, no_members, truncated, overflow, Diag, diag, Judged, val, err, poisoned, stopped, Judgement, judgement, fine, wrong, goes_on, and_then, integer_of, unsized_of, narrowed, used, cut, widened, narrow_to, as_bool, as_bytes, as_it_is, fit, Arg, next_arg, any_named, fitted, bind_from, bind_all, of_function, applied, left_operand, right_operand, folded, known_ip4, known_integer, joined, over, membered}
 use Rattle.language.proofs.Tests.{each_side, by_cases}
 use Rattle.language.proofs.Each.{Each, of_none, of_one, of_both}
 

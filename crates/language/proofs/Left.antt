@@ -2,14 +2,14 @@
 use Prim.Native.Nat.{ℕ, zero, suc, ◌+◌, ◌*◌, ◌/◌, ◌≤◌, ◌<◌}
 use mathlib.Core.Path.{◌≡◌, refl, sym, ap, ◌∙◌}
 use mathlib.Core.Bool.{Bool, true, false}
-use mathlib.Core.List.{List, [], ◌∷◌, ◌++◌, append-nil}
+use mathlib.Core.List.{List, [], ◌∷◌, ◌++◌}
 use mathlib.Core.Option.{Option, none, some}
 use mathlib.Core.Logic.{◌⊎◌, inl, inr}
 use native.Mathlib.Nat.{add-zero, div-one}
 use native.Mathlib.Omega.{arith}
 use borrow.Author.Tests.{eqb-true, eqb-false, eq-eqb, ne_eqb}
 use lib.Dec.{ltb, eqb}
-use lib.ListN.{length, get_or, take, drop, length-take, length-append, get_or-eq_default}
+use lib.ListN.{length, get_or, take, drop, length-take, length-append}
 use lib.Seq.{length-take-le, take_all, split_at, get_or-take, get_or-append-add}
 use Rattle.table.specs.Table.{pad_to, flat, tabled}
 use Rattle.table.proofs.Laws.{length_tabled, tabled_none, tabled_word, tabled_past, pad_word}
@@ -24,7 +24,7 @@ use Rattle.language.specs.Judgements.{What, unknown_name, unknown_item, unknown_
 use Rattle.language.specs.Findings.{severity_of, detail, diag_row, diag_width, Row, rows_of, stmt_row, stmt_width}
 use Rattle.language.specs.Numbers.{Verdict, verdict, placed, token_place, Scanned, scan_answer, scan_table, Lexed, lex_answer, lex_table, Parsed, parsed_as, parse_answer, parsed_nodes, parse_tokens, parse_nodes, Canonised, canonised, canon_answer, canon_tokens, canon_text, Checked, refused_check, checked, found_by, held_by, rows_by, looks_by, sum, comparisons, checked_within, judged_within, check_answer, token_of, check_tokens, check_nodes, check_diags, check_stmts, statements_of}
 use Rattle.language.specs.Exactly.{parse}
-use Rattle.language.specs.Left.{AllZero, Rows, Leaves, byte_row, severe, ScanLeft, LexLeft, ParseLeft, CanonLeft, CheckLeft}
+use Rattle.language.specs.Left.{AllZero, Leaves, byte_row, severe, ScanLeft, LexLeft, ParseLeft, CanonLeft, CheckLeft}
 use Rattle.language.proofs.Names.{refused_for}
 use Rattle.language.proofs.Tests.{each_side, by_cases, both_sides}
 use Rattle.language.proofs.TokensAt.{row_width}

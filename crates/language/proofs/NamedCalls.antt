@@ -1,13 +1,13 @@
 -- Number 8 is given exactly where a call with a named argument is met.
-use Prim.Native.Nat.{ℕ, zero, suc, ◌+◌, ◌<◌}
-use mathlib.Core.Path.{◌≡◌, refl, sym, ap, ◌∙◌}
-use mathlib.Core.Bool.{Bool, true, false, false≢true}
-use mathlib.Core.List.{List, [], ◌∷◌, ◌++◌}
+use Prim.Native.Nat.{ℕ, zero, suc, ◌+◌}
+use mathlib.Core.Path.{◌≡◌, refl}
+use mathlib.Core.Bool.{Bool, true, false}
+use mathlib.Core.List.{List, [], ◌∷◌}
 use mathlib.Core.Option.{Option, none, some}
 use mathlib.Core.Logic.{◌⊎◌, inl, inr}
 use native.Mathlib.Omega.{arith}
 use borrow.Author.Tests.{ltb-true, lt-ltb, eqb-true}
-use lib.Dec.{ltb, eqb}
+use lib.Dec.{ltb}
 use lib.ListN.{length}
 use Rattle.language.specs.Choice.{if'}
 use Rattle.language.specs.Integers.{u8, u16, u32, u64}
@@ -15,10 +15,10 @@ use Rattle.language.specs.Tokens.{Content}
 use Rattle.language.specs.Sentences.{Expr, literal, sock4, local, path, member, call, slash', Args, none_given, given, named, Stmt, import', let', expr', first_of}
 use Rattle.language.specs.Values.{Value, Ty, ty_void, ty_bool, ty_int, ty_ip4, ty_sock4, ty_bytes, ty_pkt, ty_pkt_gen, ty_time_jump, ty_function, ty_integer, ty_kind, same_ty, entry_at, lookup}
 use Rattle.language.specs.Terms.{Atom, Term, atom, called, term_at, term_type, atom_of, function_of}
-use Rattle.language.specs.Judgements.{named_number, names_number, void_value, unknown_item, operand_type, left, What, Diag, Judged, val, err, poisoned, stopped, Judgement, fine, wrong, and_then, goes_on, Known, known, Import, Binding, Held, Turn, goes, refuses, Outcome, judged, refused, find, find_import, compared, most_imports, most_names, name_at, narrowed, last_item, inner_item, walk, below, bound_to, used, Arg, next_arg, any_named, called_name, bind_all, of_function, applied, left_operand, right_operand, joined, over, membered, judge, judge_args, imported, import_stmt, bound_as, bound, let_stmt, does, sized, told, stmt, onward, run, judge_all}
-use Rattle.language.specs.Named.{IsFunction, Judges, itself, object, left_operand_lem, right_operand_lem, callee, argument, JudgesArg, last, before, Met, Reaches, here, next, Holds, of_expr, of_let, NamedCall, StopsWhere, NamedRefused}
-use Rattle.language.proofs.Tests.{never, each_side, by_cases}
-use Rattle.language.proofs.Each.{Each, of_none, of_one, of_both}
+use Rattle.language.specs.Judgements.{named_number, names_number, void_value, unknown_item, operand_type, left, Diag, Judged, val, err, poisoned, stopped, Judgement, fine, wrong, and_then, goes_on, Known, known, Import, Binding, Held, Turn, goes, refuses, refused, find, find_import, most_imports, most_names, name_at, narrowed, last_item, inner_item, walk, below, bound_to, used, Arg, next_arg, any_named, called_name, bind_all, of_function, applied, left_operand, right_operand, over, judge, judge_args, imported, import_stmt, bound_as, bound, let_stmt, sized, told, stmt, onward, run}
+use Rattle.language.specs.Named.{IsFunction, Judges, itself, object, left_operand_lem, right_operand_lem, callee, argument, JudgesArg, last, before, Met, Reaches, here, next, Holds, of_expr, of_let, StopsWhere, NamedRefused}
+use Rattle.language.proofs.Tests.{never, each_side}
+use Rattle.language.proofs.Each.{Each}
 use Rattle.language.proofs.Judging.{Rules, Fine, alone, then_fine, Given, used_fine, narrow_fine, bind_all_fine, membered_fine}
 
 -- ---- what never stops

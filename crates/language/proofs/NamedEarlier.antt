@@ -7,11 +7,11 @@ use native.Mathlib.Omega.{arith}
 use Rattle.language.specs.Tokens.{Content}
 use Rattle.language.specs.Sentences.{Expr, Args, Stmt, first_of}
 use Rattle.language.specs.Grammar.{Chain, is_literal_lem, is_address, is_sock4_lem, is_local, is_path, is_member, is_call, Slashed, is_chain, is_slash, Expression, is_expression, Argument, is_given, is_named_lem, Arguments, is_none, is_more, Bracketed, is_closed, is_last, Statement, is_import, is_let, is_expr, Program, is_end, is_next}
-use Rattle.language.specs.Judgements.{named_number, names_number, Diag, stopped, Known, known, Held, Turn, goes, refuses, Outcome, refused, find, find_import, name_at, called_name, judge, judge_args, stmt, onward, run}
+use Rattle.language.specs.Judgements.{named_number, Diag, stopped, Known, known, Held, Turn, goes, refuses, refused, find, find_import, name_at, called_name, judge, judge_args, stmt, onward, run}
 use Rattle.language.specs.Names.{TooMany}
 use Rattle.language.specs.Named.{Holds, of_expr, of_let, NamedEarlier}
 use Rattle.language.proofs.Tests.{never}
-use Rattle.language.proofs.GrammarPlaces.{chain_on, slashed_on, expr_on, arg_on, list_on}
+use Rattle.language.proofs.GrammarPlaces.{chain_on, arg_on, list_on}
 use Rattle.language.proofs.GrammarMet.{grammar_met}
 use Rattle.language.proofs.Judging.{membered_fine}
 use Rattle.language.proofs.Names.{Knows, After, stmt_after, none_known}
@@ -83,6 +83,7 @@ module _ (ts : List Content) (n : ℕ) (k : Known) where
         ]
 
   held_stop : {at next : ℕ} {s : Stmt} (t : ℕ) (e : Expr) → Statement ts at s next → Holds ts k s e → (judge ts n k e).out ≡ stopped t → t < next
+  held_stop t e (is_import _ _ _) x q = elim x [ ]
   held_stop t e (is_let a b c x o) (of_let f l) q = omega (arith, expr_stop t x q, o.after)
   held_stop t e (is_expr x o) of_expr q = omega (arith, expr_stop t x q, o.after)
 

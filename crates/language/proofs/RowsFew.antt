@@ -1,7 +1,7 @@
 -- A statement has no more rows than nodes.
-use Prim.Native.Nat.{ℕ, zero, suc, ◌+◌, ◌≤◌, ◌<◌}
-use mathlib.Core.Path.{◌≡◌, refl, sym, ap, subst}
-use mathlib.Core.Bool.{Bool, true, false, not}
+use Prim.Native.Nat.{ℕ, zero, suc, ◌+◌, ◌≤◌}
+use mathlib.Core.Path.{◌≡◌, refl, subst}
+use mathlib.Core.Bool.{not}
 use mathlib.Core.List.{List, [], ◌∷◌, ◌++◌}
 use mathlib.Core.Option.{Option, none, some}
 use native.Mathlib.Omega.{arith}
@@ -14,7 +14,7 @@ use Rattle.language.specs.Tables.{content_low}
 use Rattle.language.specs.Sentences.{Expr, literal, sock4, local, path, member, call, slash', Args, none_given, given, named, Stmt, import', let', expr', first_of, expr_size, args_size, stmt_size, program_size}
 use Rattle.language.specs.Values.{Value, is_bool, is_sized, is_sock4, Ty, ty_void, ty_bool, ty_int, ty_ip4, ty_sock4, ty_bytes, ty_pkt, ty_pkt_gen, ty_time_jump, ty_function, ty_integer, same_ty, is_integral, fits, Param, entry_at, lookup}
 use Rattle.language.specs.Terms.{Atom, constant, Term, atom, called, divided, Terms, no_more, more, term_at, term_type, atom_of, constant_of, function_of}
-use Rattle.language.specs.Judgements.{What, void_value, operand_type, left, integral_too_large, unknown_item, Diag, Judged, val, err, poisoned, stopped, Judgement, judgement, fine, wrong, and_then, goes_on, Known, known, Import, Binding, lets, deed_of, Held, held, Turn, goes, refuses, Outcome, judged, refused, find, find_import, compared, most_imports, most_names, name_at, content, literal_at, integer_of, unsized_of, narrowed, last_item, inner_item, walk, below, bound_to, used, cut, widened, narrow_to, as_bool, as_bytes, as_it_is, fit, Arg, arg, next_arg, any_named, called_name, fitted, bind_from, bind_all, of_function, applied, left_operand, right_operand, folded, known_ip4, known_integer, joined, over, membered, judge, judge_args, imported, import_stmt, bound_as, bound, let_stmt, does, sized, told, stmt, onward, run, judge_all}
+use Rattle.language.specs.Judgements.{integral_too_large, unknown_item, Diag, Judged, val, err, poisoned, stopped, Judgement, judgement, fine, wrong, and_then, goes_on, Known, known, Import, Binding, lets, deed_of, Held, held, Turn, goes, refuses, Outcome, judged, refused, find, find_import, compared, most_imports, most_names, name_at, content, literal_at, integer_of, unsized_of, narrowed, last_item, inner_item, walk, below, bound_to, used, cut, widened, narrow_to, as_bool, as_bytes, as_it_is, fit, Arg, arg, next_arg, any_named, called_name, fitted, bind_from, bind_all, of_function, applied, left_operand, right_operand, folded, known_ip4, known_integer, joined, over, membered, judge, judge_args, imported, import_stmt, bound_as, bound, let_stmt, sized, told, stmt, onward, run}
 use Rattle.language.specs.Findings.{part, parts, arg_parts, rows_of}
 use Rattle.language.specs.Slots.{RowsFew}
 use Rattle.language.proofs.Tests.{never, each_side}

@@ -1,6 +1,4 @@
 -- Slots are numbered in order, and a slot that is read was made before.
-use Prim.Native.Nat.{ℕ}
-use mathlib.Core.List.{List}
 use Rattle.language.specs.Tokens.{tokens, contents}
 use Rattle.language.specs.Numbers.{checked}
 use Rattle.language.specs.Slots.{SlotsNumbered}

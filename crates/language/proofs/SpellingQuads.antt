@@ -148,12 +148,28 @@ quad_read (suc dots) o s =
     (λ f. more_again dots n s o x q f (octet_again _ (some_digits s e)) (quad_read dots (joined o x) (drop (suc n) s)))
     (λ _. tt))
 
+-- what the last of an address's numbers says
+record Last (p a : ℕ) (w : List ℕ) : Type 0 where
+  pub number : ℕ
+  pub small : number < 256
+  pub is : a ≡ p * 256 + number
+  pub spelt : w ≡ spell_digits (decimal number)
+
+last_of : {p a : ℕ} {w : List ℕ} → Octets 0 p a w → Last p a w
+last_of (last m e) = record { number = m; small = e; is = refl; spelt = refl }
+
 -- the four numbers of an address
-pub quad_again : (a : ℕ) (w : List ℕ) → Octets 3 0 a w → spell_quad a ≡ w
-quad_again a w (more i b (more j c (more k d (last m e)))) =
+four_spelt : (a i j k m : ℕ) (w : List ℕ) → i < 256 → j < 256 → k < 256 → m < 256 → a ≡ (((0 * 256 + i) * 256 + j) * 256 + k) * 256 + m
+    → w ≡ spell_digits (decimal m)
+    → spell_quad a ≡ spell_digits (decimal i) ++ 46 ∷ (spell_digits (decimal j) ++ 46 ∷ (spell_digits (decimal k) ++ 46 ∷ w))
+four_spelt a i j k m w b c d e h s =
     let p = ((0 * 256 + i) * 256 + j) * 256 + k in
     let v : (p * 256 + m) / 0x1000000 % 0x100 ≡ i = omega arith in
     let x : (p * 256 + m) / 0x10000 % 0x100 ≡ j = omega arith in
     let y : (p * 256 + m) / 0x100 % 0x100 ≡ k = omega arith in
     let z : (p * 256 + m) % 0x100 ≡ m = omega arith in
-    rw (v, x, y, z) (simp append_assoc refl)
+    rw (h, s, v, x, y, z) (simp append_assoc refl)
+
+pub quad_again : (a : ℕ) (w : List ℕ) → Octets 3 0 a w → spell_quad a ≡ w
+quad_again a w (more i b (more j c (more k d l))) =
+    let o = last_of l in four_spelt a i j k o.number _ b c d o.small o.is o.spelt

@@ -3,15 +3,15 @@ use Prim.Native.Nat.{ℕ, zero, suc, ◌≤◌}
 use mathlib.Core.Path.{◌≡◌, refl}
 use mathlib.Core.Bool.{true, ◌&&◌}
 use mathlib.Core.List.{List, [], ◌∷◌}
-use mathlib.Core.Option.{none, some}
+use mathlib.Core.Option.{none}
 use borrow.Author.Tests.{ltb-true, leb-true}
 use lib.Dec.{ltb, leb}
 use lib.ListN.{length, get_or}
-use Rattle.language.specs.Values.{Ty, Param, param, Entry, entry, table_text, entries, entry_at, FewParams}
+use Rattle.language.specs.Values.{Entry, entry, table_text, entries, entry_at, FewParams}
 use Rattle.language.specs.Terms.{function_of}
 use Rattle.language.specs.Checks.{PartOf}
 use Rattle.language.proofs.Tests.{both}
-use Rattle.language.proofs.Each.{Each, All, of_none, each_all}
+use Rattle.language.proofs.Each.{Each, All, each_all}
 use Rattle.language.proofs.Judging.{no_param}
 
 -- an entry past the end

@@ -19,47 +19,41 @@ use Rattle.language.proofs.TokenPlaces.{place, item_at, Walk, walk_end, walk_new
 
 -- a lexeme's token is a name with its bytes, or plain
 content_cases : (t : Tok) (x : List ℕ) → (content_of t x ≡ name x) ⊎ (content_of t x ≡ plain t)
-content_cases t x =
-    elim t [
-      | identifier ↦ inl refl
-      | l_paren ↦ inr refl
-      | r_paren ↦ inr refl
-      | dot ↦ inr refl
-      | double_colon ↦ inr refl
-      | colon ↦ inr refl
-      | semi_colon ↦ inr refl
-      | equals ↦ inr refl
-      | comma ↦ inr refl
-      | slash ↦ inr refl
-      | import_keyword ↦ inr refl
-      | let_keyword ↦ inr refl
-      | boolean_literal b ↦ inr refl
-      | ipv4_literal n ↦ inr refl
-      | hex_literal n ↦ inr refl
-      | dec_literal n ↦ inr refl
-    ]
+content_cases identifier x = inl refl
+content_cases l_paren x = inr refl
+content_cases r_paren x = inr refl
+content_cases dot x = inr refl
+content_cases double_colon x = inr refl
+content_cases colon x = inr refl
+content_cases semi_colon x = inr refl
+content_cases equals x = inr refl
+content_cases comma x = inr refl
+content_cases slash x = inr refl
+content_cases import_keyword x = inr refl
+content_cases let_keyword x = inr refl
+content_cases (boolean_literal b) x = inr refl
+content_cases (ipv4_literal n) x = inr refl
+content_cases (hex_literal n) x = inr refl
+content_cases (dec_literal n) x = inr refl
 
 -- it is plain only where its kind is not a name's, and its kind is not that of `Eof`
 kind_cases : (t : Tok) (x : List ℕ) → (content_kind (content_of t x) ≡ 13 → content_of t x ≡ name x) × (1 < content_kind (content_of t x))
-kind_cases t x =
-    elim t [
-      | identifier ↦ (λ k. refl, omega arith)
-      | l_paren ↦ (λ k. absurd (omega arith), omega arith)
-      | r_paren ↦ (λ k. absurd (omega arith), omega arith)
-      | dot ↦ (λ k. absurd (omega arith), omega arith)
-      | double_colon ↦ (λ k. absurd (omega arith), omega arith)
-      | colon ↦ (λ k. absurd (omega arith), omega arith)
-      | semi_colon ↦ (λ k. absurd (omega arith), omega arith)
-      | equals ↦ (λ k. absurd (omega arith), omega arith)
-      | comma ↦ (λ k. absurd (omega arith), omega arith)
-      | slash ↦ (λ k. absurd (omega arith), omega arith)
-      | import_keyword ↦ (λ k. absurd (omega arith), omega arith)
-      | let_keyword ↦ (λ k. absurd (omega arith), omega arith)
-      | boolean_literal b ↦ (λ k. absurd (omega arith), omega arith)
-      | ipv4_literal n ↦ (λ k. absurd (omega arith), omega arith)
-      | hex_literal n ↦ (λ k. absurd (omega arith), omega arith)
-      | dec_literal n ↦ (λ k. absurd (omega arith), omega arith)
-    ]
+kind_cases identifier x = (λ k. refl, omega arith)
+kind_cases l_paren x = (λ k. absurd (omega arith), omega arith)
+kind_cases r_paren x = (λ k. absurd (omega arith), omega arith)
+kind_cases dot x = (λ k. absurd (omega arith), omega arith)
+kind_cases double_colon x = (λ k. absurd (omega arith), omega arith)
+kind_cases colon x = (λ k. absurd (omega arith), omega arith)
+kind_cases semi_colon x = (λ k. absurd (omega arith), omega arith)
+kind_cases equals x = (λ k. absurd (omega arith), omega arith)
+kind_cases comma x = (λ k. absurd (omega arith), omega arith)
+kind_cases slash x = (λ k. absurd (omega arith), omega arith)
+kind_cases import_keyword x = (λ k. absurd (omega arith), omega arith)
+kind_cases let_keyword x = (λ k. absurd (omega arith), omega arith)
+kind_cases (boolean_literal b) x = (λ k. absurd (omega arith), omega arith)
+kind_cases (ipv4_literal n) x = (λ k. absurd (omega arith), omega arith)
+kind_cases (hex_literal n) x = (λ k. absurd (omega arith), omega arith)
+kind_cases (dec_literal n) x = (λ k. absurd (omega arith), omega arith)
 
 module _ (source : List ℕ) where
   -- from `at` on the source has s

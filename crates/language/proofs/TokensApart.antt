@@ -9,7 +9,7 @@ use native.Mathlib.Decide.{dec_lt}
 use lib.Dec.{eqb}
 use lib.ListN.{length, get_or}
 use Rattle.language.specs.Choice.{if'}
-use Rattle.language.specs.Tokens.{Token, Line, line_at, onto, lines_from, lines, Place, place_from, place_of, Ordered, ordered_one, tokens, eof_token}
+use Rattle.language.specs.Tokens.{Token, Line, line_at, onto, lines_from, lines, Place, place_from, Ordered, ordered_none, ordered_one, tokens, eof_token}
 use Rattle.language.specs.Numbers.{token_of}
 use Rattle.language.specs.Told.{TokensApart}
 use Rattle.language.proofs.Tests.{each_side, both_sides}
@@ -77,11 +77,13 @@ line_inside l c at (b ∷ s) (suc a) h =
 
 -- a later token starts where an earlier ends, or after it
 starts_after : {at : ℕ} {ts : List Token} (d : Token) → Ordered at ts → (j : ℕ) → j < length ts → at ≤ (get_or ts j d).start
+starts_after d ordered_none j h = absurd (omega arith)
 starts_after d (ordered_one t a b o) zero h = a
 starts_after d (ordered_one {at} {ts} t a b o) (suc j) h = omega (arith, starts_after d o j (omega arith))
 
 ends_before : {at : ℕ} {ts : List Token} (d : Token) → Ordered at ts → (i j : ℕ) → i < j → j < length ts
     → (get_or ts i d).end ≤ (get_or ts j d).start
+ends_before d ordered_none i j h k = absurd (omega arith)
 ends_before d (ordered_one t a b o) zero (suc j) h k = starts_after d o j (omega arith)
 ends_before d (ordered_one t a b o) (suc i) (suc j) h k = ends_before d o i j (omega arith) (omega arith)
 ends_before d (ordered_one t a b o) i zero h k = absurd (omega arith)

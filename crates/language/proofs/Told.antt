@@ -3,20 +3,20 @@ use Prim.Native.Nat.{ℕ, zero, suc, ◌+◌, ◌*◌, ◌/◌, ◌%◌, ◌<◌
 use mathlib.Core.Path.{◌≡◌, refl, sym, ap, ◌∙◌}
 use mathlib.Core.Bool.{Bool, true, false}
 use mathlib.Core.List.{List, [], ◌∷◌, ◌++◌, map, append_assoc, Memᴰ}
-use mathlib.Core.Option.{none, some}
+use mathlib.Core.Option.{some}
 use native.Mathlib.Nat.{div-add-mod'}
 use native.Mathlib.Omega.{arith}
 use borrow.Author.Tests.{eqb-true, eqb-false}
 use lib.Dec.{eqb}
 use lib.ListN.{length, get_or}
 use Rattle.language.specs.Choice.{if'}
-use Rattle.language.specs.Lexemes.{Tok, l_paren, r_paren, dot, double_colon, colon, semi_colon, equals, comma, slash, import_keyword, let_keyword, identifier, boolean_literal, ipv4_literal, hex_literal, dec_literal, LexErrorKind, unexpected_char, unterminated_string, int_out_of_range, int_leading_zero, int_invalid_suffix, bad_ipv4_literal, Kind, trivia, str, tok, error, Placed}
-use Rattle.language.specs.Tables.{tok_kind, bit, word_limit, tok_low, tok_high, error_kind, error_char, class_of, kind_of, low_of, high_of, lexeme_row, content_kind, content_low, content_high, token_row}
-use Rattle.language.specs.Integers.{IntType, u8, u16, u32, u64}
+use Rattle.language.specs.Lexemes.{Tok, l_paren, r_paren, dot, double_colon, colon, semi_colon, equals, comma, slash, import_keyword, let_keyword, identifier, boolean_literal, ipv4_literal, hex_literal, dec_literal, LexErrorKind, unexpected_char, unterminated_string, int_out_of_range, int_leading_zero, int_invalid_suffix, bad_ipv4_literal, Kind, trivia, str, tok, error}
+use Rattle.language.specs.Tables.{tok_kind, word_limit, tok_low, tok_high, error_kind, error_char, class_of, kind_of, low_of, high_of, lexeme_row, content_kind, content_low, content_high, token_row}
+use Rattle.language.specs.Integers.{u8, u16, u32, u64}
 use Rattle.language.specs.Tokens.{Content, eof, plain, name, string, Token, tokens, contents, between, bodies_in}
 use Rattle.language.specs.Values.{Value, is_integer, is_bool, is_sized, is_ip4, is_sock4, is_string, is_text, is_function, Ty, ty_void, ty_bool, ty_int, ty_ip4, ty_sock4, ty_bytes, ty_pkt, ty_pkt_gen, ty_time_jump, ty_function, ty_integer, ty_kind, type_of, entries, entry_at}
 use Rattle.language.specs.Terms.{constant, slot, Term, atom, called, divided, Terms, no_more, more, count, term_at, term_type}
-use Rattle.language.specs.Judgements.{Side, left, right, What, unknown_name, unknown_item, unknown_module, not_imported, not_a_module, not_a_value, already_bound, no_members, operand_type, not_callable, too_many_args, too_few_args, arg_type, void_value, integral_too_large, multiple_imports, discarded_value, truncated, overflow, Diag, Deed, lets, emits, waits, evals, discards, Held}
+use Rattle.language.specs.Judgements.{Side, left, right, What, unknown_name, unknown_item, unknown_module, not_imported, not_a_module, not_a_value, already_bound, no_members, operand_type, not_callable, too_many_args, too_few_args, arg_type, void_value, integral_too_large, multiple_imports, discarded_value, truncated, overflow, Deed, lets, emits, waits, evals, discards, Held}
 use Rattle.language.specs.Findings.{ty_entry, side_kind, Detail, detail, diag_row, value_text, shown_low, shown_high, Row, row, part, parts, arg_parts, rows_of, deed_kind, deed_slot, form_of, term_text, term_low, term_high, stmt_row}
 use Rattle.language.specs.Numbers.{checked}
 use Rattle.language.specs.Told.{LexemesDetermine, TokensDetermine, BodiesCounted, Apart, RealTy, PlainTy, RealValue, RealTerm, RealTerms, RealHeld, RealWhat, FindingsDetermine, StatementsDetermine, CheckedReal}

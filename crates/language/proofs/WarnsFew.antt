@@ -1,19 +1,19 @@
 -- An expression has no more warnings than nodes.
-use Prim.Native.Nat.{ℕ, zero, suc, ◌+◌, ◌≤◌}
-use mathlib.Core.Path.{◌≡◌, refl, sym, ap, subst}
-use mathlib.Core.Bool.{Bool, true, false, not}
+use Prim.Native.Nat.{ℕ, suc, ◌+◌, ◌≤◌}
+use mathlib.Core.Path.{◌≡◌, refl, ap}
+use mathlib.Core.Bool.{Bool, true, false}
 use mathlib.Core.List.{List, [], ◌∷◌, ◌++◌}
 use mathlib.Core.Option.{Option, none, some}
 use native.Mathlib.Omega.{arith}
-use lib.Dec.{ltb, eqb}
+use lib.Dec.{ltb}
 use lib.ListN.{length, length-append}
 use Rattle.language.specs.Choice.{if'}
 use Rattle.language.specs.Integers.{IntType, u16, bits, low_bits, is_truncated}
 use Rattle.language.specs.Tokens.{Content}
 use Rattle.language.specs.Sentences.{Expr, literal, sock4, local, path, member, call, slash', Args, none_given, given, named, first_of, expr_size, args_size}
 use Rattle.language.specs.Values.{Value, is_sized, Ty, ty_void, ty_bool, ty_int, ty_ip4, ty_sock4, ty_bytes, ty_pkt, ty_pkt_gen, ty_time_jump, ty_function, ty_integer, same_ty, bits_of, is_integral, fits, Param, entry_at}
-use Rattle.language.specs.Terms.{constant, Term, atom, called, Terms, term_at, term_type, constant_of, function_of}
-use Rattle.language.specs.Judgements.{Diag, Judged, val, err, poisoned, stopped, Judgement, judgement, fine, wrong, and_then, goes_on, Known, integer_of, unsized_of, narrowed, used, cut, widened, narrow_to, as_bool, as_bytes, as_it_is, integral_too_large, fit, Arg, arg, next_arg, any_named, called_name, fitted, bind_from, bind_all, of_function, applied, left_operand, right_operand, joined, over, membered, judge, judge_args}
+use Rattle.language.specs.Terms.{constant, Term, atom, called, term_at, term_type, constant_of, function_of}
+use Rattle.language.specs.Judgements.{Diag, Judged, val, err, poisoned, stopped, Judgement, judgement, fine, wrong, and_then, goes_on, Known, integer_of, unsized_of, narrowed, used, cut, widened, narrow_to, as_bool, as_bytes, as_it_is, integral_too_large, fit, Arg, arg, next_arg, any_named, called_name, fitted, bind_from, bind_all, of_function, applied, left_operand, right_operand, over, membered, judge, judge_args}
 use Rattle.language.proofs.Tests.{never, each_side}
 
 -- a judgement has at most b warnings, and where it comes to a value that many fewer as the value saves

@@ -4,8 +4,8 @@ use Rattle.std.specs.Prelude.{ℕ, suc, ◌/◌, ◌%◌, List, [], ◌∷◌, �
 use Rattle.language.specs.Choice.{if'}
 use Rattle.language.specs.Tokens.{Token}
 use Rattle.language.specs.Tables.{bit, word_limit}
-use Rattle.language.specs.Values.{Value, is_integer, is_bool, is_sized, is_ip4, is_sock4, is_string, is_text, is_function, Ty, ty_void, ty_bool, ty_int, ty_ip4, ty_sock4, ty_bytes, ty_pkt, ty_pkt_gen, ty_time_jump, ty_function, ty_integer, int_kind, ty_kind, type_of, entry_at}
-use Rattle.language.specs.Terms.{Atom, constant, slot, Term, atom, called, divided, Terms, no_more, more, count, term_at, term_type}
+use Rattle.language.specs.Values.{Value, is_integer, is_bool, is_sized, is_ip4, is_sock4, is_string, is_text, is_function, Ty, ty_void, ty_bool, ty_int, ty_ip4, ty_sock4, ty_bytes, ty_pkt, ty_pkt_gen, ty_time_jump, ty_function, ty_integer, int_kind, ty_kind, entry_at}
+use Rattle.language.specs.Terms.{constant, slot, Term, atom, called, divided, Terms, no_more, more, count, term_at, term_type}
 use Rattle.language.specs.Judgements.{Side, left, right, What, unknown_name, unknown_item, unknown_module, not_imported, not_a_module, not_a_value, already_bound, no_members, operand_type, not_callable, too_many_args, too_few_args, arg_type, void_value, integral_too_large, multiple_imports, discarded_value, truncated, overflow, Diag, is_error, Deed, lets, emits, waits, evals, discards, Held}
 
 -- a number that only a function's type has

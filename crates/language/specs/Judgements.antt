@@ -8,8 +8,8 @@ use Rattle.language.specs.Lexemes.{Tok, l_paren, r_paren, dot, double_colon, col
 use Rattle.language.specs.Tokens.{Content, eof, plain, name, string}
 use Rattle.language.specs.Tables.{bit, content_low}
 use Rattle.language.specs.Sentences.{Expr, literal, sock4, local, path, member, call, slash', Args, none_given, given, named, Stmt, import', let', expr', first_of}
-use Rattle.language.specs.Values.{Value, is_integer, is_bool, is_sized, is_ip4, is_sock4, is_string, is_text, is_function, Ty, ty_void, ty_bool, ty_int, ty_ip4, ty_sock4, ty_bytes, ty_pkt, ty_pkt_gen, ty_time_jump, ty_function, ty_integer, same_ty, bits_of, is_integral, fits, type_of, Param, entry_at, lookup}
-use Rattle.language.specs.Terms.{Atom, constant, slot, Term, atom, called, divided, Terms, no_more, more, term_at, term_type, atom_of, value_in, constant_of, function_of}
+use Rattle.language.specs.Values.{Value, is_integer, is_bool, is_sized, is_ip4, is_sock4, is_string, is_text, is_function, Ty, ty_void, ty_bool, ty_int, ty_ip4, ty_sock4, ty_bytes, ty_pkt, ty_pkt_gen, ty_time_jump, ty_function, ty_integer, same_ty, bits_of, is_integral, fits, Param, entry_at, lookup}
+use Rattle.language.specs.Terms.{Atom, constant, slot, Term, atom, called, divided, Terms, no_more, more, term_at, term_type, atom_of, constant_of, function_of}
 
 -- "8 is from now on, at its `(`, a call with a named argument whose callee was judged to be a function" (02, E2)
 abbrev pub named_number : ℕ

@@ -1,6 +1,6 @@
 -- What each entry answers and leaves (01, "Numbers handed back"): one test after the other, in the order of its table.
 use Rattle.std.specs.Prelude.{ℕ, suc, ◌+◌, ◌/◌, ◌≡◌, List, [], ◌∷◌, ltb, eqb, length, get_or}
-use Rattle.std.proofs.Math.Option.{Option, none, some}
+use Rattle.std.proofs.Math.Option.{none, some}
 use Rattle.table.specs.Table.{pad_to, tabled}
 use Rattle.language.specs.Choice.{if'}
 use Rattle.language.specs.Canonical.{text, Lexes, Fits}

@@ -2,7 +2,7 @@
 -- every place that hir.rs has. A place is the index of a token.
 use Rattle.std.specs.Prelude.{ℕ, suc}
 use Rattle.std.proofs.Math.Option.{Option, none, some}
-use Rattle.language.specs.Values.{Value, is_integer, is_bool, is_sized, is_ip4, is_sock4, is_string, is_text, is_function, Ty, ty_void, ty_bool, ty_int, ty_ip4, ty_sock4, ty_bytes, ty_pkt, ty_pkt_gen, ty_time_jump, ty_function, ty_integer, type_of, entry_at}
+use Rattle.language.specs.Values.{Value, Ty, ty_void, ty_bool, ty_int, ty_ip4, ty_sock4, ty_bytes, ty_pkt, ty_pkt_gen, ty_time_jump, ty_function, ty_integer, type_of, entry_at}
 
 -- what a name can stand for (check.rs `BindState`): a constant, or the slot of a value that is not known before the run, with its
 -- type

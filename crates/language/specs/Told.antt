@@ -3,7 +3,6 @@
 use Rattle.std.specs.Prelude.{ℕ, ◌<◌, ◌≡◌, length, get_or}
 use mathlib.Core.List.{List, [], ◌∷◌, map, Memᴰ}
 use Rattle.std.proofs.Math.Option.{none, some}
-use Rattle.language.specs.Integers.{IntType}
 use Rattle.language.specs.Lexemes.{Placed}
 use Rattle.language.specs.Tokens.{Token, tokens, between, bodies_in}
 use Rattle.language.specs.Tables.{lexeme_row, token_row}

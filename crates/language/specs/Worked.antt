@@ -1,6 +1,6 @@
 -- Rows worked out by hand from docs/TABLES.md, word by word: each kind of finding, of statement and of value once, and blanks at
 -- the edges of their ranges. The order of the words, the numbers of the kinds and the two words of a number can be read here.
-use Rattle.std.specs.Prelude.{ℕ, ◌+◌, ◌≡◌, Bool, true, false, List, [], ◌∷◌, ◌++◌, map, length}
+use Rattle.std.specs.Prelude.{ℕ, ◌≡◌, true, false, List, [], ◌∷◌, ◌++◌, map, length}
 use Prim.Native.String.{String}
 use Rattle.table.specs.Table.{flat}
 use Rattle.language.specs.Lexemes.{is_blank}
