@@ -1,3 +1,4 @@
+#![tactic(auto)]
 // The arguments of a call: all are judged before the first is fitted, and no more is kept of them than a function has parameters.
 // Ports bind.rs.
 ghost use Rattle.std.specs.Prelude.{◌≡◌, List, [], ◌∷◌, ◌++◌, ℕ, ◌+◌, ◌≤◌, ◌<◌, length, get_or};
@@ -16,7 +17,7 @@ use rows::StatementRow;
 use values::{Judged, Judgement, Term};
 
 // An argument that was judged: what it comes to, the row that is kept for it, and its first token.
-#[derive(Drop)]
+#[derive(Clone, Copy)]
 pub struct Given {
     pub term: Term,
     pub row: usize,
@@ -24,7 +25,7 @@ pub struct Given {
 }
 
 // The first two arguments, the first token of the third, and how many there are. No function has more than two parameters.
-#[derive(Drop)]
+#[derive(Clone, Copy)]
 pub struct Kept {
     pub first: Given,
     pub second: Given,

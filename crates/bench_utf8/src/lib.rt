@@ -1,3 +1,4 @@
+#![tactic(auto)]
 // The UTF-8 pass by itself, for the benchmark: the library's entries have no call that does no more.
 ghost use Rattle.std.specs.Prelude.{◌≡◌};
 ghost use Rattle.bench_utf8.specs.Place.{bad_or_end};

@@ -1,3 +1,4 @@
+#![tactic(auto)]
 // Canonical text: the tokens of a source, spelt in one way. The definition is `Canonical` of the crate `language`. The crate
 // `writer` counts bytes past the end of the lent text and does not keep them, and the count is judged at the end.
 ghost use Rattle.std.specs.Prelude.{◌≡◌, [], ◌∷◌, ◌+◌, ◌≤◌, length};
@@ -17,7 +18,7 @@ use scan::{Scanner, Step};
 use wide::Wide;
 
 #[repr(C)]
-#[derive(Drop)]
+#[derive(Clone, Copy)]
 pub struct Canonised {
     pub verdict: Verdict,
     pub tokens: u64,

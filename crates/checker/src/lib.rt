@@ -1,3 +1,4 @@
+#![tactic(auto)]
 // The checker: a source into four lent tables. Ports check.rs's counts and refusals, and its entry; the definitions are
 // `Numbers` of the crate `language`.
 ghost use Rattle.std.specs.Prelude.{◌≡◌, List, [], ℕ, ◌*◌, ◌≤◌, length, take};
@@ -15,7 +16,7 @@ use rows::{NodeRow, StatementRow, TokenRow, Verdict};
 use statements::Outcome;
 
 #[repr(C)]
-#[derive(Drop)]
+#[derive(Clone, Copy)]
 pub struct CheckAnswer {
     pub verdict: Verdict,
     pub tokens: u64,

@@ -1,3 +1,4 @@
+#![tactic(auto)]
 // The constant table of 01, "Judgements": the module `bench`, its texts and its values, and the search of a name among a
 // module's entries.
 //
@@ -11,7 +12,7 @@ ghost use Rattle.constants.specs.Constants.{entry_width, entry_count, table_rows
 use rows::Ty;
 
 // A parameter of a function: the number of its type, and where its name starts and ends in the table's text.
-#[derive(Drop)]
+#[derive(Clone, Copy)]
 pub struct Parameter {
     pub ty: u64,
     pub start: u64,
@@ -20,7 +21,7 @@ pub struct Parameter {
 
 // What a function gives and takes: the number of a type, how many parameters there are, and two of them. What is no function
 // gives `VOID` and takes none; parameters that are not there have the type `VOID` and no name.
-#[derive(Drop)]
+#[derive(Clone, Copy)]
 pub struct Signature {
     pub gives: u64,
     pub params: u64,
@@ -28,7 +29,7 @@ pub struct Signature {
     pub second: Parameter,
 }
 
-#[derive(Drop)]
+#[derive(Clone, Copy)]
 pub struct Constants {
     pub rows: [u64; Constants::WORDS],
     pub text: [u8; Constants::BYTES],

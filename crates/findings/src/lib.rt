@@ -1,3 +1,4 @@
+#![tactic(auto)]
 // Findings: what a check finds, from the kind and its token to a row of the diagnostic table and back. `report` is the one
 // place that counts a finding and stores its row.
 ghost use Rattle.std.specs.Prelude.{◌≡◌, ◌+◌, ◌<◌, ◌≤◌};
@@ -10,7 +11,7 @@ use rows::{DiagnosticRow, Text, Token, Ty, Type};
 use wide::Wide;
 
 // The operand of `/` that a finding is about.
-#[derive(Drop)]
+#[derive(Clone, Copy)]
 pub enum Side {
     Left,
     Right,
@@ -33,7 +34,7 @@ impl Side {
 
 // What was found: check.rs `SemanticErrorKind` and `WarningKind`, as far as the port goes. The name that a kind shows is in
 // its `Diagnostic`.
-#[derive(Drop)]
+#[derive(Clone, Copy)]
 pub enum What {
     UnknownName,
     // the entry of the innermost module in the constant table
@@ -136,7 +137,7 @@ impl What {
 }
 
 // A finding and its place. `start` and `end` are the span of the name that its kind shows, 0 where it shows none.
-#[derive(Drop)]
+#[derive(Clone, Copy)]
 pub struct Diagnostic {
     pub line: u64,
     pub column: u64,
@@ -159,7 +160,7 @@ impl Diagnostic {
 }
 
 // What a row was, or that no finding has such a row.
-#[derive(Drop)]
+#[derive(Clone, Copy)]
 pub enum Read {
     Is(Diagnostic),
     Nothing,
@@ -168,7 +169,7 @@ pub enum Read {
 // How many names are bound and imported, how many slots are taken, how many errors and warnings there are, how many rows the held
 // statements have, the number of the statement that is judged (1 for the first, 0 before it), and how many names were compared in
 // searches among the bindings.
-#[derive(Drop)]
+#[derive(Clone, Copy)]
 pub struct Counts {
     pub used: usize,
     pub imported: usize,

@@ -9,7 +9,7 @@ use rows::{DiagnosticRow, Ty, Type};
 use wide::Wide;
 
 // What a row can have been.
-#[derive(Drop)]
+#[derive(Clone, Copy)]
 enum Guess {
     Is(What),
     Nothing,

@@ -1,3 +1,4 @@
+#![tactic(auto)]
 // Fitting a value to a type that is wanted. Ports check.rs `narrow_to` and `fit`.
 ghost use Rattle.std.specs.Prelude.{◌≡◌, List, ℕ, ◌+◌, ◌≤◌, ◌<◌, length};
 ghost use Rattle.language.specs.Tables.{token_width};

@@ -1,3 +1,4 @@
+#![tactic(auto)]
 // The table of what is held: the row of a statement, and those of the parts of its expression. Ports what hir.rs keeps.
 ghost use Rattle.std.specs.Prelude.{List, ℕ, ◌≤◌, ◌<◌, length};
 ghost use Rattle.language.specs.Tables.{token_width};
@@ -10,7 +11,7 @@ use values::{Judged, Term};
 
 // What judging comes to, the counts then, and the next free row of the table of what is held. Where an expression comes to a value,
 // the rows of its parts were written; its own row is kept free, for whoever asked to write it.
-#[derive(Drop)]
+#[derive(Clone, Copy)]
 pub struct Step {
     pub out: Judged,
     pub counts: Counts,

@@ -1,3 +1,4 @@
+#![tactic(auto)]
 // Judging expressions: what the rows of a tree come to. Ports the expression part of check.rs; the definitions are
 // `Judgements` and `Findings` of the crate `language`. Warnings are reported as they are found, an error is handed back.
 //
@@ -25,7 +26,7 @@ use rows::{NodeKind, NodeRow, StatementRow, Token, Ty};
 use values::{Judged, Judgement, Term};
 
 // How deep a left spine was gone down, and to which row.
-#[derive(Drop)]
+#[derive(Clone, Copy)]
 pub struct Spine {
     pub depth: usize,
     pub row: usize,
@@ -37,7 +38,7 @@ impl Spine {
 }
 
 // What a call's callee came to: the token of the called name and the function's entry, or what the call comes to already.
-#[derive(Drop)]
+#[derive(Clone, Copy)]
 pub enum Callee {
     Function(u64, u64),
     Ends(Judged),

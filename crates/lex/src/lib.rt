@@ -1,3 +1,4 @@
+#![tactic(auto)]
 // The lexer: from raw source to tokens. Ports lex.rs `Lexer`, `Token` and `PendingStr`; the definitions are `Tokens` of
 // the crate `language`.
 ghost use Rattle.std.specs.Prelude.{◌≡◌, ◌+◌, ◌≤◌, length};
@@ -13,7 +14,7 @@ use utf8::Bad;
 
 // The string token that is not written yet, because the next literal may belong to it: the place of its first literal, its
 // span so far, and how many literals it has. With 0 of them there is no such token.
-#[derive(Drop)]
+#[derive(Clone, Copy)]
 pub struct PendingStr {
     pub line: u64,
     pub column: u64,
@@ -23,7 +24,7 @@ pub struct PendingStr {
 }
 
 // What is known between two lines. The tokens themselves are in the lent table.
-#[derive(Drop)]
+#[derive(Clone, Copy)]
 pub struct Lexer {
     // The number of the last line, 0 before the first.
     pub lno: u64,
@@ -34,21 +35,21 @@ pub struct Lexer {
 }
 
 // What feeding came to: the lexer goes on, or it stops with number 3 at the first error.
-#[derive(Drop)]
+#[derive(Clone, Copy)]
 pub enum Fed {
     Goes(Lexer),
     Stops(Verdict),
 }
 
 // A line and a column, both from 1.
-#[derive(Drop)]
+#[derive(Clone, Copy)]
 pub struct Loc {
     pub line: u64,
     pub column: u64,
 }
 
 #[repr(C)]
-#[derive(Drop)]
+#[derive(Clone, Copy)]
 pub struct Lexed {
     pub verdict: Verdict,
     pub tokens: u64,

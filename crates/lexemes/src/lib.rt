@@ -1,3 +1,4 @@
+#![tactic(auto)]
 // Lexemes: what the scanner finds at one place of a line, and the words of a lexeme's row. Ports lex.rs `Lexeme`, `LexemeKind`
 // and `LexErrorKind`; the definitions are `Lexemes` and `Tables` of the crate `language`.
 ghost use Rattle.std.specs.Prelude.{◌≡◌};
@@ -7,7 +8,7 @@ use rows::{LexemeRow, Tok};
 use wide::Wide;
 
 // Why a lexeme is none of the language's.
-#[derive(Drop)]
+#[derive(Clone, Copy)]
 pub enum LexErrorKind {
     // The character begins nothing. A whole word has its number, so that an error lies in memory as a token does:
     // else both are read by one load that is wider than what was stored, and such a load waits for the stores.
@@ -63,7 +64,7 @@ impl LexErrorKind {
 }
 
 // What a lexeme is.
-#[derive(Drop)]
+#[derive(Clone, Copy)]
 pub enum LexemeKind {
     // White space or a comment.
     Trivia,
@@ -84,7 +85,7 @@ impl LexemeKind {
     pub const ERROR: u64 = 4;
 }
 
-#[derive(Drop)]
+#[derive(Clone, Copy)]
 pub struct Lexeme {
     pub start: usize,
     pub end: usize,

@@ -1,3 +1,4 @@
+#![tactic(auto)]
 // Names: the tables of what is bound and imported, and the search of a name in one. Ports check.rs's `HashMap`s: a fixed number
 // of entries, searched in order of binding.
 //
@@ -9,7 +10,7 @@ ghost use Rattle.names.specs.Names.{name_width, key_of, key_at, name_word, name_
 
 // A name and what it stands for: where it starts and ends in the source, its token, and a form and three words that say what it
 // stands for. The form is 0 where the name's statement failed, and of an import, whose kind is the number of its module.
-#[derive(Drop)]
+#[derive(Clone, Copy)]
 pub struct Entry {
     pub key: u64,
     pub start: u64,
@@ -50,7 +51,7 @@ impl Entry {
 
 // Where a search stopped: the number of the entry, or how many there are where none has the name; and how many names it compared:
 // one for each entry up to there, also where keys spared a look at the bytes.
-#[derive(Drop)]
+#[derive(Clone, Copy)]
 pub struct Found {
     pub at: usize,
     pub compared: usize,

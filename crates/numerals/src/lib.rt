@@ -1,3 +1,4 @@
+#![tactic(auto)]
 // Numbers: the integer that a word is, and dotted quads. Ports the integer and IPv4 literals of lex.rs `Scanner`; the
 // definitions are `Lexemes` of the crate `language`.
 ghost use Rattle.std.specs.Prelude.{◌≡◌, ◌≤◌, ◌<◌, length, drop};
@@ -16,7 +17,7 @@ use wide::{Scaled, Wide};
 // ---- digits
 
 // What reading digits came to.
-#[derive(Drop)]
+#[derive(Clone, Copy)]
 pub enum Number {
     Value(Wide),
     Wrong(LexErrorKind),
@@ -121,7 +122,7 @@ pub fn integer(line: &[u8], at: usize, end: usize) -> LexemeKind
 // ---- quads
 
 // A number of a quad, or the address that several make.
-#[derive(Drop)]
+#[derive(Clone, Copy)]
 pub enum Octet {
     Good(u32),
     Bad,
@@ -149,7 +150,7 @@ fn quad_part(line: &[u8], at: usize, end: usize) -> Octet
     Octet::Bad
 }
 
-#[derive(Drop)]
+#[derive(Clone, Copy)]
 pub enum Quad {
     // Four runs of digits with dots between: where they end, and their address.
     Dotted(usize, Octet),

@@ -1,3 +1,4 @@
+#![tactic(auto)]
 // The parser: trees as flat nodes. Ports parse.rs and ast.rs; the definitions are `Sentences` of the crate `language`.
 // A node is stored after its children, so a child is named by its row, which is always a smaller number. An argument names the
 // next one by its row too: it is told that number once the next one is stored. A store past the table's end is lost, and every
@@ -14,7 +15,7 @@ ghost use Rattle.parse.specs.Parsing.{literal_kind, port_at, port_as, is_named, 
 use rows::{NodeKind, NodeRow, Tok, TokKind, TokenRow, Verdict};
 
 // What a part of the grammar came to.
-#[derive(Drop)]
+#[derive(Clone, Copy)]
 pub enum Parsed {
     // the next token, how many nodes there are then, and the steps that are left
     Done(usize, usize, usize),
@@ -23,14 +24,14 @@ pub enum Parsed {
 }
 
 // The same of arguments.
-#[derive(Drop)]
+#[derive(Clone, Copy)]
 pub enum Listed {
     // the next token, how many nodes there are then, and the row of the first argument plus 1, 0 where there is none
     Done(usize, usize, usize),
     Refused(u64, u64, usize),
 }
 
-#[derive(Drop)]
+#[derive(Clone, Copy)]
 pub enum PortIs {
     Good,
     TooLarge,
@@ -38,14 +39,14 @@ pub enum PortIs {
 }
 
 // How an argument begins: the kind of its node, and the token where its value starts.
-#[derive(Drop)]
+#[derive(Clone, Copy)]
 pub struct ArgHead {
     pub kind: u64,
     pub value: usize,
 }
 
 // The expression that is being parsed.
-#[derive(Drop)]
+#[derive(Clone, Copy)]
 pub struct Parser {
     // its first token
     pub first: usize,
@@ -509,7 +510,7 @@ pub fn program(toks: &[u64], nodes: &mut [u64]) -> Parsed
 // ---- the entry
 
 #[repr(C)]
-#[derive(Drop)]
+#[derive(Clone, Copy)]
 pub struct ParseAnswer {
     pub verdict: Verdict,
     pub tokens: u64,

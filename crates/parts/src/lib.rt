@@ -1,3 +1,4 @@
+#![tactic(auto)]
 // Parts of a slice, and comparing bytes.
 ghost use Rattle.std.specs.Prelude.{◌≡◌};
 ghost use Rattle.language.specs.Lexemes.{same};

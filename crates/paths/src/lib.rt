@@ -1,3 +1,4 @@
+#![tactic(auto)]
 // Paths through the constant table: `module::inner*::item`, below a module that was imported. Ports check.rs `path`.
 ghost use Rattle.std.specs.Prelude.{◌≡◌, List, ℕ};
 ghost use Rattle.language.specs.Tokens.{tokens, contents};

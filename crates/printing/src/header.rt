@@ -5,7 +5,7 @@ use crate::input::digit;
 use crate::words::find;
 use parts::same;
 
-#[derive(Drop)]
+#[derive(Clone, Copy)]
 pub enum Mode {
     // rows
     Scan,
@@ -24,21 +24,21 @@ pub enum Mode {
 }
 
 // The numbers of the line, in their order, and how many there are: 5 where the line is not understood.
-#[derive(Drop)]
+#[derive(Clone, Copy)]
 pub struct Rooms {
     pub numbers: [u64; 4],
     pub count: usize,
 }
 
 // `next` is where the line after the first one starts.
-#[derive(Drop)]
+#[derive(Clone, Copy)]
 pub struct Header {
     pub mode: Mode,
     pub rooms: Rooms,
     pub next: usize,
 }
 
-#[derive(Drop)]
+#[derive(Clone, Copy)]
 enum Number {
     Is(u64),
     Not,

@@ -6,14 +6,14 @@ use crate::streams;
 use crate::streams::Read;
 
 // What is not yet read of a chunk.
-#[derive(Drop)]
+#[derive(Clone, Copy)]
 pub struct Unread {
     pub at: usize,
     pub end: usize,
 }
 
 // What comes next on standard input.
-#[derive(Drop)]
+#[derive(Clone, Copy)]
 pub enum Line {
     // how many bytes the source has, and what is read after it
     Source(usize, Unread),
@@ -27,7 +27,7 @@ pub enum Line {
 }
 
 // Why decoding stopped.
-#[derive(Drop)]
+#[derive(Clone, Copy)]
 enum Stop {
     // a newline
     Line,
@@ -41,7 +41,7 @@ enum Stop {
 
 // Where decoding stands: at which byte of the chunk, at which byte of the source, and the upper digit of a byte whose
 // lower one is not yet read, 16 where there is none.
-#[derive(Drop)]
+#[derive(Clone, Copy)]
 struct Decoded {
     at: usize,
     size: usize,

@@ -1,3 +1,4 @@
+#![tactic(auto)]
 // What the programs that print answers share: reading and writing, the first line of the input, sources read as lines of hex,
 // and text for standard output.
 pub mod header;

@@ -3,7 +3,7 @@
 use libc::{EINTR, STDERR_FILENO, STDIN_FILENO, STDOUT_FILENO};
 
 // What reading came to.
-#[derive(Drop)]
+#[derive(Clone, Copy)]
 pub enum Read {
     // the buffer is full or the input has ended: how many bytes the buffer has
     Whole(usize),

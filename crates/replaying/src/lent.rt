@@ -12,7 +12,7 @@ use printing::input::{Line, Unread};
 use rows::{DiagnosticRow, LexemeRow, NodeRow, Source, StatementRow, TokenRow};
 
 // How many rows each table has, and how many bytes a source and a text have.
-#[derive(Drop)]
+#[derive(Clone, Copy)]
 struct Lent {}
 
 impl Lent {

@@ -1,3 +1,4 @@
+#![tactic(auto)]
 // Runs a proved library on the sources of standard input and prints its answers in the oracle's format.
 //
 // The input has parts. The first line of a part says what to run and the room of each lent table: `scan ROWS`, `lex ROWS`,

@@ -1,3 +1,4 @@
+#![tactic(auto)]
 // The check program: checks the source on standard input and prints what was found, or one line for a refusal. Where the source
 // is not read whole, or arguments were given, it prints nothing, and a line on standard error says why.
 ghost use Rattle.std.specs.Prelude.{◌≡◌, ◌*◌, length};
@@ -10,7 +11,7 @@ use printing::streams::Read;
 use printing::{input, output, streams};
 use rows::{DiagnosticRow, NodeRow, Source, StatementRow, TokenRow};
 
-#[derive(Drop)]
+#[derive(Clone, Copy)]
 struct Program {}
 
 impl Program {

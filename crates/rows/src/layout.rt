@@ -4,7 +4,7 @@ ghost use Rattle.language.specs.Findings.{diag_width};
 ghost use Rattle.rows.specs.Rows.{row_diagnostic};
 
 // What the scanner found.
-#[derive(Drop)]
+#[derive(Clone, Copy)]
 pub struct LexemeRow {}
 
 impl LexemeRow {
@@ -23,7 +23,7 @@ impl LexemeRow {
     pub const HIGH: usize = 5;
 }
 
-#[derive(Drop)]
+#[derive(Clone, Copy)]
 pub struct TokenRow {}
 
 impl TokenRow {
@@ -45,7 +45,7 @@ impl TokenRow {
 }
 
 // What the numbers after its token mean depends on a node's kind.
-#[derive(Drop)]
+#[derive(Clone, Copy)]
 pub struct NodeRow {}
 
 impl NodeRow {
@@ -64,7 +64,7 @@ impl NodeRow {
 
 // What a check finds. What `text`, `start` and `end` name is which text its name is in, and where; what `first`, `second` and
 // `third` mean depends on the kind. `statement` is the number of its statement, from 1.
-#[derive(Drop)]
+#[derive(Clone, Copy)]
 pub struct DiagnosticRow {
     pub line: u64,
     pub column: u64,
@@ -107,7 +107,7 @@ pub fn diagnostic_row(diags: &[u64], i: usize) -> DiagnosticRow
 }
 
 // What a check holds: a statement, or a part of the expression of one. Its own place comes first, that of its expression later.
-#[derive(Drop)]
+#[derive(Clone, Copy)]
 pub struct StatementRow {}
 
 impl StatementRow {

@@ -1,3 +1,4 @@
+#![tactic(auto)]
 // The vocabulary: what tables and answers are made of. Who writes a table and who reads it take its layout, its numbers and
 // its readers from here. docs/TABLES.md says the same in prose.
 mod layout;

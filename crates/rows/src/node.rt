@@ -6,7 +6,7 @@ ghost use Rattle.rows.specs.Rows.{node_word};
 use crate::layout::NodeRow;
 
 // The kinds, by their numbers; docs/TABLES.md has what each row holds.
-#[derive(Drop)]
+#[derive(Clone, Copy)]
 pub struct NodeKind {}
 
 impl NodeKind {

@@ -1,5 +1,5 @@
 // A source, and the part of it that a line is.
-#[derive(Drop)]
+#[derive(Clone, Copy)]
 pub struct Source {}
 
 impl Source {

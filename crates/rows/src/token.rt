@@ -10,7 +10,7 @@ use crate::layout::TokenRow;
 use wide::Wide;
 
 // The kinds, by their numbers, in the order of lex.rs.
-#[derive(Drop)]
+#[derive(Clone, Copy)]
 pub struct TokKind {}
 
 impl TokKind {
@@ -53,7 +53,7 @@ impl TokKind {
 
 // A token: lex.rs `Tok`. A name's bytes are not kept: they are its span. A `StringLiteral` has the number of its bodies. The
 // lexer makes `Eof` and `StringLiteral`; every other token is one lexeme.
-#[derive(Drop)]
+#[derive(Clone, Copy)]
 pub enum Tok {
     Eof,
     LParen,
@@ -150,7 +150,7 @@ fn tok_of(kind: u64, lo: u64, hi: u64) -> Tok
 }
 
 // A row.
-#[derive(Drop)]
+#[derive(Clone, Copy)]
 pub struct Token {
     pub kind: u64,
     pub line: u64,

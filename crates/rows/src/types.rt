@@ -1,7 +1,7 @@
 // The types of values, and the texts that rows point into.
 
 // The types, by their numbers: in the order of check.rs `Ty`, where those between are types that no value has yet.
-#[derive(Drop)]
+#[derive(Clone, Copy)]
 pub struct Ty {}
 
 impl Ty {
@@ -43,7 +43,7 @@ impl Ty {
 }
 
 // Which text is shown, and where in it.
-#[derive(Drop)]
+#[derive(Clone, Copy)]
 pub struct Text {
     pub from: u64,
     pub start: u64,
@@ -60,7 +60,7 @@ impl Text {
 }
 
 // A type as rows show it: its number, and of a function its entry in the constant table, else 0.
-#[derive(Drop)]
+#[derive(Clone, Copy)]
 pub struct Type {
     pub kind: u64,
     pub entry: u64,

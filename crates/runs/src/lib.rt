@@ -1,3 +1,4 @@
+#![tactic(auto)]
 // Characters, and runs of them: where the longest run of one kind ends. These are the tests of characters and the loops of
 // lex.rs `Scanner`; the definitions are `Lexemes` of the crate `language`.
 ghost use Rattle.std.specs.Prelude.{◌≡◌, ◌+◌, ◌≤◌, length, get_or};

@@ -1,3 +1,4 @@
+#![tactic(auto)]
 // The scanner: what stands at each place of a line. Ports lex.rs `Scanner`: which lexeme starts with a character, and the
 // step from one to the next; the definitions are `Lexemes` of the crate `language`.
 ghost use Rattle.std.specs.Prelude.{◌≡◌, true, [], ◌+◌, ◌≤◌, ◌<◌, length, drop, get_or};
@@ -59,7 +60,7 @@ fn string(line: &[u8], at: usize) -> Lexeme
 }
 
 // A token, or none.
-#[derive(Drop)]
+#[derive(Clone, Copy)]
 pub enum Mark {
     Is(Tok),
     Not,
@@ -114,13 +115,13 @@ fn unexpected(at: usize, end: usize, c: u32) -> Lexeme
 // ---- the scanner
 
 // How far a line has been scanned: `pos` is where the next lexeme starts.
-#[derive(Drop)]
+#[derive(Clone, Copy)]
 pub struct Scanner {
     pub pos: usize,
 }
 
 // What the scanner finds next.
-#[derive(Drop)]
+#[derive(Clone, Copy)]
 pub enum Step {
     Found(Lexeme, Scanner),
     Done,
@@ -273,7 +274,7 @@ pub fn body(line: &[u8], start: usize, end: usize) -> &[u8]
 // ---- the entry
 
 #[repr(C)]
-#[derive(Drop)]
+#[derive(Clone, Copy)]
 pub struct Scanned {
     pub verdict: Verdict,
     pub lexemes: u64,

@@ -7,7 +7,7 @@ use printing::{output, token, verdict};
 use rows::{LexemeRow, Token, Verdict};
 
 // A row of the table of lexemes. A lexeme has no line and no column, and neither is shown.
-#[derive(Drop)]
+#[derive(Clone, Copy)]
 struct Row {
     class: u64,
     token: Token,

@@ -6,7 +6,7 @@ use crate::texts;
 use printing::output;
 use rows::StatementRow;
 
-#[derive(Drop)]
+#[derive(Clone, Copy)]
 pub struct Open {}
 
 impl Open {
@@ -27,7 +27,7 @@ impl Open {
 }
 
 // How many are open, and where text goes next.
-#[derive(Drop)]
+#[derive(Clone, Copy)]
 pub struct Shown {
     pub depth: usize,
     pub at: usize,

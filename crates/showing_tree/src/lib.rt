@@ -1,3 +1,4 @@
+#![tactic(auto)]
 // The mode `parse`: each statement is a line of the answer, its tree rebuilt from the tables of nodes and tokens. A string
 // is shown as the list of its raw bodies.
 mod leaf;

@@ -3,7 +3,7 @@
 use rows::{NodeRow, node_word};
 
 // What the numbers after its token mean depends on a node's kind. The last one, the token of a call's `(`, is not shown.
-#[derive(Drop)]
+#[derive(Clone, Copy)]
 pub struct Node {
     pub kind: u64,
     pub token: usize,

@@ -1,3 +1,4 @@
+#![tactic(auto)]
 // Statements: what they come to, one after the other. Ports check.rs's `Checker`, its statements and its statement loop; the
 // definitions are `Judgements` and `Findings` of the crate `language`. A statement reads the checker's state and says what it
 // binds or imports; the loop alone stores it.
@@ -61,7 +62,7 @@ impl Checker {
 }
 
 // What a statement leads to.
-#[derive(Drop)]
+#[derive(Clone, Copy)]
 pub enum Turn {
     // it binds and imports nothing
     Went(Counts),
@@ -72,7 +73,7 @@ pub enum Turn {
 }
 
 // What all statements come to.
-#[derive(Drop)]
+#[derive(Clone, Copy)]
 pub enum Outcome {
     Judged(Counts),
     Refused(u64, u64),

@@ -1,3 +1,4 @@
+#![tactic(auto)]
 // The C face: what include/terkinoha.h declares and explains. Each entry hands on what the proved one below it answers, and
 // promises the same equations. Tables are lent as words; the header turns rows into words. Nothing here keeps anything between
 // calls. The words of each answer, in the order that C gets them in, are `Words` of specs/.
@@ -85,7 +86,7 @@ pub extern "C" fn terkinoha_check_words(
 // Where the body of a string literal lies in the source, and where the walk over a string's bodies goes on. All zero: there
 // is none.
 #[repr(C)]
-#[derive(Drop)]
+#[derive(Clone, Copy)]
 pub struct Body {
     pub found: u64,
     pub start: u64,
@@ -94,7 +95,7 @@ pub struct Body {
 }
 
 // A string literal by the offsets of its quotes: the first, and past the last.
-#[derive(Drop)]
+#[derive(Clone, Copy)]
 pub enum Literal {
     At(usize, usize),
     Nowhere,

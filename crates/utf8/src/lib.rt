@@ -1,3 +1,4 @@
+#![tactic(auto)]
 // RFC 3629: one character of a source, and the first place where none starts.
 ghost use Rattle.std.specs.Prelude.{◌≡◌, true, suc, ◌+◌, ◌≤◌, ◌<◌, length, drop, get_or};
 ghost use Rattle.language.specs.Utf8.{lead_of, follow, char_at, first_bad};
@@ -5,7 +6,7 @@ ghost use Rattle.utf8.specs.Decoding.{leading, placed, bad_of, Small, Passed};
 ghost use Rattle.utf8.specs.Blocks.{all_from, is_ascii};
 
 // What stands at a place.
-#[derive(Drop)]
+#[derive(Clone, Copy)]
 pub enum Decoded {
     // A character's number, and where the next one begins.
     Read(u32, usize),
@@ -14,14 +15,14 @@ pub enum Decoded {
 }
 
 // The first place where no character starts.
-#[derive(Drop)]
+#[derive(Clone, Copy)]
 pub enum Bad {
     At(usize),
     Nowhere,
 }
 
 // What a first octet says.
-#[derive(Drop)]
+#[derive(Clone, Copy)]
 enum Lead {
     // How many octets follow, the least and the greatest that may come next, and this octet's bits of the number.
     Starts(usize, u8, u8, u32),

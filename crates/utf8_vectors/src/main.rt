@@ -1,3 +1,4 @@
+#![tactic(auto)]
 // Prints what `utf8` makes of each sequence of bytes on standard input, and then a digest of what it makes of every
 // sequence of 1, 2 and 3 bytes, and of every sequence of 4 and 5 of the bytes at the grammar's bounds.
 //
@@ -171,7 +172,7 @@ fn letter(alphabet: &[u8; 256], p: u8) -> u8 {
 }
 
 // How many sequences were tried and were good, and the digest of all verdicts.
-#[derive(Drop)]
+#[derive(Clone, Copy)]
 struct Digest {
     len: usize,
     count: u64,

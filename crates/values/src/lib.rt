@@ -1,3 +1,4 @@
+#![tactic(auto)]
 // Terms: what an expression comes to, as its place, its form and a value in three words. Ports check.rs `Value` and what it does
 // with constants: literals, the type that is shown, and the smallest type.
 ghost use Rattle.std.specs.Prelude.{◌≡◌, List, ℕ, ◌+◌, ◌≤◌, length};
@@ -16,7 +17,7 @@ use wide::{Size, Wide};
 // What an expression comes to. `at` is the token where an error about it points. Of a constant, `kind` is a number of `Ty` and the
 // two words are its value; else `kind` is that of its type, and of a slot `lo` is its number and `hi` the entry that its type
 // shows, of a call `lo` is the function's entry and `hi` how many arguments it has.
-#[derive(Drop)]
+#[derive(Clone, Copy)]
 pub struct Term {
     pub at: u64,
     pub form: u64,
@@ -40,7 +41,7 @@ impl Term {
 
 // What judging an expression comes to. A name whose `let` or `import` failed poisons what it stands in; a call with a named argument
 // stops everything, at the token of its `(`.
-#[derive(Drop)]
+#[derive(Clone, Copy)]
 pub enum Judged {
     Val(Term),
     Err(Diagnostic),
@@ -49,14 +50,14 @@ pub enum Judged {
 }
 
 // The same, and the counts then.
-#[derive(Drop)]
+#[derive(Clone, Copy)]
 pub struct Judgement {
     pub out: Judged,
     pub counts: Counts,
 }
 
 // An integer with the smallest type that holds it, if any does.
-#[derive(Drop)]
+#[derive(Clone, Copy)]
 pub enum Narrowed {
     Fits(Term),
     TooLarge,

@@ -1,17 +1,18 @@
+#![tactic(auto)]
 // Numbers from 0 to 2^127 - 1 in two 64-bit words: what `i128` is in the Rust.
 ghost use Rattle.std.specs.Prelude.{◌≡◌, ◌+◌, ◌-◌, ◌*◌, ◌/◌, ◌%◌, ◌<◌, ◌≤◌, ◌++◌, length, replicate, ◌==◌};
 ghost use Rattle.language.specs.Integers.{smallest, most_digits, decimal, most_hex_digits, hexadecimal, ascii};
 ghost use Rattle.language.specs.Canonical.{spell_digit, spell_digits};
 ghost use Rattle.wide.specs.Wide.{value_of, scaled, size_of};
 
-#[derive(Drop)]
+#[derive(Clone, Copy)]
 pub struct Wide {
     pub hi: u64,
     pub lo: u64,
 }
 
 // A number with a digit more.
-#[derive(Drop)]
+#[derive(Clone, Copy)]
 pub enum Scaled {
     Fits(Wide),
     // 2^127 or more
@@ -19,7 +20,7 @@ pub enum Scaled {
 }
 
 // The smallest type that holds a number.
-#[derive(Drop)]
+#[derive(Clone, Copy)]
 pub enum Size {
     U8,
     U16,
@@ -28,7 +29,7 @@ pub enum Size {
     TooLarge,
 }
 // A number divided by a base, and the digit that is left.
-#[derive(Drop)]
+#[derive(Clone, Copy)]
 struct Quotient {
     rest: Wide,
     digit: u64,

@@ -1,3 +1,4 @@
+#![tactic(auto)]
 // Writing into a lent text that may be too short: bytes, and numbers by their digits. Bytes past its end are counted and not
 // kept, so that whoever writes judges the count at the end. Each call takes the place to write at and answers the place after.
 ghost use Rattle.std.specs.Prelude.{[], ◌∷◌, ◌+◌, ◌≤◌, ◌<◌, length};
