@@ -1,5 +1,5 @@
 -- How the code's tokens stand for the language's, and what the rows of a token table say of them.
-use Rattle.std.specs.Prelude.{ℕ, suc, ◌+◌, ◌*◌, ◌%◌, ◌≡◌, not, List, eqb, leb, length, get_or}
+use Rattle.std.specs.Prelude.{ℕ, ◌+◌, ◌*◌, ◌%◌, ◌≡◌, not, List, eqb, leb, length, get_or}
 use Rattle.table.specs.Table.{flat}
 use Rattle.wide.specs.declared.Wide.{Wide}
 use Rattle.wide.specs.Wide.{wide_of}

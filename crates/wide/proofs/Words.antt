@@ -1,5 +1,5 @@
 -- What two words say of their number. 2^127 has 39 digits, one more than omega takes, so two laws carry it.
-use Rattle.std.proofs.Common.{◌≡◌, ℕ, ◌+◌, ◌*◌, ◌/◌, ◌%◌, ◌^◌, ◌<◌, ◌≤◌, true, false, ◌&&◌, eqb, ltb, sym, refl, le_trans, lt_of_lt_of_le, mul-le-mul_right, mul_right_comm, arith, ltb-true, le-ltb, lt-ltb, eq-eqb, ne_eqb, eqb-true}
+use Rattle.std.proofs.Common.{◌≡◌, ℕ, ◌+◌, ◌*◌, ◌/◌, ◌%◌, ◌^◌, ◌<◌, ◌≤◌, true, false, ◌&&◌, eqb, ltb, sym, refl, le_trans, lt_of_lt_of_le, mul-le-mul_right, mul_right_comm, arith, ltb-true, le-ltb, lt-ltb, ne_eqb, eqb-true}
 use mathlib.Core.Option.{some}
 use Rattle.language.specs.Integers.{limit, IntType, bits, smallest}
 use Rattle.language.proofs.Integers.{from, chosen, none_chosen}

@@ -1,5 +1,4 @@
 use Rattle.std.proofs.lemmas.Bool.{not_from_true}
-use Prim.Native.Nat.{◌-◌}
 use native.Mathlib.Omega.{arith}
 use borrow.Author.Rules.{rules}
 use Rattle.utf8.proofs.Places.{stay, pass_four}

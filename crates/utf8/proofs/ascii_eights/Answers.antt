@@ -1,4 +1,3 @@
-use Prim.Native.Nat.{◌-◌}
 use borrow.Author.Rules.{rules}
 use Rattle.utf8.proofs.Places.{stay, pass_eight}
 use Rattle.utf8.proofs.ascii_eights.Goals as goal

@@ -1,4 +1,3 @@
-use Prim.Native.Nat.{◌-◌}
 use Rattle.utf8.proofs.Places.{pass_on, pass_byte}
 use Rattle.utf8.proofs.ascii_end.Goals as goal
 

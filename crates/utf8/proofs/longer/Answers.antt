@@ -5,7 +5,7 @@ use Rattle.utf8.proofs.longer.Goals as goal
 pub read_tails-requires : goal.read_tails-requires
 read_tails-requires c =
     let e = c.in-Starts.ensures in
- record { at_in_bounds = c.requires.0; small = small _ _ _ _ _ c.requires.1 e }
+    record { at_in_bounds = c.requires.0; small = small _ _ _ _ _ c.requires.1 e }
 
 pub returns-in-Starts : goal.returns-in-Starts
 returns-in-Starts c =
