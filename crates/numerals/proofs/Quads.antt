@@ -21,7 +21,6 @@ use Rattle.numerals.specs.declared.Number.{Number}
 use Rattle.numerals.specs.declared.Number.TheVariants.{Value, Wrong}
 use Rattle.numerals.specs.declared.Octet.{Octet}
 use Rattle.numerals.specs.declared.Octet.TheVariants.{Good, Bad}
-use Rattle.numerals.specs.declared.Quad.{Quad}
 use Rattle.numerals.specs.declared.Quad.TheVariants.{Dotted, Not}
 use Rattle.language.specs.Tokens.{between}
 use Rattle.runs.specs.Runs.{run_end}

@@ -17,7 +17,6 @@ use Rattle.language.specs.Lexemes.{is_digit, is_word, run, octet, quad, not_quad
 use Rattle.language.proofs.Tests.{never}
 use Rattle.rows.specs.declared.token.Tok.TheVariants.{IPv4Literal}
 use Rattle.lexemes.specs.declared.LexErrorKind.TheVariants as error-is
-use Rattle.lexemes.specs.declared.Lexeme.{Lexeme}
 use Rattle.lexemes.specs.declared.LexemeKind.{LexemeKind}
 use Rattle.lexemes.specs.declared.LexemeKind.TheVariants as kind_is
 use Rattle.lexemes.specs.Kinds.{kind_as, lexeme_as}

@@ -68,7 +68,7 @@ pub enum Mark {
 
 // The punctuation that is one byte long wherever it stands.
 fn punctuation(b: u8) -> Mark
-    ensures { result ≡ markAs (punctuation b) }
+    ensures { result ≡ mark_as (punctuation b) }
 {
     match b {
         b'(' => Mark::Is(Tok::LParen),
@@ -93,7 +93,7 @@ fn token(at: usize, end: usize, tok: Tok) -> Lexeme
 
 fn comment(line: &[u8], at: usize) -> Lexeme
     requires { at < length line.now }
-    ensures { result ≡ lexemeAs at (comment 1 (drop (at + 1) line.now)) }
+    ensures { result ≡ lexeme_as at (comment 1 (drop (at + 1) line.now)) }
 {
     Lexeme {
         start: at,
@@ -135,7 +135,7 @@ impl Scanner {
     }
 
     pub fn next(self, line: &[u8]) -> Step
-        ensures { result ≡ stepAt line.now self.pos }
+        ensures { result ≡ step_at line.now self.pos }
     {
         let at = self.pos;
         if at < line.len() {
@@ -148,7 +148,7 @@ impl Scanner {
     // Whatever starts at `at`.
     fn lexeme(line: &[u8], at: usize) -> Lexeme
         requires { at < length line.now }
-        ensures { result ≡ lexemeAs at (lexeme (drop at line.now)) }
+        ensures { result ≡ lexeme_as at (lexeme (drop at line.now)) }
     {
         let d = utf8::decode(line, at);
         match d {
@@ -175,7 +175,7 @@ impl Scanner {
     // What starts with an ASCII character that is not blank.
     fn ascii(line: &[u8], at: usize) -> Lexeme
         requires { at < length line.now }
-        ensures { result ≡ lexemeAs at (ascii (get_or line.now at 0) (drop (at + 1) line.now)) }
+        ensures { result ≡ lexeme_as at (ascii (get_or line.now at 0) (drop (at + 1) line.now)) }
     {
         let b = line[at];
         if runs::is_word_start(b) {
@@ -195,7 +195,7 @@ impl Scanner {
     // A comment, `/`, `:`, `::`, a string literal, or what no token starts with.
     fn sign(line: &[u8], at: usize) -> Lexeme
         requires { at < length line.now }
-        ensures { result ≡ lexemeAs at (sign_of line.now at) }
+        ensures { result ≡ lexeme_as at (sign_of line.now at) }
     {
         let b = line[at];
         let next = runs::peek(line, at + 1);

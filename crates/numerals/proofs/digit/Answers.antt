@@ -1,0 +1,24 @@
+use native.Mathlib.Omega.{arith}
+use Rattle.numerals.proofs.Digits.{dec_digit, small_digit, large_digit, no_digit}
+use Rattle.numerals.proofs.digit.Goals as goal
+
+pub returns-in-48-to-57 : goal.returns-in-48-to-57
+returns-in-48-to-57 c = dec_digit _ (omega arith) (omega arith)
+
+pub returns-in-65-to-70 : goal.returns-in-65-to-70
+returns-in-65-to-70 c = large_digit _ (omega arith) (omega arith)
+
+pub returns-in-97-to-102 : goal.returns-in-97-to-102
+returns-in-97-to-102 c = small_digit _ (omega arith) (omega arith)
+
+pub returns-in_default : goal.returns-in_default
+returns-in_default c = no_digit _ (omega arith) (omega arith) (omega arith)
+
+pub returns-in_default-2 : goal.returns-in_default-2
+returns-in_default-2 c = no_digit _ (omega arith) (omega arith) (omega arith)
+
+pub returns-in_default-3 : goal.returns-in_default-3
+returns-in_default-3 c = no_digit _ (omega arith) (omega arith) (omega arith)
+
+pub returns-in_default-4 : goal.returns-in_default-4
+returns-in_default-4 c = no_digit _ (omega arith) (omega arith) (omega arith)
