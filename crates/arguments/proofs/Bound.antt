@@ -2,7 +2,7 @@
 use mathlib.Core.Path.{◌≡◌, refl, sym, ap, subst, ◌∙◌}
 use mathlib.Core.List.{List, [], ◌∷◌, ◌++◌, append-nil}
 use mathlib.Core.Logic.{inl, inr}
-use Prim.Native.Nat.{ℕ, suc, ◌+◌, ◌≤◌, ◌<◌}
+use Prim.Native.Nat.{ℕ, ◌+◌, ◌≤◌, ◌<◌}
 use native.Mathlib.Omega.{arith}
 use borrow.Author.Tests.{lt-ltb, le-ltb}
 use lib.ListN.{length, get_or, length-append}
@@ -41,7 +41,7 @@ use Rattle.arguments.specs.declared.Given.{Given}
 use Rattle.arguments.specs.declared.Kept.{Kept}
 use Rattle.arguments.specs.Arguments.{given_as, after, end, spread, Keeps, fitted_as, WrongType, Placed, Takes, step, call_as, finished, follows, Bound}
 use Rattle.arguments.proofs.Then.{NoValue, failed, failed_twice, failed_stops, fails, goes, same_out, then_then}
-use Rattle.arguments.proofs.Outs.{HasNone, ValueOf, has_value, has_none, failed_as, which}
+use Rattle.arguments.proofs.Outs.{HasNone, has_value, has_none, failed_as, which}
 
 -- ---- one argument
 

@@ -1,6 +1,6 @@
 -- One judgement after another.
-use mathlib.Core.Path.{◌≡◌, refl, sym, ap, ◌∙◌}
-use mathlib.Core.List.{List, [], ◌∷◌, ◌++◌, append_assoc}
+use mathlib.Core.Path.{◌≡◌, refl, ap, ◌∙◌}
+use mathlib.Core.List.{List, ◌++◌, append_assoc}
 use Prim.Native.Nat.{ℕ}
 use Rattle.language.specs.Judgements.{What, Diag, Judged, val, err, poisoned, stopped, Judgement, goes_on, and_then}
 

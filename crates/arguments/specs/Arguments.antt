@@ -1,5 +1,5 @@
 -- Arguments that are judged and not yet fitted: what is kept of them, the rows of their parts, and what fitting them comes to.
-use Rattle.std.specs.Prelude.{ℕ, suc, ◌+◌, ◌<◌, ◌≡◌, List, [], ◌∷◌, ltb, length, get_or}
+use Rattle.std.specs.Prelude.{ℕ, ◌+◌, ◌<◌, ◌≡◌, List, [], ◌∷◌, ltb, length, get_or}
 use Rattle.table.specs.Table.{put_row}
 use Rattle.language.specs.Choice.{if'}
 use Rattle.language.specs.Values.{Ty, ty_kind, Param, entry_at}

@@ -8,7 +8,7 @@ use types.Run.{OneOf}
 use denote.Enum.Declared.{tag_of}
 use lib.ListN.{length, drop, length-take}
 use Rattle.language.specs.Lexemes.{scan_from}
-use Rattle.language.specs.Tokens.{unquoted, between, body_of, bodies_of, bodies_in}
+use Rattle.language.specs.Tokens.{unquoted, between, bodies_of, bodies_in}
 use Rattle.language.specs.Canonical.{quoted, spell_bodies}
 use Rattle.language.proofs.Parts.{part_size}
 use Rattle.lexemes.specs.declared.Lexeme.{Lexeme}

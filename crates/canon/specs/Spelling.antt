@@ -1,5 +1,5 @@
 -- Which bytes a row of the token table stands for, and what it is to write those of all rows.
-use Rattle.std.specs.Prelude.{ℕ, ◌+◌, ◌*◌, ◌≤◌, ◌<◌, ◌≡◌, List, [], ◌∷◌, eqb, length, get_or}
+use Rattle.std.specs.Prelude.{ℕ, ◌+◌, ◌*◌, ◌≤◌, ◌≡◌, List, [], ◌∷◌, eqb, length, get_or}
 use Rattle.table.specs.Table.{pad_to}
 use Rattle.language.specs.Choice.{if'}
 use Rattle.language.specs.Lexemes.{import_word, let_word, true_word, false_word}

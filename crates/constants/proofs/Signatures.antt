@@ -2,13 +2,13 @@
 use Prim.Native.Nat.{ℕ, zero, suc, ◌≤◌, ◌<◌}
 use native.Mathlib.Omega.{arith}
 use native.Mathlib.Decide.{dec_lt}
-use mathlib.Core.Path.{◌≡◌, refl, ◌∙◌, sym, ap, subst}
+use mathlib.Core.Path.{◌≡◌, refl, ◌∙◌, sym, ap}
 use mathlib.Core.Bool.{Bool, true, false, ◌&&◌, ◌||◌, false≢true}
 use mathlib.Core.List.{List, [], ◌∷◌}
 use borrow.Author.Tests.{eqb-true, ne_eqb}
 use lib.Dec.{eqb}
 use lib.ListN.{length, get_or}
-use Rattle.language.specs.Values.{ty_void, ty_kind, Param, Entry, entries, entry_at}
+use Rattle.language.specs.Values.{ty_kind, Param, Entry, entries, entry_at}
 use Rattle.language.proofs.Tests.{both}
 use Rattle.language.proofs.SpellingRuns.{up_to, up_to_lem}
 use Rattle.language.proofs.Table.{few_params}

@@ -2,8 +2,7 @@
 use mathlib.Core.Path.{◌≡◌, refl, sym, ap, subst, ◌∙◌}
 use mathlib.Core.Bool.{Bool, true, false}
 use mathlib.Core.List.{List, [], ◌∷◌, ◌++◌, append-nil}
-use mathlib.Core.Option.{Option, none, some}
-use Prim.Native.Nat.{ℕ, ◌+◌, ◌*◌, ◌≤◌, ◌<◌}
+use Prim.Native.Nat.{ℕ, ◌+◌}
 use native.Mathlib.Omega.{arith}
 use lib.ListN.{length, length-append}
 use Rattle.language.specs.Choice.{if'}
@@ -27,17 +26,16 @@ use Rattle.findings.specs.Findings.{at_token}
 use Rattle.findings.proofs.Rows.{more_rows}
 use Rattle.values.specs.declared.Term.{Term}
 use Rattle.values.specs.declared.Judged as code
-use Rattle.values.specs.declared.Judged.TheVariants.{Val, Err, Stopped}
-use Rattle.values.specs.Values.{term_as, judged_as, TypeShown}
+use Rattle.values.specs.declared.Judged.TheVariants.{Err, Stopped}
+use Rattle.values.specs.Values.{judged_as, TypeShown}
 use Rattle.values.proofs.Values.{place_as, judged_err, callee_is, callee_not}
 use Rattle.holding.specs.declared.Step.{Step}
-use Rattle.holding.specs.Holding.{most_rows, put_held, Puts, Agrees}
+use Rattle.holding.specs.Holding.{put_held, Puts, Agrees}
 use Rattle.holding.proofs.Rows.{held_own}
 use Rattle.arguments.proofs.Then.{then_then}
-use Rattle.judging.specs.declared.Callee.{Callee}
 use Rattle.judging.specs.declared.Callee.TheVariants.{Function, Ends}
 use Rattle.judging.specs.Judging.{Passed, passed, RepAt, is_call, ArgsAt, going, bound, Left, CalleeOf, CalleeIs, Calls}
-use Rattle.judging.proofs.Steps.{NoVal, ends, by}
+use Rattle.judging.proofs.Steps.{ends, by}
 
 -- ---- rows
 

@@ -1,7 +1,7 @@
 -- The left spine of an expression, down and up.
-use mathlib.Core.Path.{◌≡◌, refl, sym, ap, subst, ◌∙◌}
-use mathlib.Core.List.{List, []}
-use Prim.Native.Nat.{ℕ, ◌+◌, ◌-◌, ◌*◌, ◌≤◌, ◌<◌}
+use mathlib.Core.Path.{◌≡◌, refl, sym, subst, ◌∙◌}
+use mathlib.Core.List.{List}
+use Prim.Native.Nat.{ℕ, ◌+◌, ◌-◌, ◌≤◌, ◌<◌}
 use native.Mathlib.Omega.{arith}
 use lib.ListN.{length, get_or, set}
 use lib.Seq.{get_or-set_same, get_or-set_other}
@@ -9,7 +9,7 @@ use Rattle.language.specs.Tokens as tokens
 use Rattle.language.specs.Tokens.{Content, contents}
 use Rattle.language.specs.Sentences.{Expr, expr_size}
 use Rattle.language.specs.Terms as terms
-use Rattle.language.specs.Judgements.{Judgement, val, Known, and_then, most_names, judge}
+use Rattle.language.specs.Judgements.{Judgement, val, Known, most_names, judge}
 use Rattle.language.proofs.Comparisons.{judge_compares}
 use Rattle.language.proofs.WarnsFew.{judge_warns}
 use Rattle.language.proofs.RowsFew.{judge_rows}
@@ -18,13 +18,13 @@ use Rattle.rows.specs.Rows.{node_word}
 use Rattle.names.proofs.Stores.{listed_long}
 use Rattle.findings.specs.declared.Counts.{Counts}
 use Rattle.findings.specs.Findings.{Adds}
-use Rattle.findings.proofs.Adds.{adds_count, adds_compared, adds_number, adds_used, adds_imported, adds_slots}
+use Rattle.findings.proofs.Adds.{adds_count, adds_compared, adds_used, adds_imported, adds_slots}
 use Rattle.values.specs.declared.Term.{Term}
 use Rattle.values.specs.declared.Judged.TheVariants.{Val}
 use Rattle.holding.specs.declared.Step.{Step}
-use Rattle.holding.specs.Holding.{most_rows, Agrees}
-use Rattle.judging.specs.Judging.{most_findings, binding_at, bound_in, known_in, Knows, Ready, RepAt, left_of, rest_size, rest, Down, top, deeper, Descends, Left, LookFits, Fits, StepFits, ClimbFits}
-use Rattle.judging.proofs.Trees.{StepAt, at_step}
+use Rattle.holding.specs.Holding.{Agrees}
+use Rattle.judging.specs.Judging.{binding_at, bound_in, known_in, Knows, Ready, RepAt, left_of, rest, Down, top, deeper, Descends, Left, LookFits, Fits, StepFits, ClimbFits}
+use Rattle.judging.proofs.Trees.{at_step}
 use Rattle.judging.proofs.Steps.{NoVal, Ended, ended, alike_self, alike_no, alike_then, alike_as, left_of_lem, went_no, goes, by}
 
 -- ---- down

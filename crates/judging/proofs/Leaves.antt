@@ -1,5 +1,5 @@
 -- Expressions that hold no other.
-use mathlib.Core.Path.{◌≡◌, refl, sym, ap, subst, ◌∙◌}
+use mathlib.Core.Path.{◌≡◌, ap, ◌∙◌}
 use mathlib.Core.List.{List, [], ◌∷◌}
 use Prim.Native.Nat.{ℕ, ◌+◌, ◌≤◌, ◌<◌}
 use native.Mathlib.Omega.{arith}
@@ -7,7 +7,7 @@ use lib.ListN.{length}
 use Rattle.language.specs.Tables as tables
 use Rattle.language.specs.Tokens as tokens
 use Rattle.language.specs.Tokens.{contents}
-use Rattle.language.specs.Sentences.{Expr, literal, sock4, local, path, member, call, slash', expr_size}
+use Rattle.language.specs.Sentences.{Expr, literal, sock4, local, path, member, call, slash'}
 use Rattle.language.specs.Values.{is_sock4}
 use Rattle.language.specs.Terms as terms
 use Rattle.language.specs.Terms.{atom, constant}

@@ -6,7 +6,7 @@ use Prim.Native.Nat.{ℕ, zero, suc, ◌+◌, ◌≤◌, ◌<◌}
 use native.Mathlib.Omega.{arith}
 use Rattle.language.specs.Tokens.{Content}
 use Rattle.language.specs.Judgements.{err, poisoned, unknown_name, not_imported, Binding, find, find_import, compared, bound_to, below, walk}
-use Rattle.names.specs.Names.{name_word, name_of, listed, names_in, place, looked}
+use Rattle.names.specs.Names.{name_word, listed, names_in, place, looked}
 use Rattle.names.proofs.Names.{First, found_from, same_place}
 use Rattle.findings.specs.declared.Counts.{Counts}
 use Rattle.findings.specs.Findings.{plus_search}

@@ -1,21 +1,18 @@
 -- Arguments, judged from left to right.
 use mathlib.Core.Path.{◌≡◌, refl, sym, ap, subst, ◌∙◌}
-use mathlib.Core.Bool.{Bool, true, false}
 use mathlib.Core.List.{List, [], ◌∷◌, ◌++◌, append-nil}
-use mathlib.Core.Option.{Option, none, some}
-use Prim.Native.Nat.{ℕ, ◌+◌, ◌*◌, ◌≤◌, ◌<◌}
+use Prim.Native.Nat.{ℕ, ◌+◌, ◌≤◌, ◌<◌}
 use native.Mathlib.Omega.{arith}
-use lib.ListN.{length, length-append}
-use Rattle.language.specs.Choice.{if'}
+use lib.ListN.{length}
 use Rattle.language.specs.Tokens as tokens
 use Rattle.language.specs.Tokens.{Content, contents}
-use Rattle.language.specs.Sentences.{Expr, Args, none_given, given, named, call, first_of, expr_size, args_size}
+use Rattle.language.specs.Sentences.{Args, none_given, first_of, expr_size}
 use Rattle.language.specs.Values.{ty_void, same_ty}
 use Rattle.language.specs.Terms as terms
 use Rattle.language.specs.Terms.{Terms, called, term_at, term_type, function_of}
 use Rattle.language.specs.Judgements as judgements
 use Rattle.language.specs.Judgements.{Judged, val, err, void_value, Judgement, judgement, fine, wrong, and_then, goes_on, Known, used, Arg, arg, next_arg, any_named, bind_all, most_names, judge, judge_args, called_name, of_function}
-use Rattle.language.specs.Findings.{parts, part, arg_parts}
+use Rattle.language.specs.Findings.{parts}
 use Rattle.language.proofs.Comparisons.{judge_compares}
 use Rattle.language.proofs.NodeClaims.{some_node}
 use Rattle.language.proofs.Tests.{each_side}
@@ -25,23 +22,20 @@ use Rattle.rows.specs.Rows.{node_word}
 use Rattle.findings.specs.declared.Counts.{Counts}
 use Rattle.findings.specs.Findings.{Adds}
 use Rattle.findings.proofs.Adds.{adds_none, adds_then, adds_count, adds_compared}
-use Rattle.findings.proofs.Rows.{more_rows}
 use Rattle.values.specs.declared.Term.{Term}
 use Rattle.values.specs.declared.Judged as code
 use Rattle.values.specs.declared.Judged.TheVariants.{Val}
 use Rattle.values.specs.Values.{term_as, judged_as, Used}
-use Rattle.values.proofs.Values.{place_as}
 use Rattle.holding.specs.declared.Step.{Step}
-use Rattle.holding.specs.Holding.{most_rows, put_held, Puts, Agrees}
-use Rattle.holding.proofs.Rows.{held_own}
+use Rattle.holding.specs.Holding.{most_rows, put_held, Agrees}
 use Rattle.arguments.specs.declared.Given.{Given}
 use Rattle.arguments.specs.declared.Kept.{Kept}
-use Rattle.arguments.specs.Arguments.{given_as, end, spread, Keeps, Bound, Binds}
+use Rattle.arguments.specs.Arguments.{given_as, end, spread, Keeps, Binds}
 use Rattle.arguments.proofs.Arguments.{end_snoc, spread_snoc, end_far}
 use Rattle.arguments.proofs.Then.{goes as went}
-use Rattle.judging.specs.Judging.{most_findings, Passed, unnamed, named_as, value_of, pass, passed, passed_size, RepAt, ArgsAt, going, bound, Left, Calls, Fits, ArgsFit}
+use Rattle.judging.specs.Judging.{Passed, unnamed, named_as, value_of, pass, passed, passed_size, ArgsAt, bound, Left, Calls, Fits, ArgsFit}
 use Rattle.judging.proofs.Trees.{ArgAt, at_none}
-use Rattle.judging.proofs.Steps.{NoVal, Alike, Ended, ended, fine_then, alike_as, alike_no, alike_then, alike_self, left_of_lem, went_no, as_val, used_value, by}
+use Rattle.judging.proofs.Steps.{NoVal, Alike, Ended, ended, fine_then, alike_as, alike_no, alike_then, alike_self, left_of_lem, went_no, used_value}
 
 -- ---- one argument more
 

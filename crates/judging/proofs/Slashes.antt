@@ -3,26 +3,24 @@ use mathlib.Core.Path.{◌≡◌, refl, sym, ap, subst, ◌∙◌}
 use mathlib.Core.Bool.{Bool, true, false}
 use mathlib.Core.List.{List, [], ◌∷◌, ◌++◌}
 use mathlib.Core.Option.{Option, none, some}
-use Prim.Native.Nat.{ℕ, ◌+◌, ◌*◌, ◌≤◌, ◌<◌}
+use Prim.Native.Nat.{ℕ, ◌+◌}
 use native.Mathlib.Omega.{arith}
 use borrow.Author.Tests.{eq-eqb, ne_eqb, eqb-true}
 use lib.Dec.{eqb}
 use lib.ListN.{length, length-append}
-use Rattle.table.specs.Table.{put_row}
 use Rattle.language.specs.Choice.{if'}
 use Rattle.language.specs.Integers.{u16, low_bits}
 use Rattle.language.specs.Tokens as tokens
 use Rattle.language.specs.Tokens.{Content, contents}
-use Rattle.language.specs.Sentences.{Expr, member, slash', first_of, expr_size}
-use Rattle.language.specs.Values.{Value, is_integer, is_bool, is_sized, is_ip4, is_sock4, is_string, is_text, is_function, is_integral, Ty, ty_ip4, ty_int, ty_kind, same_ty, type_of}
+use Rattle.language.specs.Sentences.{Expr, member, slash', first_of}
+use Rattle.language.specs.Values.{Value, is_integer, is_bool, is_sized, is_ip4, is_sock4, is_string, is_text, is_function, is_integral, ty_ip4, ty_int, ty_kind, same_ty, type_of}
 use Rattle.language.specs.Terms as terms
 use Rattle.language.specs.Terms.{atom, constant, slot, called, divided, term_at, term_type, value_in, constant_of}
 use Rattle.language.specs.Judgements as judgements
 use Rattle.language.specs.Judgements.{left, right, operand_type, no_members, Judged, val, err, Judgement, judgement, fine, wrong, and_then, Known, used, ip4_of, integer_of, cut, widened, narrow_to, left_operand, right_operand, folded, known_ip4, known_integer, joined, judge}
-use Rattle.language.specs.Findings as rows
-use Rattle.language.specs.Findings.{value_kind, value_low, parts, part, stmt_row}
+use Rattle.language.specs.Findings.{value_kind, value_low, parts, part}
 use Rattle.language.specs.Numbers.{token_of}
-use Rattle.language.proofs.Tests.{never, each_side}
+use Rattle.language.proofs.Tests.{never}
 use Rattle.findings.specs.declared.Counts.{Counts}
 use Rattle.rows.specs.declared.token.Token.{Token}
 use Rattle.rows.specs.declared.types.Type.{«Type»}
@@ -30,7 +28,7 @@ use Rattle.rows.specs.Tokens.{token_as}
 use Rattle.findings.specs.declared.Side.{Side}
 use Rattle.findings.specs.declared.Side.TheVariants.{Left as LeftSide, Right as RightSide}
 use Rattle.findings.specs.declared.What.TheVariants.{OperandType}
-use Rattle.findings.specs.Findings.{at_token, put_rows}
+use Rattle.findings.specs.Findings.{at_token}
 use Rattle.findings.proofs.Adds.{adds_none, adds_then}
 use Rattle.findings.proofs.Rows.{no_rows}
 use Rattle.values.specs.declared.Term.{Term}
@@ -40,12 +38,12 @@ use Rattle.values.specs.declared.Judgement as judged
 use Rattle.values.specs.Values.{term_as, judged_as, TypeShown, Used}
 use Rattle.values.proofs.Values.{TermOf, of_constant, term_form, place_as, ip4_is, judged_err}
 use Rattle.holding.specs.declared.Step.{Step}
-use Rattle.holding.specs.Holding.{most_rows, put_held, Puts, Judges, Agrees}
+use Rattle.holding.specs.Holding.{put_held, Puts, Judges, Agrees}
 use Rattle.holding.proofs.Rows.{held_two}
 use Rattle.fitting.specs.Fitting.{Narrows}
 use Rattle.arguments.proofs.Then.{goes as went}
 use Rattle.judging.specs.Judging.{over_both, going, MemberIs, OperandIs, Left, Port, Spreads, Joins, Divides}
-use Rattle.judging.proofs.Steps.{NoVal, ended, fine_then, wrong_then, alike_as, alike_no, ends, stays, by, as_val, no_val, void_ends, used_value}
+use Rattle.judging.proofs.Steps.{ended, fine_then, wrong_then, alike_as, alike_no, ends, by, as_val, no_val, void_ends, used_value}
 
 -- ---- types by their numbers
 

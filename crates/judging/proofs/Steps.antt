@@ -1,31 +1,25 @@
 -- What a step's answer says of a judgement, and how one step follows another.
-use mathlib.Core.Path.{◌≡◌, refl, sym, ap, subst, ◌∙◌}
+use mathlib.Core.Path.{◌≡◌, refl, sym, ap, ◌∙◌}
 use mathlib.Core.Bool.{Bool, true, false}
-use mathlib.Core.List.{List, [], ◌∷◌, ◌++◌, append_assoc, append-nil}
-use mathlib.Core.Option.{Option, none, some}
-use Prim.Native.Nat.{ℕ, zero, suc, ◌+◌, ◌*◌, ◌≤◌, ◌<◌}
+use mathlib.Core.List.{List, [], ◌∷◌}
+use Prim.Native.Nat.{ℕ, ◌+◌, ◌≤◌}
 use native.Mathlib.Omega.{arith}
 use lib.ListN.{length}
 use Rattle.language.specs.Choice.{if'}
-use Rattle.language.specs.Tokens as tokens
-use Rattle.language.specs.Tokens.{Content, contents}
-use Rattle.language.specs.Sentences.{Expr, Args, literal, sock4, local, path, member, call, slash'}
-use Rattle.language.specs.Values.{Ty, ty_void, same_ty}
+use Rattle.language.specs.Tokens.{Content}
+use Rattle.language.specs.Sentences.{Expr, literal, sock4, local, path, member, call, slash'}
+use Rattle.language.specs.Values.{ty_void, same_ty}
 use Rattle.language.specs.Terms as terms
 use Rattle.language.specs.Terms.{term_at, term_type}
-use Rattle.language.specs.Judgements as judgements
-use Rattle.language.specs.Judgements.{What, Diag, Judged, val, err, poisoned, stopped, Judgement, judgement, fine, wrong, and_then, goes_on, Known, used, void_value, over, membered, applied, judge}
+use Rattle.language.specs.Judgements.{What, Judged, val, err, poisoned, stopped, Judgement, judgement, fine, wrong, and_then, goes_on, Known, used, void_value, over, membered, applied}
 use Rattle.language.specs.Findings.{parts}
-use Rattle.language.proofs.Tests.{never, each_side}
-use Rattle.language.proofs.RowsFew.{judge_rows, path_rows}
+use Rattle.language.proofs.Tests.{never}
 use Rattle.findings.specs.declared.Counts.{Counts}
-use Rattle.findings.specs.declared.Diagnostic.{Diagnostic}
-use Rattle.findings.specs.Findings.{Adds, put_rows}
 use Rattle.findings.proofs.Adds.{adds_none, adds_then}
 use Rattle.findings.proofs.Rows.{no_rows}
 use Rattle.values.specs.declared.Term.{Term}
 use Rattle.values.specs.declared.Judged as code
-use Rattle.values.specs.declared.Judged.TheVariants.{Val, Err, Poisoned, Stopped}
+use Rattle.values.specs.declared.Judged.TheVariants.{Val}
 use Rattle.values.specs.declared.Judgement as judged
 use Rattle.values.specs.Values.{term_as, judged_as, Used}
 use Rattle.holding.specs.declared.Step.{Step}

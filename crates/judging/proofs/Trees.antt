@@ -3,7 +3,7 @@ use mathlib.Core.Path.{◌≡◌, refl, sym, ap, subst, ◌∙◌}
 use mathlib.Core.Bool.{Bool, true, false}
 use mathlib.Core.List.{List, [], ◌∷◌}
 use mathlib.Core.Logic.{◌⊎◌, inl, inr}
-use Prim.Native.Nat.{ℕ, zero, suc, ◌+◌, ◌-◌, ◌*◌, ◌≤◌, ◌<◌}
+use Prim.Native.Nat.{ℕ, suc, ◌+◌, ◌-◌, ◌*◌, ◌≤◌, ◌<◌}
 use native.Mathlib.Omega.{arith}
 use borrow.Author.Tests.{ne_eqb}
 use lib.Dec.{eqb}
@@ -14,7 +14,7 @@ use Rattle.language.specs.Sentences.{Expr, Args, none_given, given, named, liter
 use Rattle.language.specs.Judgements.{Known, and_then, any_named, called_name, judge}
 use Rattle.rows.specs.Rows.{node_word}
 use Rattle.holding.specs.Holding.{most_rows}
-use Rattle.judging.specs.Judging.{Passed, unnamed, named_as, value_of, is_named, pass, passed, passed_size, RepAt, is_literal_lem, is_sock4_lem, is_local, is_path, is_member, is_slash, is_call, ArgsAt, no_args, is_arg, is_named_arg, left_of, rest_size, rest}
+use Rattle.judging.specs.Judging.{Passed, unnamed, named_as, value_of, is_named, passed, passed_size, RepAt, is_literal_lem, is_sock4_lem, is_local, is_path, is_member, is_slash, is_call, ArgsAt, no_args, is_arg, is_named_arg, left_of, rest_size, rest}
 
 -- ---- one row
 

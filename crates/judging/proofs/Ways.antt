@@ -1,14 +1,13 @@
 -- Each way on from what the left came to.
-use mathlib.Core.Path.{◌≡◌, refl, sym, ap, subst, ◌∙◌}
+use mathlib.Core.Path.{◌≡◌, sym, ap, subst, ◌∙◌}
 use mathlib.Core.List.{List}
-use Prim.Native.Nat.{ℕ, ◌+◌, ◌*◌, ◌≤◌, ◌<◌}
+use Prim.Native.Nat.{ℕ, ◌+◌, ◌≤◌, ◌<◌}
 use native.Mathlib.Omega.{arith}
-use lib.ListN.{length}
 use Rattle.language.specs.Tokens as tokens
 use Rattle.language.specs.Tokens.{contents}
-use Rattle.language.specs.Sentences.{Expr, Args, none_given, member, call, slash', first_of, expr_size, args_size}
+use Rattle.language.specs.Sentences.{Expr, Args, none_given, member, call, slash', first_of}
 use Rattle.language.specs.Terms as terms
-use Rattle.language.specs.Judgements.{Judgement, fine, and_then, Known, used, membered, over, applied, judge, judge_args}
+use Rattle.language.specs.Judgements.{fine, Known, used, membered, over, applied, judge}
 use Rattle.language.proofs.NodeClaims.{some_node}
 use Rattle.language.proofs.WarnsFew.{judge_warns}
 use Rattle.rows.specs.Rows.{node_word}
@@ -22,7 +21,7 @@ use Rattle.holding.specs.declared.Step.{Step}
 use Rattle.holding.specs.Holding.{most_rows, Agrees}
 use Rattle.judging.specs.declared.Callee.{Callee}
 use Rattle.judging.specs.declared.Callee.TheVariants.{Function, Ends}
-use Rattle.judging.specs.Judging.{Passed, passed, passed_size, RepAt, is_literal_lem, is_sock4_lem, is_local, is_path, is_member, is_slash, is_call, ArgsAt, rest_size, over_both, going, rest, MemberIs, Left, Divides, CalleeOf, CalleeIs, Calls, Fits, StepFits, ArgsFit}
+use Rattle.judging.specs.Judging.{Passed, passed, RepAt, is_literal_lem, is_sock4_lem, is_local, is_path, is_member, is_slash, is_call, ArgsAt, rest_size, over_both, going, rest, MemberIs, Left, Divides, CalleeOf, CalleeIs, Calls, Fits, StepFits, ArgsFit}
 use Rattle.judging.proofs.Trees.{SlashAt, CallAt, at_member, at_slash, at_call, same_tree, passed_size_lem}
 use Rattle.judging.proofs.Steps.{by, goes, left_of_lem, rest_used, void_ends}
 use Rattle.judging.proofs.Slashes.{member_ends, left_goes, is_ip4_lem}
