@@ -142,9 +142,9 @@ fn moved(chunk: &mut [u8], unread: Unread) -> usize
 }
 
 // Reads until the chunk is full or the input ends, what is not yet read being the first of it.
-pub fn fill(chunk: &mut [u8], unread: Unread) -> Read {
+pub fn fill(rt: &(impl Input + Eprint), chunk: &mut [u8], unread: Unread) -> Read {
     let kept = moved(chunk, unread);
-    streams::read_full(chunk, kept)
+    streams::read_full(rt, chunk, kept)
 }
 
 // What the end of the input comes to: a last line may lack its newline.
@@ -159,7 +159,12 @@ fn last(size: usize, upper: u8) -> Line {
 }
 
 // Reads the next source.
-pub fn next(chunk: &mut [u8], unread: Unread, source: &mut [u8]) -> Line {
+pub fn next(
+    rt: &(impl Input + Eprint),
+    chunk: &mut [u8],
+    unread: Unread,
+    source: &mut [u8],
+) -> Line {
     let mut at = unread.at;
     let mut end = unread.end;
     let mut size = 0;
@@ -184,7 +189,7 @@ pub fn next(chunk: &mut [u8], unread: Unread, source: &mut [u8]) -> Line {
         size = d.size;
         upper = d.upper;
         at = 0;
-        let read = streams::read_full(chunk, 0);
+        let read = streams::read_full(rt, chunk, 0);
         let Read::Whole(n) = read else {
             return Line::Failed;
         };

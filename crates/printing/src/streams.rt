@@ -1,6 +1,10 @@
 // Standard input and standard output, for programs that take no arguments. A read that fails is never taken for the end of the
 // input, nor a write that fails for one that was made: what failed is said at once, in a line on standard error.
-use libc::{EINTR, STDERR_FILENO, STDIN_FILENO, STDOUT_FILENO};
+ghost use Rattle.std.specs.Prelude.{◌≤◌, length, IfOk};
+
+use std::env::{Env, FillError};
+use std::io;
+use std::io::{Error, ErrorKind};
 
 // What reading came to.
 #[derive(Clone, Copy)]
@@ -12,84 +16,89 @@ pub enum Read {
 }
 
 // Whether the program was given no arguments. Where it was given some, it says that it takes none: what they name is not read.
-pub fn no_arguments() -> bool {
-    if os::arg_count() <= 1 {
+pub fn no_arguments(rt: &(impl Env + Eprint)) -> bool {
+    if let Err(FillError::NotPresent) = rt.arg(1, &mut []) {
         return true;
     }
-    io::write_all(
-        STDERR_FILENO,
-        b"arguments were given, but only standard input is read: nothing was done\n",
+    let _ = eprintln!(rt;
+        "arguments were given, but only standard input is read: nothing was done"
     );
     false
 }
 
-// One read, made again where a signal interrupts it. Answers as `libc::read` does.
-fn read_once(buf: &mut [u8]) -> isize {
+// One read, made again where a signal interrupts it.
+fn read_once<R: io::Read>(reader: &mut R, buf: &mut [u8]) -> io::Result<usize>
+    ensures { IfOk result (λ n. n ≤ length buf.new) }
+{
     // nothing says that the signals end, so the turns are counted
     let mut turns: u64 = 1000000000000;
     while 0 < turns {
-        let got = libc::read(STDIN_FILENO, buf);
-        if 0 <= got {
-            return got;
-        }
-        if os::errno() != EINTR {
-            return got;
+        match reader.read(buf) {
+            Ok(got) => return Ok(got),
+            Err(e) => {
+                if e.kind() != ErrorKind::Interrupted {
+                    return Err(e);
+                }
+            }
         }
         turns -= 1;
     }
-    -1
+    Err(Error::from(ErrorKind::Interrupted))
 }
 
-fn read_failed() -> Read {
-    os::fail(b"cannot read standard input");
+fn read_failed(rt: &impl Eprint, why: Error) -> Read {
+    let _ = eprintln!(rt; "cannot read standard input: {why}");
     Read::Failed
 }
 
 // Reads into the buffer from place `from` on, until it is full or the input ends.
-pub fn read_full(buf: &mut [u8], from: usize) -> Read {
+pub fn read_full(rt: &(impl Input + Eprint), buf: &mut [u8], from: usize) -> Read {
+    let mut reader = rt.reader();
     let mut end = from;
     while end < buf.len() {
-        let got = read_once(&mut buf[end..]);
-        if got < 0 {
-            return read_failed();
+        match read_once(&mut reader, &mut buf[end..]) {
+            Ok(0) => return Read::Whole(end),
+            Ok(n) => end += n,
+            Err(why) => return read_failed(rt, why),
         }
-        let n = io::count(got, &buf[end..]);
-        if n == 0 {
-            return Read::Whole(end);
-        }
-        end += n;
     }
     Read::Whole(end)
 }
 
-// One write, made again where a signal interrupts it. Answers as `libc::write` does.
-fn write_once(text: &[u8]) -> isize {
+// One write, made again where a signal interrupts it.
+fn write_once(rt: &impl Print, text: &[u8]) -> io::Result<usize>
+    ensures { IfOk result (λ n. n ≤ length text.now) }
+{
     // nothing says that the signals end, so the turns are counted
     let mut turns: u64 = 1000000000000;
     while 0 < turns {
-        let put = libc::write(STDOUT_FILENO, text);
-        if 0 <= put {
-            return put;
-        }
-        if os::errno() != EINTR {
-            return put;
+        match rt.write_some(text) {
+            Ok(put) => return Ok(put),
+            Err(e) => {
+                if e.kind() != ErrorKind::Interrupted {
+                    return Err(e);
+                }
+            }
         }
         turns -= 1;
     }
-    -1
+    Err(Error::from(ErrorKind::Interrupted))
+}
+
+fn write_failed(rt: &impl Eprint, why: Error) -> bool {
+    let _ = eprintln!(rt; "cannot write standard output: {why}");
+    false
 }
 
 // Writes a text, and answers whether all of it was written.
-pub fn write_all(text: &[u8]) -> bool {
+pub fn write_all(rt: &(impl Print + Eprint), text: &[u8]) -> bool {
     let mut done = 0;
     while done < text.len() {
-        let put = write_once(&text[done..]);
-        let n = io::count(put, &text[done..]);
-        if n == 0 {
-            os::fail(b"cannot write standard output");
-            return false;
+        match write_once(rt, &text[done..]) {
+            Ok(0) => return write_failed(rt, Error::from(ErrorKind::WriteZero)),
+            Ok(n) => done += n,
+            Err(why) => return write_failed(rt, why),
         }
-        done += n;
     }
     true
 }

@@ -22,29 +22,35 @@ pub fn row_at(tokens: &[u64], i: usize) -> Token {
 }
 
 // The name of a kind of token.
-fn name(out: &mut [u8], at: usize, kind: u64) -> usize {
+fn name(rt: &(impl Print + Eprint), out: &mut [u8], at: usize, kind: u64) -> usize {
     let names = b"\
         - Eof LParen RParen Dot DoubleColon Colon SemiColon Equals Comma Slash ImportKeyword LetKeyword Identifier \
         BooleanLiteral IPv4Literal StringLiteral HexLiteral DecLiteral";
-    output::word(out, at, names, kind)
+    output::word(rt, out, at, names, kind)
 }
 
 // The name of a kind of error.
-fn error_name(out: &mut [u8], at: usize, kind: u64) -> usize {
+fn error_name(rt: &(impl Print + Eprint), out: &mut [u8], at: usize, kind: u64) -> usize {
     let names = b"\
         - UnexpectedChar UnterminatedString IntOutOfRange IntLeadingZero IntInvalidSuffix IPv4Literal";
-    output::word(out, at, names, kind)
+    output::word(rt, out, at, names, kind)
 }
 
-pub fn boolean(out: &mut [u8], at: usize, n: u64) -> usize {
+pub fn boolean(rt: &(impl Print + Eprint), out: &mut [u8], at: usize, n: u64) -> usize {
     if n == 0 {
-        return output::text(out, at, b"false");
+        return output::text(rt, out, at, b"false");
     }
-    output::text(out, at, b"true")
+    output::text(rt, out, at, b"true")
 }
 
 // The value that a token carries. A string's is not shown here.
-pub fn show_value(source: &[u8], token: Token, out: &mut [u8], at: usize) -> usize {
+pub fn show_value(
+    rt: &(impl Print + Eprint),
+    source: &[u8],
+    token: Token,
+    out: &mut [u8],
+    at: usize,
+) -> usize {
     let value = Wide {
         hi: token.hi,
         lo: token.lo,
@@ -52,51 +58,78 @@ pub fn show_value(source: &[u8], token: Token, out: &mut [u8], at: usize) -> usi
     let kind = token.kind;
     match kind {
         TokKind::IDENTIFIER => output::text(
+            rt,
             out,
             at,
             part(source, token.start as usize, token.end as usize),
         ),
-        TokKind::BOOLEAN_LITERAL => boolean(out, at, value.lo),
-        TokKind::IPV4_LITERAL => output::quad(out, at, value.lo),
-        TokKind::HEX_LITERAL | TokKind::DEC_LITERAL => output::wide(out, at, value),
+        TokKind::BOOLEAN_LITERAL => boolean(rt, out, at, value.lo),
+        TokKind::IPV4_LITERAL => output::quad(rt, out, at, value.lo),
+        TokKind::HEX_LITERAL | TokKind::DEC_LITERAL => output::wide(rt, out, at, value),
         _ => at,
     }
 }
 
 // The name of a token, and its value unless it is a string.
-pub fn show(source: &[u8], token: Token, out: &mut [u8], at: usize) -> usize {
-    let p = name(out, at, token.kind);
+pub fn show(
+    rt: &(impl Print + Eprint),
+    source: &[u8],
+    token: Token,
+    out: &mut [u8],
+    at: usize,
+) -> usize {
+    let p = name(rt, out, at, token.kind);
     if token.kind < TokKind::IDENTIFIER || token.kind == TokKind::STRING_LITERAL {
         return p;
     }
-    let q = output::byte(out, p, b' ');
-    show_value(source, token, out, q)
+    let q = output::byte(rt, out, p, b' ');
+    show_value(rt, source, token, out, q)
 }
 
-fn body(source: &[u8], start: usize, end: usize, i: u64, out: &mut [u8], at: usize) -> usize {
-    let p = output::text(out, at, b" x");
-    output::hex(out, p, lex::string_body(source, start, end, i))
+fn body(
+    rt: &(impl Print + Eprint),
+    source: &[u8],
+    start: usize,
+    end: usize,
+    i: u64,
+    out: &mut [u8],
+    at: usize,
+) -> usize {
+    let p = output::text(rt, out, at, b" x");
+    output::hex(rt, out, p, lex::string_body(source, start, end, i))
 }
 
 // The bodies of a string in hex, a blank before each.
-pub fn bodies(source: &[u8], t: Token, out: &mut [u8], at: usize) -> usize {
+pub fn bodies(
+    rt: &(impl Print + Eprint),
+    source: &[u8],
+    t: Token,
+    out: &mut [u8],
+    at: usize,
+) -> usize {
     let start = t.start as usize;
     let end = t.end as usize;
     let count = t.lo;
     let mut p = at;
     let mut i: u64 = 0;
     while i < count {
-        p = body(source, start, end, i, out, p);
+        p = body(rt, source, start, end, i, out, p);
         i += 1;
     }
     p
 }
 
 // The name of an error, and the character for one that was not expected.
-pub fn show_error(out: &mut [u8], at: usize, kind: u64, character: u64) -> usize {
-    let p = error_name(out, at, kind);
+pub fn show_error(
+    rt: &(impl Print + Eprint),
+    out: &mut [u8],
+    at: usize,
+    kind: u64,
+    character: u64,
+) -> usize {
+    let p = error_name(rt, out, at, kind);
     if kind == LexErrorKind::UNEXPECTED_CHAR {
-        return output::field(out, p, character);
+        return output::field(rt, out, p, character);
     }
     p
 }

@@ -75,6 +75,7 @@ fn stmt_words(rows: u64) -> usize
 // Runs a mode, given the numbers of the first line. The second is for the nodes or, in the mode `canon`, for the text.
 // Answers what ended the sources.
 pub fn run(
+    rt: &(impl Input + Print + Eprint),
     mode: Mode,
     numbers: [u64; 4],
     chunk: &mut [u8],
@@ -93,6 +94,7 @@ pub fn run(
     let mut stmts = [0u64; Lent::STATEMENTS as usize * StatementRow::WORDS];
     let mut text = [0u8; Lent::BYTES as usize];
     sources::answers(
+        rt,
         mode,
         chunk,
         unread,

@@ -14,23 +14,29 @@ use printing::header::Mode;
 use printing::input::{Line, Unread};
 use printing::streams::Read;
 use printing::{header, input, output, streams};
+use std::env::Env;
 
-pub fn run() {
-    if streams::no_arguments() {
-        run_all();
+pub fn run(rt: &(impl Env + Input + Print + Eprint)) {
+    if streams::no_arguments(rt) {
+        run_all(rt);
     }
 }
 
-fn run_all() {
+fn run_all(rt: &(impl Input + Print + Eprint)) {
     let mut chunk = [0u8; 262144];
     let mut out = [0u8; 65536];
-    run_in(&mut chunk, &mut out);
+    run_in(rt, &mut chunk, &mut out);
 }
 
 // Runs one part. Answers what ended it.
-fn part(chunk: &mut [u8], unread: Unread, out: &mut [u8]) -> Line {
+fn part(
+    rt: &(impl Input + Print + Eprint),
+    chunk: &mut [u8],
+    unread: Unread,
+    out: &mut [u8],
+) -> Line {
     // the first line is looked for in one chunk, so that is read whole
-    let read = input::fill(chunk, unread);
+    let read = input::fill(rt, chunk, unread);
     let Read::Whole(end) = read else {
         return Line::Failed;
     };
@@ -45,24 +51,24 @@ fn part(chunk: &mut [u8], unread: Unread, out: &mut [u8]) -> Line {
         at: head.next,
         end: end,
     };
-    lent::run(mode, numbers, chunk, sources, out)
+    lent::run(rt, mode, numbers, chunk, sources, out)
 }
 
 // What is written where no part follows: nothing, if that is the end of the input, or if reading or writing failed.
-fn last(line: Line, out: &mut [u8]) {
+fn last(rt: &(impl Print + Eprint), line: Line, out: &mut [u8]) {
     if let Line::Bad = line {
-        output::bad_input(out, 0);
+        output::bad_input(rt, out, 0);
     }
 }
 
-fn run_in(chunk: &mut [u8], out: &mut [u8]) {
+fn run_in(rt: &(impl Input + Print + Eprint), chunk: &mut [u8], out: &mut [u8]) {
     let mut unread = Unread { at: 0, end: 0 };
     // nothing says that the input ends, so the parts are counted
     let mut parts: u64 = 1000000000000;
     while 0 < parts {
-        let line = part(chunk, unread, out);
+        let line = part(rt, chunk, unread, out);
         let Line::Part(rest) = line else {
-            last(line, out);
+            last(rt, line, out);
             return;
         };
         unread = rest;

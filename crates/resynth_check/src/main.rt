@@ -28,6 +28,7 @@ impl Program {
 // Checks a source and writes the answer. What was counted and is not in it is said on standard error. It asks for the rooms
 // that 01 names, so that those lent are these.
 fn answer(
+    rt: &(impl Print + Eprint),
     source: &[u8],
     tokens: &mut [u64],
     nodes: &mut [u64],
@@ -38,19 +39,20 @@ fn answer(
     requires { (length tokens.old ≡ program_tokens * token_width) × (length nodes.old ≡ program_nodes * node_width) × (length diags.old ≡ program_diags * diag_width) × (length stmts.old ≡ program_stmts * stmt_width) }
 {
     let checked = checker::check_source(source, tokens, nodes, diags, stmts);
-    let at = showing_check::report(source, diags, checked, out, 0);
-    if output::flush(out, at) {
-        showing_check::tell_unshown(diags, checked);
+    let at = showing_check::report(rt, source, diags, checked, out, 0);
+    if output::flush(rt, out, at) {
+        showing_check::tell_unshown(rt, diags, checked);
     }
 }
 
 // Checks the source that is in `source` and has `size` bytes.
-fn check(source: &[u8], size: usize, out: &mut [u8]) {
+fn check(rt: &(impl Print + Eprint), source: &[u8], size: usize, out: &mut [u8]) {
     let mut tokens = [0u64; Program::TOKENS * TokenRow::WORDS];
     let mut nodes = [0u64; Program::NODES * NodeRow::WORDS];
     let mut diags = [0u64; Program::DIAGNOSTICS * DiagnosticRow::WORDS];
     let mut stmts = [0u64; Program::STATEMENTS * StatementRow::WORDS];
     answer(
+        rt,
         input::first(source, size),
         &mut tokens,
         &mut nodes,
@@ -61,22 +63,22 @@ fn check(source: &[u8], size: usize, out: &mut [u8]) {
 }
 
 // Reads standard input into `source`, as much as fits, and checks that.
-fn run(source: &mut [u8], out: &mut [u8]) {
-    let read = streams::read_full(source, 0);
+fn run(rt: &(impl Input + Print + Eprint), source: &mut [u8], out: &mut [u8]) {
+    let read = streams::read_full(rt, source, 0);
     if let Read::Whole(size) = read {
-        check(source, size, out);
+        check(rt, source, size, out);
     }
 }
 
-fn check_input() {
+fn check_input(rt: &(impl Input + Print + Eprint)) {
     // a byte longer than any source that is taken, so that one which is too long is still too long here
     let mut source = [0u8; Source::MOST_BYTES + 1];
     let mut out = [0u8; 65536];
-    run(&mut source, &mut out);
+    run(rt, &mut source, &mut out);
 }
 
-fn main() {
-    if streams::no_arguments() {
-        check_input();
+fn main(rt: HostRuntime) {
+    if streams::no_arguments(&rt) {
+        check_input(&rt);
     }
 }

@@ -2,36 +2,55 @@
 use printing::{output, token, verdict};
 use rows::{TokKind, Token, Verdict};
 
-fn what(source: &[u8], t: Token, out: &mut [u8], at: usize) -> usize {
-    let p = token::show(source, t, out, at);
+fn what(rt: &(impl Print + Eprint), source: &[u8], t: Token, out: &mut [u8], at: usize) -> usize {
+    let p = token::show(rt, source, t, out, at);
     if t.kind == TokKind::STRING_LITERAL {
-        return token::bodies(source, t, out, p);
+        return token::bodies(rt, source, t, out, p);
     }
     p
 }
 
-fn line_of(source: &[u8], t: Token, out: &mut [u8], at: usize) -> usize {
-    let a = output::pair(out, at, t.line, t.column);
-    let b = what(source, t, out, a);
-    output::byte(out, b, b'\n')
+fn line_of(
+    rt: &(impl Print + Eprint),
+    source: &[u8],
+    t: Token,
+    out: &mut [u8],
+    at: usize,
+) -> usize {
+    let a = output::pair(rt, out, at, t.line, t.column);
+    let b = what(rt, source, t, out, a);
+    output::byte(rt, out, b, b'\n')
 }
 
 // The first `count` rows of the table.
-fn tokens(source: &[u8], table: &[u64], count: u64, out: &mut [u8], at: usize) -> usize {
+fn tokens(
+    rt: &(impl Print + Eprint),
+    source: &[u8],
+    table: &[u64],
+    count: u64,
+    out: &mut [u8],
+    at: usize,
+) -> usize {
     let mut p = at;
     let mut i: u64 = 0;
     while i < count {
-        p = line_of(source, token::row_at(table, i as usize), out, p);
+        p = line_of(rt, source, token::row_at(table, i as usize), out, p);
         i += 1;
     }
     p
 }
 
-pub fn answer(source: &[u8], table: &mut [u64], out: &mut [u8], at: usize) -> usize {
+pub fn answer(
+    rt: &(impl Print + Eprint),
+    source: &[u8],
+    table: &mut [u64],
+    out: &mut [u8],
+    at: usize,
+) -> usize {
     let lexed = lex::lex_source(source, table);
     let v = lexed.verdict;
     if v.number != Verdict::DONE {
-        return verdict::refused(v, out, at);
+        return verdict::refused(rt, v, out, at);
     }
-    tokens(source, table, lexed.tokens, out, at)
+    tokens(rt, source, table, lexed.tokens, out, at)
 }

@@ -31,37 +31,49 @@ fn row_at(table: &[u64], at: usize) -> Row
     }
 }
 
-fn string(source: &[u8], t: Token, out: &mut [u8], at: usize) -> usize {
-    let p = output::text(out, at, b"Str x");
-    output::hex(out, p, scan::body(source, t.start as usize, t.end as usize))
+fn string(rt: &(impl Print + Eprint), source: &[u8], t: Token, out: &mut [u8], at: usize) -> usize {
+    let p = output::text(rt, out, at, b"Str x");
+    output::hex(
+        rt,
+        out,
+        p,
+        scan::body(source, t.start as usize, t.end as usize),
+    )
 }
 
-fn error(t: Token, out: &mut [u8], at: usize) -> usize {
-    let p = output::text(out, at, b"error ");
-    token::show_error(out, p, t.kind, t.lo)
+fn error(rt: &(impl Print + Eprint), t: Token, out: &mut [u8], at: usize) -> usize {
+    let p = output::text(rt, out, at, b"error ");
+    token::show_error(rt, out, p, t.kind, t.lo)
 }
 
 // What a lexeme is, after its place.
-fn what(source: &[u8], row: Row, out: &mut [u8], at: usize) -> usize {
+fn what(rt: &(impl Print + Eprint), source: &[u8], row: Row, out: &mut [u8], at: usize) -> usize {
     let class = row.class;
     match class {
-        LexemeKind::TRIVIA => output::text(out, at, b"Trivia"),
-        LexemeKind::STR => string(source, row.token, out, at),
-        LexemeKind::TOK => token::show(source, row.token, out, at),
-        LexemeKind::ERROR => error(row.token, out, at),
+        LexemeKind::TRIVIA => output::text(rt, out, at, b"Trivia"),
+        LexemeKind::STR => string(rt, source, row.token, out, at),
+        LexemeKind::TOK => token::show(rt, source, row.token, out, at),
+        LexemeKind::ERROR => error(rt, row.token, out, at),
         _ => at,
     }
 }
 
-fn lexeme(source: &[u8], row: Row, out: &mut [u8], at: usize) -> usize {
+fn lexeme(rt: &(impl Print + Eprint), source: &[u8], row: Row, out: &mut [u8], at: usize) -> usize {
     let t = row.token;
-    let a = output::pair(out, at, t.start, t.end);
-    let b = what(source, row, out, a);
-    output::byte(out, b, b'\n')
+    let a = output::pair(rt, out, at, t.start, t.end);
+    let b = what(rt, source, row, out, a);
+    output::byte(rt, out, b, b'\n')
 }
 
 // The first `count` rows of the table.
-fn lexemes(source: &[u8], table: &[u64], count: u64, out: &mut [u8], at: usize) -> usize {
+fn lexemes(
+    rt: &(impl Print + Eprint),
+    source: &[u8],
+    table: &[u64],
+    count: u64,
+    out: &mut [u8],
+    at: usize,
+) -> usize {
     let mut p = at;
     let mut left = count;
     let mut word: usize = 0;
@@ -70,18 +82,24 @@ fn lexemes(source: &[u8], table: &[u64], count: u64, out: &mut [u8], at: usize) 
             return p;
         }
         let row = row_at(table, word);
-        p = lexeme(source, row, out, p);
+        p = lexeme(rt, source, row, out, p);
         word += LexemeRow::WORDS;
         left -= 1;
     }
     p
 }
 
-pub fn answer(source: &[u8], table: &mut [u64], out: &mut [u8], at: usize) -> usize {
+pub fn answer(
+    rt: &(impl Print + Eprint),
+    source: &[u8],
+    table: &mut [u64],
+    out: &mut [u8],
+    at: usize,
+) -> usize {
     let scanned = scan::scan_line(source, table);
     let v = scanned.verdict;
     if v.number != Verdict::DONE {
-        return verdict::refused(v, out, at);
+        return verdict::refused(rt, v, out, at);
     }
-    lexemes(source, table, scanned.lexemes, out, at)
+    lexemes(rt, source, table, scanned.lexemes, out, at)
 }

@@ -2,7 +2,6 @@
 use crate::diagnostic;
 use checker::CheckAnswer;
 use constants::Constants;
-use libc::STDERR_FILENO;
 use printing::{output, verdict};
 use rows::{DiagnosticRow, Verdict};
 
@@ -17,6 +16,7 @@ fn sum(a: u64, b: u64) -> u64 {
 
 // The diagnostics that the table holds, and the counts of all there were.
 fn findings<'a>(
+    rt: &(impl Print + Eprint),
     source: &'a [u8],
     text: &'a [u8],
     diags: &[u64],
@@ -26,17 +26,18 @@ fn findings<'a>(
     at: usize,
 ) -> usize {
     let found = sum(errors, warnings);
-    let p = diagnostic::diagnostics(source, text, diags, found, false, out, at);
-    diagnostic::counts(errors, warnings, out, p)
+    let p = diagnostic::diagnostics(rt, source, text, diags, found, false, out, at);
+    diagnostic::counts(rt, errors, warnings, out, p)
 }
 
-fn refused(verdict: Verdict, out: &mut [u8], at: usize) -> usize {
-    let p = output::refused(out, at, verdict.number, verdict.line, verdict.column);
-    output::byte(out, p, b'\n')
+fn refused(rt: &(impl Print + Eprint), verdict: Verdict, out: &mut [u8], at: usize) -> usize {
+    let p = output::refused(rt, out, at, verdict.number, verdict.line, verdict.column);
+    output::byte(rt, out, p, b'\n')
 }
 
 // What the check program prints: the findings, or one line with the number and the place of a refusal.
 pub fn report(
+    rt: &(impl Print + Eprint),
     source: &[u8],
     diags: &[u64],
     checked: CheckAnswer,
@@ -45,12 +46,13 @@ pub fn report(
 ) -> usize {
     let verdict = checked.verdict;
     if verdict.number != Verdict::DONE {
-        return refused(verdict, out, at);
+        return refused(rt, verdict, out, at);
     }
     // lent from here: a constant array is made anew wherever it is named
     let table = Constants::new();
     let text = table.text;
     findings(
+        rt,
         source,
         &text,
         diags,
@@ -72,21 +74,20 @@ fn unshown(diags: &[u64], checked: CheckAnswer) -> u64 {
 }
 
 // Says on standard error how many findings `report` counts and does not show, if there are any.
-pub fn tell_unshown(diags: &[u64], checked: CheckAnswer) {
+pub fn tell_unshown(rt: &impl Eprint, diags: &[u64], checked: CheckAnswer) {
     let verdict = checked.verdict;
     if verdict.number != Verdict::DONE {
         return;
     }
     let n = unshown(diags, checked);
     if 0 < n {
-        io::write_all(STDERR_FILENO, b"findings that are counted and not shown: ");
-        io::print_decimal(STDERR_FILENO, n);
-        io::write_all(STDERR_FILENO, b"\n");
+        let _ = eprintln!(rt; "findings that are counted and not shown: {n}");
     }
 }
 
 // The findings, and the statements after them.
 fn judged(
+    rt: &(impl Print + Eprint),
     source: &[u8],
     tokens: &[u64],
     diags: &[u64],
@@ -97,11 +98,12 @@ fn judged(
 ) -> usize {
     let v = checked.verdict;
     if v.number != Verdict::DONE {
-        return verdict::refused(v, out, at);
+        return verdict::refused(rt, v, out, at);
     }
     let table = Constants::new();
     let text = table.text;
     let p = findings(
+        rt,
         source,
         &text,
         diags,
@@ -110,11 +112,12 @@ fn judged(
         out,
         at,
     );
-    showing_held::statements(source, &text, tokens, stmts, checked.statements, out, p)
+    showing_held::statements(rt, source, &text, tokens, stmts, checked.statements, out, p)
 }
 
 // The mode `check`.
 pub fn answer(
+    rt: &(impl Print + Eprint),
     source: &[u8],
     tokens: &mut [u64],
     nodes: &mut [u64],
@@ -124,11 +127,12 @@ pub fn answer(
     at: usize,
 ) -> usize {
     let checked = checker::check_source(source, tokens, nodes, diags, stmts);
-    judged(source, tokens, diags, stmts, checked, out, at)
+    judged(rt, source, tokens, diags, stmts, checked, out, at)
 }
 
 // The findings, each after the number of its statement, and the counts, that of the compared names too.
 fn numbered(
+    rt: &(impl Print + Eprint),
     source: &[u8],
     diags: &[u64],
     checked: CheckAnswer,
@@ -137,13 +141,14 @@ fn numbered(
 ) -> usize {
     let v = checked.verdict;
     if v.number != Verdict::DONE {
-        return verdict::refused(v, out, at);
+        return verdict::refused(rt, v, out, at);
     }
     let table = Constants::new();
     let text = table.text;
     let found = sum(checked.errors, checked.warnings);
-    let p = diagnostic::diagnostics(source, &text, diags, found, true, out, at);
+    let p = diagnostic::diagnostics(rt, source, &text, diags, found, true, out, at);
     diagnostic::counts_compared(
+        rt,
         checked.errors,
         checked.warnings,
         checked.comparisons,
@@ -154,6 +159,7 @@ fn numbered(
 
 // The mode `grouped`.
 pub fn grouped(
+    rt: &(impl Print + Eprint),
     source: &[u8],
     tokens: &mut [u64],
     nodes: &mut [u64],
@@ -163,5 +169,5 @@ pub fn grouped(
     at: usize,
 ) -> usize {
     let checked = checker::check_source(source, tokens, nodes, diags, stmts);
-    numbered(source, diags, checked, out, at)
+    numbered(rt, source, diags, checked, out, at)
 }

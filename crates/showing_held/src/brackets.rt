@@ -55,24 +55,32 @@ pub fn push(
 }
 
 // The bracket of an expression of some kind; that of an argument stands in one more.
-fn bracket(kind: u64, out: &mut [u8], at: usize) -> usize {
-    let p = output::byte(out, at, b')');
+fn bracket(rt: &(impl Print + Eprint), kind: u64, out: &mut [u8], at: usize) -> usize {
+    let p = output::byte(rt, out, at, b')');
     if kind == StatementRow::ARGUMENT {
-        return output::byte(out, p, b')');
+        return output::byte(rt, out, p, b')');
     }
     p
 }
 
 // What stands after a part of some kind, in the expression that it is a part of: after a callee the name of the function.
-fn after(text: &[u8], kind: u64, entry: u64, out: &mut [u8], at: usize) -> usize {
+fn after(
+    rt: &(impl Print + Eprint),
+    text: &[u8],
+    kind: u64,
+    entry: u64,
+    out: &mut [u8],
+    at: usize,
+) -> usize {
     if kind == StatementRow::CALLEE {
-        return texts::entry(text, entry, out, at);
+        return texts::entry(rt, text, entry, out, at);
     }
     at
 }
 
 // Closes an expression of some kind, and each that it was the last part of. After the outermost the line ends.
 pub fn close(
+    rt: &(impl Print + Eprint),
     text: &[u8],
     stack: &mut [u64; Open::ROOM * Open::WORDS],
     depth: usize,
@@ -83,22 +91,22 @@ pub fn close(
     requires { depth ≤ 96 }
     ensures { result.depth ≤ 96 }
 {
-    let mut p = bracket(kind, out, at);
+    let mut p = bracket(rt, kind, out, at);
     let mut closed = kind;
     let mut left = depth;
     while 0 < left {
         let word = Open::WORDS * (left - 1);
-        p = after(text, closed, stack[word + Open::ENTRY], out, p);
+        p = after(rt, text, closed, stack[word + Open::ENTRY], out, p);
         if 0 < stack[word + Open::LEFT] {
             stack[word + Open::LEFT] -= 1;
             return Shown { depth: left, at: p };
         }
         closed = stack[word + Open::KIND];
-        p = bracket(closed, out, p);
+        p = bracket(rt, closed, out, p);
         left -= 1;
     }
     Shown {
         depth: 0,
-        at: output::byte(out, p, b'\n'),
+        at: output::byte(rt, out, p, b'\n'),
     }
 }

@@ -9,27 +9,36 @@ use rows::{StatementRow, Text, Ty};
 use values::Term;
 
 // An address and its port.
-fn sock4(out: &mut [u8], at: usize, address: u64, port: u64) -> usize {
-    let p = output::quad(out, at, address);
-    let q = output::byte(out, p, b':');
-    output::number(out, q, port)
+fn sock4(rt: &(impl Print + Eprint), out: &mut [u8], at: usize, address: u64, port: u64) -> usize {
+    let p = output::quad(rt, out, at, address);
+    let q = output::byte(rt, out, p, b':');
+    output::number(rt, out, q, port)
 }
 
 // A value that is no string of the source.
-fn plain(text: &[u8], out: &mut [u8], at: usize, ty: u64, value: u64, second: u64) -> usize {
+fn plain(
+    rt: &(impl Print + Eprint),
+    text: &[u8],
+    out: &mut [u8],
+    at: usize,
+    ty: u64,
+    value: u64,
+    second: u64,
+) -> usize {
     match ty {
-        Ty::BOOL => token::boolean(out, at, value),
-        Ty::U8 | Ty::U16 | Ty::U32 | Ty::U64 => output::number(out, at, value),
-        Ty::IP4 => output::quad(out, at, value),
-        Ty::SOCK4 => sock4(out, at, value, second),
-        Ty::BYTES => texts::hex(text, out, at, value, second),
-        Ty::FUNCTION => texts::plain(text, out, at, value, second),
+        Ty::BOOL => token::boolean(rt, out, at, value),
+        Ty::U8 | Ty::U16 | Ty::U32 | Ty::U64 => output::number(rt, out, at, value),
+        Ty::IP4 => output::quad(rt, out, at, value),
+        Ty::SOCK4 => sock4(rt, out, at, value, second),
+        Ty::BYTES => texts::hex(rt, text, out, at, value, second),
+        Ty::FUNCTION => texts::plain(rt, text, out, at, value, second),
         _ => at,
     }
 }
 
 // A blank and the value.
 fn value(
+    rt: &(impl Print + Eprint),
     source: &[u8],
     text: &[u8],
     tokens: &[u64],
@@ -41,10 +50,11 @@ fn value(
 {
     let value = row[StatementRow::LOW];
     if row[StatementRow::TEXT] == Text::SOURCE {
-        return token::bodies(source, token::row_at(tokens, value as usize), out, at);
+        return token::bodies(rt, source, token::row_at(tokens, value as usize), out, at);
     }
-    let p = output::byte(out, at, b' ');
+    let p = output::byte(rt, out, at, b' ');
     plain(
+        rt,
         text,
         out,
         p,
@@ -55,13 +65,20 @@ fn value(
 }
 
 // A bracket, the word for its form, its place and a blank.
-pub fn start(row: &[u64], out: &mut [u8], at: usize) -> usize
+pub fn start(rt: &(impl Print + Eprint), row: &[u64], out: &mut [u8], at: usize) -> usize
     requires { stmt_width ≤ length row.now }
 {
-    let a = output::byte(out, at, b'(');
-    let b = output::word(out, a, b"- const local call slash", row[StatementRow::FORM]);
-    let c = output::byte(out, b, b' ');
+    let a = output::byte(rt, out, at, b'(');
+    let b = output::word(
+        rt,
+        out,
+        a,
+        b"- const local call slash",
+        row[StatementRow::FORM],
+    );
+    let c = output::byte(rt, out, b, b' ');
     output::pair(
+        rt,
         out,
         c,
         row[StatementRow::EXPRESSION_LINE],
@@ -71,6 +88,7 @@ pub fn start(row: &[u64], out: &mut [u8], at: usize) -> usize
 
 // What one without parts has after that: the number of a slot, or the type and the value of a constant.
 pub fn leaf(
+    rt: &(impl Print + Eprint),
     source: &[u8],
     text: &[u8],
     tokens: &[u64],
@@ -81,8 +99,8 @@ pub fn leaf(
     requires { stmt_width ≤ length row.now }
 {
     if row[StatementRow::FORM] == Term::SLOT {
-        return output::number(out, at, row[StatementRow::LOW]);
+        return output::number(rt, out, at, row[StatementRow::LOW]);
     }
-    let p = types::word(out, at, row[StatementRow::TYPE]);
-    value(source, text, tokens, row, out, p)
+    let p = types::word(rt, out, at, row[StatementRow::TYPE]);
+    value(rt, source, text, tokens, row, out, p)
 }

@@ -10,13 +10,21 @@ use rows::{StatementRow, TokenRow};
 use values::Term;
 
 // The name at a place: nothing where no token stands there.
-fn name(source: &[u8], tokens: &[u64], line: u64, column: u64, out: &mut [u8], at: usize) -> usize {
+fn name(
+    rt: &(impl Print + Eprint),
+    source: &[u8],
+    tokens: &[u64],
+    line: u64,
+    column: u64,
+    out: &mut [u8],
+    at: usize,
+) -> usize {
     let count = tokens.len() / TokenRow::WORDS;
     let mut i: usize = 0;
     while i < count {
         let t = rows::token_row(tokens, i);
         if (t.line == line) & (t.column == column) {
-            return token::show_value(source, t, out, at);
+            return token::show_value(rt, source, t, out, at);
         }
         i += 1;
     }
@@ -24,12 +32,20 @@ fn name(source: &[u8], tokens: &[u64], line: u64, column: u64, out: &mut [u8], a
 }
 
 // A blank, the slot of a `let`, and the name that it stands at.
-fn bound(source: &[u8], tokens: &[u64], row: &[u64], out: &mut [u8], at: usize) -> usize
+fn bound(
+    rt: &(impl Print + Eprint),
+    source: &[u8],
+    tokens: &[u64],
+    row: &[u64],
+    out: &mut [u8],
+    at: usize,
+) -> usize
     requires { stmt_width ≤ length row.now }
 {
-    let a = output::field(out, at, row[StatementRow::SLOT]);
-    let b = output::byte(out, a, b' ');
+    let a = output::field(rt, out, at, row[StatementRow::SLOT]);
+    let b = output::byte(rt, out, a, b' ');
     name(
+        rt,
         source,
         tokens,
         row[StatementRow::LINE],
@@ -40,44 +56,65 @@ fn bound(source: &[u8], tokens: &[u64], row: &[u64], out: &mut [u8], at: usize) 
 }
 
 // What stands before the expression of a statement.
-fn start(source: &[u8], tokens: &[u64], row: &[u64], out: &mut [u8], at: usize) -> usize
+fn start(
+    rt: &(impl Print + Eprint),
+    source: &[u8],
+    tokens: &[u64],
+    row: &[u64],
+    out: &mut [u8],
+    at: usize,
+) -> usize
     requires { stmt_width ≤ length row.now }
 {
-    let a = output::text(out, at, b"stmt ");
-    let b = output::pair(out, a, row[StatementRow::LINE], row[StatementRow::COLUMN]);
+    let a = output::text(rt, out, at, b"stmt ");
+    let b = output::pair(
+        rt,
+        out,
+        a,
+        row[StatementRow::LINE],
+        row[StatementRow::COLUMN],
+    );
     let kinds = b"- Let Emit Wait Eval Discard";
-    let c = output::word(out, b, kinds, row[StatementRow::KIND]);
+    let c = output::word(rt, out, b, kinds, row[StatementRow::KIND]);
     if row[StatementRow::KIND] == StatementRow::LET {
-        let d = bound(source, tokens, row, out, c);
-        return output::byte(out, d, b' ');
+        let d = bound(rt, source, tokens, row, out, c);
+        return output::byte(rt, out, d, b' ');
     }
-    output::byte(out, c, b' ')
+    output::byte(rt, out, c, b' ')
 }
 
 // What stands before an argument: the number of its parameter.
-fn argument(row: &[u64], out: &mut [u8], at: usize) -> usize
+fn argument(rt: &(impl Print + Eprint), row: &[u64], out: &mut [u8], at: usize) -> usize
     requires { stmt_width ≤ length row.now }
 {
-    let p = output::text(out, at, b" (arg");
-    let q = output::field(out, p, row[StatementRow::SLOT]);
-    output::byte(out, q, b' ')
+    let p = output::text(rt, out, at, b" (arg");
+    let q = output::field(rt, out, p, row[StatementRow::SLOT]);
+    output::byte(rt, out, q, b' ')
 }
 
 // What stands before the expression of a row.
-fn before(source: &[u8], tokens: &[u64], row: &[u64], out: &mut [u8], at: usize) -> usize
+fn before(
+    rt: &(impl Print + Eprint),
+    source: &[u8],
+    tokens: &[u64],
+    row: &[u64],
+    out: &mut [u8],
+    at: usize,
+) -> usize
     requires { stmt_width ≤ length row.now }
 {
     let kind = row[StatementRow::KIND];
     match kind {
         StatementRow::CALLEE | StatementRow::LEFT => at,
-        StatementRow::ARGUMENT => argument(row, out, at),
-        StatementRow::RIGHT => output::byte(out, at, b' '),
-        _ => start(source, tokens, row, out, at),
+        StatementRow::ARGUMENT => argument(rt, row, out, at),
+        StatementRow::RIGHT => output::byte(rt, out, at, b' '),
+        _ => start(rt, source, tokens, row, out, at),
     }
 }
 
 // A row, where so many expressions are open: it opens one more if it has parts, and else closes those that it ends.
 fn show(
+    rt: &(impl Print + Eprint),
     source: &[u8],
     text: &[u8],
     tokens: &[u64],
@@ -95,8 +132,8 @@ fn show(
     let high = row[StatementRow::HIGH];
     let low = row[StatementRow::LOW];
     let form = row[StatementRow::FORM];
-    let p = before(source, tokens, row, out, at);
-    let q = expression::start(row, out, p);
+    let p = before(rt, source, tokens, row, out, at);
+    let q = expression::start(rt, row, out, p);
     match form {
         // the callee, and then its arguments
         Term::CALL => Shown {
@@ -108,14 +145,15 @@ fn show(
             at: q,
         },
         _ => {
-            let r = expression::leaf(source, text, tokens, row, out, q);
-            brackets::close(text, stack, depth, kind, out, r)
+            let r = expression::leaf(rt, source, text, tokens, row, out, q);
+            brackets::close(rt, text, stack, depth, kind, out, r)
         }
     }
 }
 
 // The first `count` rows of the table, or as many as it has.
 pub fn statements(
+    rt: &(impl Print + Eprint),
     source: &[u8],
     text: &[u8],
     tokens: &[u64],
@@ -135,6 +173,7 @@ pub fn statements(
         }
         let next = word + StatementRow::WORDS;
         let shown = show(
+            rt,
             source,
             text,
             tokens,

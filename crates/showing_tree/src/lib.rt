@@ -9,6 +9,7 @@ use printing::verdict;
 use rows::Verdict;
 
 pub fn answer(
+    rt: &(impl Print + Eprint),
     source: &[u8],
     tokens: &mut [u64],
     nodes: &mut [u64],
@@ -18,7 +19,7 @@ pub fn answer(
     let parsed = parse::parse_source(source, tokens, nodes);
     let v = parsed.verdict;
     if v.number != Verdict::DONE {
-        return verdict::refused(v, out, at);
+        return verdict::refused(rt, v, out, at);
     }
-    tree::statements(source, tokens, nodes, parsed.nodes as usize, out, at)
+    tree::statements(rt, source, tokens, nodes, parsed.nodes as usize, out, at)
 }

@@ -8,6 +8,7 @@ use rows::NodeKind;
 // The tree of a row, a blank before each expression and argument.
 #[cycle(arguments_rest_show)]
 fn show(
+    rt: &(impl Print + Eprint),
     source: &[u8],
     tokens: &[u64],
     nodes: &[u64],
@@ -16,21 +17,22 @@ fn show(
     at: usize,
 ) -> usize {
     let n = node::node_at(nodes, i);
-    let a = leaf::start(source, tokens, n, out, at);
+    let a = leaf::start(rt, source, tokens, n, out, at);
     if n.kind < NodeKind::MEMBER || n.kind == NodeKind::IMPORT {
-        return leaf::end(source, tokens, nodes, i, n, out, a);
+        return leaf::end(rt, source, tokens, nodes, i, n, out, a);
     }
     if i <= n.first {
         return a;
     }
-    let b = show(source, tokens, nodes, n.first, out, a);
-    let c = rest(source, tokens, nodes, i, n, out, b);
-    output::byte(out, c, b')')
+    let b = show(rt, source, tokens, nodes, n.first, out, a);
+    let c = rest(rt, source, tokens, nodes, i, n, out, b);
+    output::byte(rt, out, c, b')')
 }
 
 // What a row shows after its first child.
 #[cycle(arguments_rest_show)]
 fn rest(
+    rt: &(impl Print + Eprint),
     source: &[u8],
     tokens: &[u64],
     nodes: &[u64],
@@ -41,14 +43,14 @@ fn rest(
 ) -> usize {
     let kind = n.kind;
     match kind {
-        NodeKind::MEMBER => leaf::name(source, tokens, n.second, out, at),
+        NodeKind::MEMBER => leaf::name(rt, source, tokens, n.second, out, at),
         NodeKind::SLASH => {
             if n.second < i {
-                return show(source, tokens, nodes, n.second, out, at);
+                return show(rt, source, tokens, nodes, n.second, out, at);
             }
             at
         }
-        NodeKind::CALL => arguments(source, tokens, nodes, i, n.second, out, at),
+        NodeKind::CALL => arguments(rt, source, tokens, nodes, i, n.second, out, at),
         _ => at,
     }
 }
@@ -56,6 +58,7 @@ fn rest(
 // The arguments of the call in row `i`, from the first on: `start` is its row plus 1, and each has that of the next, 0 for none.
 #[cycle(arguments_rest_show)]
 fn arguments(
+    rt: &(impl Print + Eprint),
     source: &[u8],
     tokens: &[u64],
     nodes: &[u64],
@@ -71,7 +74,7 @@ fn arguments(
         if i < next {
             return p;
         }
-        p = show(source, tokens, nodes, next - 1, out, p);
+        p = show(rt, source, tokens, nodes, next - 1, out, p);
         shown = next;
         next = node::node_at(nodes, next - 1).second;
     }
@@ -80,6 +83,7 @@ fn arguments(
 
 // The line of the statement in row `i`: nothing for a row that is none.
 fn statement(
+    rt: &(impl Print + Eprint),
     source: &[u8],
     tokens: &[u64],
     nodes: &[u64],
@@ -90,12 +94,13 @@ fn statement(
     if node::node_at(nodes, i).kind < NodeKind::IMPORT {
         return at;
     }
-    let p = show(source, tokens, nodes, i, out, at);
-    output::byte(out, p, b'\n')
+    let p = show(rt, source, tokens, nodes, i, out, at);
+    output::byte(rt, out, p, b'\n')
 }
 
 // The statements among the first `count` rows.
 pub fn statements(
+    rt: &(impl Print + Eprint),
     source: &[u8],
     tokens: &[u64],
     nodes: &[u64],
@@ -106,7 +111,7 @@ pub fn statements(
     let mut p = at;
     let mut i = 0;
     while i < count {
-        p = statement(source, tokens, nodes, i, out, p);
+        p = statement(rt, source, tokens, nodes, i, out, p);
         i += 1;
     }
     p

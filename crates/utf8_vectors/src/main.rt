@@ -56,27 +56,33 @@ fn unhex(line: &[u8], out: &mut [u8; 256]) -> usize
 }
 
 // A blank, unless the line has just begun.
-fn gap(place: usize, out: &mut [u8], at: usize) -> usize {
+fn gap(rt: &(impl Print + Eprint), place: usize, out: &mut [u8], at: usize) -> usize {
     if 0 < place {
-        return output::byte(out, at, b' ');
+        return output::byte(rt, out, at, b' ');
     }
     at
 }
 
-fn show_character(n: u32, place: usize, out: &mut [u8], at: usize) -> usize {
-    let p = gap(place, out, at);
-    output::number(out, p, wide(n))
+fn show_character(
+    rt: &(impl Print + Eprint),
+    n: u32,
+    place: usize,
+    out: &mut [u8],
+    at: usize,
+) -> usize {
+    let p = gap(rt, place, out, at);
+    output::number(rt, out, p, wide(n))
 }
 
 // The numbers of the characters, up to the first place where none starts.
-fn show_characters(s: &[u8], out: &mut [u8], at: usize) -> usize {
+fn show_characters(rt: &(impl Print + Eprint), s: &[u8], out: &mut [u8], at: usize) -> usize {
     let mut p = at;
     let mut place = 0;
     while place < s.len() {
         let here = utf8::decode(s, place);
         match here {
             Decoded::Read(n, next) => {
-                p = show_character(n, place, out, p);
+                p = show_character(rt, n, place, out, p);
                 place = next;
             }
             Decoded::Nothing => {
@@ -87,39 +93,45 @@ fn show_characters(s: &[u8], out: &mut [u8], at: usize) -> usize {
     p
 }
 
-fn show_bad(s: &[u8], out: &mut [u8], at: usize) -> usize {
+fn show_bad(rt: &(impl Print + Eprint), s: &[u8], out: &mut [u8], at: usize) -> usize {
     let bad = utf8::first_bad(s);
     match bad {
         Bad::At(place) => {
-            let p = gap(place, out, at);
-            show_number(b"bad ", place as u64, out, p)
+            let p = gap(rt, place, out, at);
+            show_number(rt, b"bad ", place as u64, out, p)
         }
         Bad::Nowhere => at,
     }
 }
 
-fn show_first(bytes: [u8; 256], n: usize, out: &mut [u8], at: usize) -> usize
+fn show_first(
+    rt: &(impl Print + Eprint),
+    bytes: [u8; 256],
+    n: usize,
+    out: &mut [u8],
+    at: usize,
+) -> usize
     requires { n ≤ 256 }
 {
     let s = &bytes[..n];
-    let p = show_characters(s, out, at);
-    show_bad(s, out, p)
+    let p = show_characters(rt, s, out, at);
+    show_bad(rt, s, out, p)
 }
 
-fn show_line(line: &[u8], out: &mut [u8], at: usize) -> usize {
+fn show_line(rt: &(impl Print + Eprint), line: &[u8], out: &mut [u8], at: usize) -> usize {
     let mut bytes = [0u8; 256];
     let n = unhex(line, &mut bytes);
-    let p = show_first(bytes, n, out, at);
-    output::byte(out, p, b'\n')
+    let p = show_first(rt, bytes, n, out, at);
+    output::byte(rt, out, p, b'\n')
 }
 
-fn show_lines(text: &[u8], out: &mut [u8], at: usize) -> usize {
+fn show_lines(rt: &(impl Print + Eprint), text: &[u8], out: &mut [u8], at: usize) -> usize {
     let mut p = at;
     let mut from = 0;
     let mut i = 0;
     while i < text.len() {
         if text[i] == b'\n' {
-            p = show_line(&text[from..i], out, p);
+            p = show_line(rt, &text[from..i], out, p);
             from = i + 1;
             i += 1;
         } else {
@@ -206,17 +218,23 @@ fn digest_of(alphabet: &[u8; 256], last: u8, len: usize, count: u64) -> Digest
     }
 }
 
-fn show_digest(d: Digest, out: &mut [u8], at: usize) -> usize {
-    let p = show_number(b"length ", d.len as u64, out, at);
-    let q = show_number(b" count ", d.count, out, p);
-    let r = show_number(b" good ", d.good, out, q);
-    let t = show_number(b" digest ", d.digest, out, r);
-    output::byte(out, t, b'\n')
+fn show_digest(rt: &(impl Print + Eprint), d: Digest, out: &mut [u8], at: usize) -> usize {
+    let p = show_number(rt, b"length ", d.len as u64, out, at);
+    let q = show_number(rt, b" count ", d.count, out, p);
+    let r = show_number(rt, b" good ", d.good, out, q);
+    let t = show_number(rt, b" digest ", d.digest, out, r);
+    output::byte(rt, out, t, b'\n')
 }
 
-fn show_number(name: &[u8], n: u64, out: &mut [u8], at: usize) -> usize {
-    let p = output::text(out, at, name);
-    output::number(out, p, n)
+fn show_number(
+    rt: &(impl Print + Eprint),
+    name: &[u8],
+    n: u64,
+    out: &mut [u8],
+    at: usize,
+) -> usize {
+    let p = output::text(rt, out, at, name);
+    output::number(rt, out, p, n)
 }
 
 // Every byte.
@@ -245,6 +263,7 @@ fn boundary_bytes() -> [u8; 256] {
 
 // Makes a digest and shows it.
 fn show_tried(
+    rt: &(impl Print + Eprint),
     alphabet: &[u8; 256],
     last: u8,
     len: usize,
@@ -255,44 +274,44 @@ fn show_tried(
     requires { len ≤ 5 }
 {
     let d = digest_of(alphabet, last, len, count);
-    show_digest(d, out, at)
+    show_digest(rt, d, out, at)
 }
 
-fn show_all(out: &mut [u8], at: usize) -> usize {
+fn show_all(rt: &(impl Print + Eprint), out: &mut [u8], at: usize) -> usize {
     let every = all_bytes();
-    let p = show_tried(&every, 255, 1, 256, out, at);
-    let q = show_tried(&every, 255, 2, 256 * 256, out, p);
-    show_tried(&every, 255, 3, 256 * 256 * 256, out, q)
+    let p = show_tried(rt, &every, 255, 1, 256, out, at);
+    let q = show_tried(rt, &every, 255, 2, 256 * 256, out, p);
+    show_tried(rt, &every, 255, 3, 256 * 256 * 256, out, q)
 }
 
-fn show_bounds(out: &mut [u8], at: usize) -> usize {
+fn show_bounds(rt: &(impl Print + Eprint), out: &mut [u8], at: usize) -> usize {
     let bounds = boundary_bytes();
-    let p = show_tried(&bounds, 23, 4, 24 * 24 * 24 * 24, out, at);
-    show_tried(&bounds, 23, 5, 24 * 24 * 24 * 24 * 24, out, p)
+    let p = show_tried(rt, &bounds, 23, 4, 24 * 24 * 24 * 24, out, at);
+    show_tried(rt, &bounds, 23, 5, 24 * 24 * 24 * 24 * 24, out, p)
 }
 
 // The answer to a text, which is one that fills the buffer where there may be more of it.
-fn answer(text: &[u8], size: usize, out: &mut [u8]) -> usize {
+fn answer(rt: &(impl Print + Eprint), text: &[u8], size: usize, out: &mut [u8]) -> usize {
     if size == text.len() {
-        return output::text(out, 0, b"too long\n");
+        return output::text(rt, out, 0, b"too long\n");
     }
-    let p = show_lines(input::first(text, size), out, 0);
-    let q = show_all(out, p);
-    show_bounds(out, q)
+    let p = show_lines(rt, input::first(text, size), out, 0);
+    let q = show_all(rt, out, p);
+    show_bounds(rt, out, q)
 }
 
-fn run(text: &mut [u8], out: &mut [u8]) {
-    let read = streams::read_full(text, 0);
+fn run(rt: &(impl Input + Print + Eprint), text: &mut [u8], out: &mut [u8]) {
+    let read = streams::read_full(rt, text, 0);
     if let Read::Whole(size) = read {
-        let at = answer(text, size, out);
-        output::flush(out, at);
+        let at = answer(rt, text, size, out);
+        output::flush(rt, out, at);
     }
 }
 
-fn main() {
-    if streams::no_arguments() {
-        let mut text = io::large_buffer();
-        let mut out = io::large_buffer();
-        run(&mut text, &mut out);
+fn main(rt: HostRuntime) {
+    if streams::no_arguments(&rt) {
+        let mut text = [0u8; 65536];
+        let mut out = [0u8; 65536];
+        run(&rt, &mut text, &mut out);
     }
 }

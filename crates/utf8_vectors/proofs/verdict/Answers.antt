@@ -1,0 +1,10 @@
+-- The bad byte is one of the sequence, so its place has a successor.
+use Rattle.std.proofs.Common.{arith, length-take}
+use Rattle.utf8.proofs.Places.{bad_within}
+use Rattle.utf8_vectors.proofs.verdict.Goals as goal
+
+pub overflow_add-result : goal.overflow_add-result
+overflow_add-result c = omega (arith, simp length-take at (bad_within _ _ c.in-At.ensures))
+
+pub returns-in-At : goal.returns-in-At
+returns-in-At c = omega (arith, simp length-take at (bad_within _ _ c.in-At.ensures))
