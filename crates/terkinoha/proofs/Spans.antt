@@ -19,7 +19,7 @@ use Rattle.language.proofs.TokenClaims.{places_right, bodies_held}
 use Rattle.lexemes.specs.Kinds.{lexeme_as}
 use Rattle.scan.specs.Scanning.{step_at}
 use Rattle.scan.proofs.Turns.{Turn, turn}
-use Rattle.terkinoha.specs.Bodies.{Span, span_of, spans_from, body_spans, first, WalkGoesOn, BodiesLie}
+use Rattle.terkinoha.specs.Bodies.{Span, span_of, spans_from, body_spans, WalkGoesOn, BodiesLie}
 
 -- ---- one lexeme after the other
 

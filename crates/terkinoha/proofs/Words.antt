@@ -15,7 +15,7 @@ use contract.Monad.{Fun}
 use contract.Notation.{connectives}
 use denote.Triple.Entry.{Args, Res}
 use denote.Triple.Clauses.{AtExit}
-use mir.Val.{Val, vunit, vbool, vint, vfloat, vptr, vstruct, Vals, vnil, vcons}
+use mir.Val.{Val, vunit, vbool, vint, vfloat, vptr, vcode, vstruct, Vals, vnil, vcons}
 use Rattle.language.specs.Numbers.{Scanned, Lexed, Parsed, Canonised, Checked}
 use Rattle.scan.specs.Scanning.{scanned_as}
 use Rattle.scan.specs.Entry.{ScanLine}
@@ -51,6 +51,7 @@ mutual
   words_in (vint w n) = n ∷ []
   words_in (vfloat f x) = []
   words_in (vptr b o) = []
+  words_in (vcode c) = []
   words_in (vstruct vs) = all_words vs
 
   pub all_words : Vals → List ℕ
