@@ -21,7 +21,7 @@ use Rattle.rows.specs.declared.token.Token.{Token}
 use Rattle.rows.specs.declared.types.Type.{«Type»}
 use Rattle.rows.specs.Tokens.{token_as}
 use Rattle.findings.specs.declared.Counts.{Counts}
-use Rattle.findings.specs.declared.What.TheVariants as what-is
+use Rattle.findings.specs.declared.What.TheVariants as what_is
 use Rattle.findings.specs.Findings.{at_token, Adds}
 use Rattle.findings.proofs.Rows.{no_rows}
 use Rattle.findings.proofs.Adds.{adds_none, adds_then, adds_number}
@@ -63,7 +63,7 @@ module _ (s : List ℕ) {r : Judgement} {x y t v : List ℕ} {c : Counts} {row i
 
 -- another type than the one that is wanted
 pub wrong_type : (s : List ℕ) (f i : ℕ) {wanted : ℕ} {g : Given} {tok : Token} {found : «Type»} {r : Judged} → tok ≡ token_as (token_of s g.first)
-    → TypeShown g.term found → r ≡ Err (at_token tok (what-is.ArgType f i wanted found)) → WrongType s f i wanted g r
+    → TypeShown g.term found → r ≡ Err (at_token tok (what_is.ArgType f i wanted found)) → WrongType s f i wanted g r
 wrong_type s f i p q e =
     record {
       is = λ row a ty h w.
@@ -192,13 +192,13 @@ module _ (s : List ℕ) (at f m w over row : ℕ) (c : Counts) {r : Step} (g : r
 
 -- the same as the code has it
 pub too_many_lem : (s : List ℕ) (at f m w over row : ℕ) {c : Counts} {tok : Token} {o : Judged} → w < m → tok ≡ token_as (token_of s over)
-    → o ≡ Err (at_token tok (what-is.TooManyArgs f m w)) → step o c row ≡ finished s at f m w over row c
+    → o ≡ Err (at_token tok (what_is.TooManyArgs f m w)) → step o c row ≡ finished s at f m w over row c
 unfolding finished
 too_many_lem s at f m w over row {c} h p e =
     rw (lt-ltb w m h) (ap (λ (q : Judged). step q c row) (e ∙ judged_err s over (too_many_args f m w) p refl))
 
 pub too_few : (s : List ℕ) (f m w at row : ℕ) {c : Counts} {tok : Token} {o : Judged} → tok ≡ token_as (token_of s at)
-    → o ≡ Err (at_token tok (what-is.TooFewArgs f m w)) → step o c row ≡ step (judged_as s (err at (too_few_args f m w))) c row
+    → o ≡ Err (at_token tok (what_is.TooFewArgs f m w)) → step o c row ≡ step (judged_as s (err at (too_few_args f m w))) c row
 too_few s f m w at row {c} p e = ap (λ (q : Judged). step q c row) (e ∙ judged_err s at (too_few_args f m w) p refl)
 
 pub enough : (s : List ℕ) (at f m w over row : ℕ) {kind : ℕ} {c : Counts} → m ≤ w → kind ≡ ty_kind (entry_at f).gives

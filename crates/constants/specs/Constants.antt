@@ -58,7 +58,7 @@ text_of false source text a e = between source a e
 
 -- of `name_text`: the part r of the table's text or of the source
 abbrev pub NameText : Bool → List ℕ → List ℕ → ℕ → ℕ → List ℕ → Type 0
-NameText fromTable source text a e r = r ≡ text_of fromTable source text a e
+NameText from_table source text a e r = r ≡ text_of from_table source text a e
 
 -- ---- what an entry is
 

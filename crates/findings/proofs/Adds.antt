@@ -74,7 +74,7 @@ unfolding added
 added_both c ds es ls ms =
     added_is c (ds ++ es) (ls ++ ms) (omega (arith, errors_append ds es)) (omega (arith, warnings_append ds es)) (omega (arith, sum_append ls ms))
 
-severity_is : (tokenAt : ℕ → tokens.Token) (w : judgements.What) → severity_number (kind_number (what_as tokenAt w)) ≡ if' (is_error w) 1 2
+severity_is : (token_at : ℕ → tokens.Token) (w : judgements.What) → severity_number (kind_number (what_as token_at w)) ≡ if' (is_error w) 1 2
 unfolding severity_number
 severity_is t unknown_name = refl
 severity_is t (unknown_item m) = refl

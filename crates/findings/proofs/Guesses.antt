@@ -11,14 +11,14 @@ use Rattle.rows.specs.declared.layout.DiagnosticRow.{DiagnosticRow}
 use Rattle.rows.specs.declared.types.Type.{«Type»}
 use Rattle.rows.proofs.Plain.{strange}
 use Rattle.constants.specs.Constants.{is_function_entry, function_named}
-use Rattle.findings.specs.declared.Side.TheVariants as side-is
+use Rattle.findings.specs.declared.Side.TheVariants as side_is
 use Rattle.findings.specs.declared.What.{What}
-use Rattle.findings.specs.declared.What.TheVariants as what-is
+use Rattle.findings.specs.declared.What.TheVariants as what_is
 use Rattle.findings.specs.declared.Diagnostic.{Diagnostic}
 use Rattle.findings.specs.declared.Read.{Read}
 use Rattle.findings.specs.declared.Read.TheVariants.{Is, Nothing}
 use Rattle.findings.specs.declared.reading.Guess.{Guess}
-use Rattle.findings.specs.declared.reading.Guess.TheVariants as guess-is
+use Rattle.findings.specs.declared.reading.Guess.TheVariants as guess_is
 use Rattle.findings.specs.Findings.{row_of}
 use Rattle.findings.specs.Reading.{is_plain, sound_type, sound_what, sound_diagnostic, same_row, type_in, operand_in, guess_by, guess_of, found_in, confirmed, read_by, read_of}
 use Rattle.findings.specs.contracts.What as what
@@ -42,25 +42,25 @@ abbrev free : List ℕ
 free = 0 ∷ 2 ∷ 3 ∷ 4 ∷ 5 ∷ 6 ∷ 13 ∷ 14 ∷ 15 ∷ []
 
 pub always_sound : (w : What) → OneOf free (tag_of what.the_type w) → true ≡ sound_what w
-always_sound what-is.UnknownName h = refl
-always_sound (what-is.UnknownItem m) h = absurd (strange free 1 refl h)
-always_sound what-is.UnknownModule h = refl
-always_sound what-is.NotImported h = refl
-always_sound what-is.NotAModule h = refl
-always_sound what-is.NotAValue h = refl
-always_sound (what-is.AlreadyBound l c) h = refl
-always_sound (what-is.NoMembers t) h = absurd (strange free 7 refl h)
-always_sound (what-is.OperandType x n t) h = absurd (strange free 8 refl h)
-always_sound (what-is.NotCallable t) h = absurd (strange free 9 refl h)
-always_sound (what-is.TooManyArgs f a b) h = absurd (strange free 10 refl h)
-always_sound (what-is.TooFewArgs f a b) h = absurd (strange free 11 refl h)
-always_sound (what-is.ArgType f i n t) h = absurd (strange free 12 refl h)
-always_sound what-is.VoidValue h = refl
-always_sound what-is.IntegralTooLarge h = refl
-always_sound what-is.MultipleImports h = refl
-always_sound (what-is.DiscardedValue t) h = absurd (strange free 16 refl h)
-always_sound (what-is.Truncated n t) h = absurd (strange free 17 refl h)
-always_sound (what-is.Overflow t n) h = absurd (strange free 18 refl h)
+always_sound what_is.UnknownName h = refl
+always_sound (what_is.UnknownItem m) h = absurd (strange free 1 refl h)
+always_sound what_is.UnknownModule h = refl
+always_sound what_is.NotImported h = refl
+always_sound what_is.NotAModule h = refl
+always_sound what_is.NotAValue h = refl
+always_sound (what_is.AlreadyBound l c) h = refl
+always_sound (what_is.NoMembers t) h = absurd (strange free 7 refl h)
+always_sound (what_is.OperandType x n t) h = absurd (strange free 8 refl h)
+always_sound (what_is.NotCallable t) h = absurd (strange free 9 refl h)
+always_sound (what_is.TooManyArgs f a b) h = absurd (strange free 10 refl h)
+always_sound (what_is.TooFewArgs f a b) h = absurd (strange free 11 refl h)
+always_sound (what_is.ArgType f i n t) h = absurd (strange free 12 refl h)
+always_sound what_is.VoidValue h = refl
+always_sound what_is.IntegralTooLarge h = refl
+always_sound what_is.MultipleImports h = refl
+always_sound (what_is.DiscardedValue t) h = absurd (strange free 16 refl h)
+always_sound (what_is.Truncated n t) h = absurd (strange free 17 refl h)
+always_sound (what_is.Overflow t n) h = absurd (strange free 18 refl h)
 
 -- ---- guesses
 
@@ -73,15 +73,15 @@ module _ (r : DiagnosticRow) where
   unfolding type_in
   plain_in h = rw (ne_eqb _ _ h)
 
-  pub left_in : {t : «Type»} → t ≡ type_in r → r.first ≡ 1 → guess-is.Is (what-is.OperandType side-is.Left r.second t) ≡ operand_in r
+  pub left_in : {t : «Type»} → t ≡ type_in r → r.first ≡ 1 → guess_is.Is (what_is.OperandType side_is.Left r.second t) ≡ operand_in r
   unfolding operand_in
   left_in e h = rw (e, h)
 
-  pub right_in : {t : «Type»} → t ≡ type_in r → r.first ≡ 2 → guess-is.Is (what-is.OperandType side-is.Right r.second t) ≡ operand_in r
+  pub right_in : {t : «Type»} → t ≡ type_in r → r.first ≡ 2 → guess_is.Is (what_is.OperandType side_is.Right r.second t) ≡ operand_in r
   unfolding operand_in
   right_in e h = rw (e, h)
 
-  pub no_side : (r.first ≡ 1 → ⊥) → (r.first ≡ 2 → ⊥) → guess-is.Nothing ≡ operand_in r
+  pub no_side : (r.first ≡ 1 → ⊥) → (r.first ≡ 2 → ⊥) → guess_is.Nothing ≡ operand_in r
   unfolding operand_in
   no_side h l = rw (ne_eqb _ _ h, ne_eqb _ _ l)
 
@@ -90,7 +90,7 @@ module _ (r : DiagnosticRow) where
 
   -- a kind that no finding has
   pub no_kind : ((((((((((((((((((Unit {0} × (r.kind ≡ 1 → ⊥)) × (r.kind ≡ 2 → ⊥)) × (r.kind ≡ 4 → ⊥)) × (r.kind ≡ 5 → ⊥)) × (r.kind ≡ 6 → ⊥)) × (r.kind ≡ 7 → ⊥)) × (r.kind ≡ 8 → ⊥)) × (r.kind ≡ 9 → ⊥)) × (r.kind ≡ 10 → ⊥)) × (r.kind ≡ 11 → ⊥)) × (r.kind ≡ 12 → ⊥)) × (r.kind ≡ 13 → ⊥)) × (r.kind ≡ 19 → ⊥)) × (r.kind ≡ 21 → ⊥)) × (r.kind ≡ 22 → ⊥)) × (r.kind ≡ 23 → ⊥)) × (r.kind ≡ 24 → ⊥)) × (r.kind ≡ 25 → ⊥)) × (r.kind ≡ 26 → ⊥)
-      → guess-is.Nothing ≡ guess_of r
+      → guess_is.Nothing ≡ guess_of r
   unfolding guess_by
   no_kind h =
       rw (
@@ -127,10 +127,10 @@ module _ (r : DiagnosticRow) where
     was_not h = let t : sound_diagnostic d && same_row (row_of d) r ≡ false = rw (← p, ← e, ← q) h in rw t
 
   module _ {g : Guess} (p : g ≡ guess_of r) where
-    pub read_was : {w : What} {d : Diagnostic} {x : Read} → g ≡ guess-is.Is w → d ≡ found_in r w → x ≡ confirmed r d → x ≡ read_of r
+    pub read_was : {w : What} {d : Diagnostic} {x : Read} → g ≡ guess_is.Is w → d ≡ found_in r w → x ≡ confirmed r d → x ≡ read_of r
     unfolding read_of
     read_was h e f = f ∙ ap (confirmed r) e ∙ ap (read_by r) (sym h ∙ p)
 
-    pub read_nothing : g ≡ guess-is.Nothing → Nothing ≡ read_of r
+    pub read_nothing : g ≡ guess_is.Nothing → Nothing ≡ read_of r
     unfolding read_of
     read_nothing h = ap (read_by r) (sym h ∙ p)

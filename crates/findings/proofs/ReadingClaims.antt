@@ -10,13 +10,13 @@ use Rattle.language.specs.Choice.{if'}
 use Rattle.language.proofs.Tests.{both, never}
 use Rattle.constants.specs.Constants.{is_function_entry, function_named}
 use Rattle.constants.proofs.Entries.{function_own}
-use Rattle.findings.specs.declared.Side.TheVariants as side-is
+use Rattle.findings.specs.declared.Side.TheVariants as side_is
 use Rattle.findings.specs.declared.What.{What}
-use Rattle.findings.specs.declared.What.TheVariants as what-is
+use Rattle.findings.specs.declared.What.TheVariants as what_is
 use Rattle.findings.specs.declared.Diagnostic.{Diagnostic}
 use Rattle.findings.specs.declared.Read.TheVariants.{Is, Nothing}
 use Rattle.findings.specs.declared.reading.Guess.{Guess}
-use Rattle.findings.specs.declared.reading.Guess.TheVariants as guess-is
+use Rattle.findings.specs.declared.reading.Guess.TheVariants as guess_is
 use Rattle.findings.specs.Findings.{severity_number, shows_name, placed, type_text, function_type, typed_row, row_of, numbered}
 use Rattle.findings.specs.Reading.{is_plain, is_type, sound_type, sound_diagnostic, same_row, type_in, operand_in, truncated_in, guess_by, guess_of, found_in, confirmed, read_by, read_of, ReadsBack, ReadsOnly, ReadsNothing}
 
@@ -78,8 +78,8 @@ unfolding read_of
 reads_only r d = by (guess_of r)
   where
     by : (g : Guess) → read_by r g ≡ Is d → (numbered r.statement (row_of d) ≡ r) × (sound_diagnostic d ≡ true)
-    by (guess-is.Is w) e = confirmed_only r (found_in r w) d e
-    by guess-is.Nothing e = never (cc)
+    by (guess_is.Is w) e = confirmed_only r (found_in r w) d e
+    by guess_is.Nothing e = never (cc)
 
 -- ---- a finding's row
 
@@ -110,21 +110,21 @@ spanless l c a e w h =
 
 -- the row says which finding it was
 record Own (m : ℕ) (d : Diagnostic) : Type 0 where
-  guess : guess_of (numbered m (row_of d)) ≡ guess-is.Is d.what
+  guess : guess_of (numbered m (row_of d)) ≡ guess_is.Is d.what
   found : found_in (numbered m (row_of d)) d.what ≡ d
 
 -- a kind that shows a type
 typed_own : (m l c a e : ℕ) (f : «Type» → What) (t : «Type») (x y z : ℕ) → let d = found l c a e (f t) in sound_type t ≡ true → eqb a 0 && eqb e 0 ≡ true
-    → guess_of (numbered m (row_of d)) ≡ guess-is.Is (f (type_in (numbered m (typed_row d t x y z)))) → found_in (numbered m (row_of d)) (f t) ≡ found l c 0 0 (f t) → Own m d
+    → guess_of (numbered m (row_of d)) ≡ guess_is.Is (f (type_in (numbered m (typed_row d t x y z)))) → found_in (numbered m (row_of d)) (f t) ≡ found l c 0 0 (f t) → Own m d
 typed_own m l c a e f t x y z h n g p =
     record {
-      guess = g ∙ ap (λ (u : «Type»). guess-is.Is (f u)) (type_own m (found l c a e (f t)) t x y z h);
+      guess = g ∙ ap (λ (u : «Type»). guess_is.Is (f u)) (type_own m (found l c a e (f t)) t x y z h);
       found = p ∙ spanless l c a e (f t) n;
     }
 
 -- one that shows a function, by its entry
 function_own_row : (m l c a e : ℕ) (f : ℕ → What) (k x y : ℕ) → let d = found l c a e (f k) in is_function_entry k && (eqb a 0 && eqb e 0) ≡ true
-    → guess_of (numbered m (row_of d)) ≡ guess-is.Is (f (type_in (numbered m (typed_row d (function_type k) x y 0))).entry)
+    → guess_of (numbered m (row_of d)) ≡ guess_is.Is (f (type_in (numbered m (typed_row d (function_type k) x y 0))).entry)
     → found_in (numbered m (row_of d)) (f k) ≡ found l c 0 0 (f k) → Own m d
 function_own_row m l c a e f k x y h g p =
     let n = both (is_function_entry k) (eqb a 0 && eqb e 0) h in
@@ -132,42 +132,42 @@ function_own_row m l c a e f k x y h g p =
 
 own : (m l c a e : ℕ) (w : What) → sound_diagnostic (found l c a e w) ≡ true → Own m (found l c a e w)
 unfolding sound_diagnostic shows_name placed severity_number row_of guess_by operand_in truncated_in
-own m l c a e what-is.UnknownName h = record { guess = refl; found = refl }
-own m l c a e (what-is.UnknownItem k) h = record { guess = refl; found = refl }
-own m l c a e what-is.UnknownModule h = record { guess = refl; found = refl }
-own m l c a e what-is.NotImported h = record { guess = refl; found = refl }
-own m l c a e what-is.NotAModule h = record { guess = refl; found = refl }
-own m l c a e what-is.NotAValue h = record { guess = refl; found = refl }
-own m l c a e (what-is.AlreadyBound x y) h = record { guess = refl; found = refl }
-own m l c a e what-is.MultipleImports h = record { guess = refl; found = refl }
-own m l c a e what-is.VoidValue h = record { guess = refl; found = spanless l c a e what-is.VoidValue h }
-own m l c a e what-is.IntegralTooLarge h = record { guess = refl; found = spanless l c a e what-is.IntegralTooLarge h }
-own m l c a e (what-is.NoMembers t) h =
+own m l c a e what_is.UnknownName h = record { guess = refl; found = refl }
+own m l c a e (what_is.UnknownItem k) h = record { guess = refl; found = refl }
+own m l c a e what_is.UnknownModule h = record { guess = refl; found = refl }
+own m l c a e what_is.NotImported h = record { guess = refl; found = refl }
+own m l c a e what_is.NotAModule h = record { guess = refl; found = refl }
+own m l c a e what_is.NotAValue h = record { guess = refl; found = refl }
+own m l c a e (what_is.AlreadyBound x y) h = record { guess = refl; found = refl }
+own m l c a e what_is.MultipleImports h = record { guess = refl; found = refl }
+own m l c a e what_is.VoidValue h = record { guess = refl; found = spanless l c a e what_is.VoidValue h }
+own m l c a e what_is.IntegralTooLarge h = record { guess = refl; found = spanless l c a e what_is.IntegralTooLarge h }
+own m l c a e (what_is.NoMembers t) h =
     let p = both (sound_type t) (eqb a 0 && eqb e 0) h in
-    typed_own m l c a e what-is.NoMembers t 0 0 0 p.0 p.1 refl refl
-own m l c a e (what-is.NotCallable t) h =
+    typed_own m l c a e what_is.NoMembers t 0 0 0 p.0 p.1 refl refl
+own m l c a e (what_is.NotCallable t) h =
     let p = both (sound_type t) (eqb a 0 && eqb e 0) h in
-    typed_own m l c a e what-is.NotCallable t 0 0 0 p.0 p.1 refl refl
-own m l c a e (what-is.TooManyArgs f x y) h = function_own_row m l c a e (λ k. what-is.TooManyArgs k x y) f x y h refl refl
-own m l c a e (what-is.TooFewArgs f x y) h = function_own_row m l c a e (λ k. what-is.TooFewArgs k x y) f x y h refl refl
-own m l c a e (what-is.ArgType f i w t) h =
+    typed_own m l c a e what_is.NotCallable t 0 0 0 p.0 p.1 refl refl
+own m l c a e (what_is.TooManyArgs f x y) h = function_own_row m l c a e (λ k. what_is.TooManyArgs k x y) f x y h refl refl
+own m l c a e (what_is.TooFewArgs f x y) h = function_own_row m l c a e (λ k. what_is.TooFewArgs k x y) f x y h refl refl
+own m l c a e (what_is.ArgType f i w t) h =
     let p = both ((is_function_entry f && is_type w) && sound_type t) (eqb a 0 && eqb e 0) h in
-    typed_own m l c a e (what-is.ArgType f i w) t f i w (both (is_function_entry f && is_type w) (sound_type t) p.0).1 p.1 refl refl
-own m l c a e (what-is.DiscardedValue t) h =
+    typed_own m l c a e (what_is.ArgType f i w) t f i w (both (is_function_entry f && is_type w) (sound_type t) p.0).1 p.1 refl refl
+own m l c a e (what_is.DiscardedValue t) h =
     let p = both (sound_type t) (eqb a 0 && eqb e 0) h in
-    typed_own m l c a e what-is.DiscardedValue t 0 0 0 p.0 p.1 refl refl
-own m l c a e (what-is.Truncated n t) h =
+    typed_own m l c a e what_is.DiscardedValue t 0 0 0 p.0 p.1 refl refl
+own m l c a e (what_is.Truncated n t) h =
     let p = both (ltb n.hi 9223372036854775808 && sound_type t) (eqb a 0 && eqb e 0) h in
-    typed_own m l c a e (what-is.Truncated n) t n.lo n.hi 0 (both (ltb n.hi 9223372036854775808) (sound_type t) p.0).1 p.1 refl refl
-own m l c a e (what-is.Overflow t w) h =
+    typed_own m l c a e (what_is.Truncated n) t n.lo n.hi 0 (both (ltb n.hi 9223372036854775808) (sound_type t) p.0).1 p.1 refl refl
+own m l c a e (what_is.Overflow t w) h =
     let p = both (sound_type t && is_type w) (eqb a 0 && eqb e 0) h in
-    typed_own m l c a e (λ u. what-is.Overflow u w) t w 0 0 (both (sound_type t) (is_type w) p.0).0 p.1 refl refl
-own m l c a e (what-is.OperandType side-is.Left k t) h =
+    typed_own m l c a e (λ u. what_is.Overflow u w) t w 0 0 (both (sound_type t) (is_type w) p.0).0 p.1 refl refl
+own m l c a e (what_is.OperandType side_is.Left k t) h =
     let p = both (is_type k && sound_type t) (eqb a 0 && eqb e 0) h in
-    typed_own m l c a e (what-is.OperandType side-is.Left k) t 1 k 1 (both (is_type k) (sound_type t) p.0).1 p.1 refl refl
-own m l c a e (what-is.OperandType side-is.Right k t) h =
+    typed_own m l c a e (what_is.OperandType side_is.Left k) t 1 k 1 (both (is_type k) (sound_type t) p.0).1 p.1 refl refl
+own m l c a e (what_is.OperandType side_is.Right k t) h =
     let p = both (is_type k && sound_type t) (eqb a 0 && eqb e 0) h in
-    typed_own m l c a e (what-is.OperandType side-is.Right k) t 2 k 1 (both (is_type k) (sound_type t) p.0).1 p.1 refl refl
+    typed_own m l c a e (what_is.OperandType side_is.Right k) t 2 k 1 (both (is_type k) (sound_type t) p.0).1 p.1 refl refl
 
 pub reads_back : ReadsBack
 unfolding read_of

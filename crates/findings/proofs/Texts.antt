@@ -20,7 +20,7 @@ use Rattle.rows.proofs.Plain.{strange}
 use Rattle.constants.specs.Constants.{table_rows, entry_word}
 use Rattle.constants.proofs.Entries.{words}
 use Rattle.findings.specs.declared.What.{What}
-use Rattle.findings.specs.declared.What.TheVariants as what-is
+use Rattle.findings.specs.declared.What.TheVariants as what_is
 use Rattle.findings.specs.declared.Diagnostic.{Diagnostic}
 use Rattle.findings.specs.Findings.{kind_number, severity_number, shows_name, type_as, what_as, placed, at_token, diagnostic_as, type_text, named_row, row_by, row_of, diagnostic_row}
 use Rattle.findings.specs.contracts.What as what
@@ -54,25 +54,25 @@ abbrev only_names : List ℕ
 only_names = 0 ∷ 2 ∷ 3 ∷ 4 ∷ 5 ∷ 15 ∷ []
 
 only_named : (d : Diagnostic) (w : What) → OneOf only_names (tag_of what.the_type w) → named_row d 0 0 ≡ row_by d w
-only_named d what-is.UnknownName h = refl
-only_named d (what-is.UnknownItem m) h = absurd (strange only_names 1 refl h)
-only_named d what-is.UnknownModule h = refl
-only_named d what-is.NotImported h = refl
-only_named d what-is.NotAModule h = refl
-only_named d what-is.NotAValue h = refl
-only_named d (what-is.AlreadyBound l c) h = absurd (strange only_names 6 refl h)
-only_named d (what-is.NoMembers t) h = absurd (strange only_names 7 refl h)
-only_named d (what-is.OperandType x n t) h = absurd (strange only_names 8 refl h)
-only_named d (what-is.NotCallable t) h = absurd (strange only_names 9 refl h)
-only_named d (what-is.TooManyArgs f a b) h = absurd (strange only_names 10 refl h)
-only_named d (what-is.TooFewArgs f a b) h = absurd (strange only_names 11 refl h)
-only_named d (what-is.ArgType f i n t) h = absurd (strange only_names 12 refl h)
-only_named d what-is.VoidValue h = absurd (strange only_names 13 refl h)
-only_named d what-is.IntegralTooLarge h = absurd (strange only_names 14 refl h)
-only_named d what-is.MultipleImports h = refl
-only_named d (what-is.DiscardedValue t) h = absurd (strange only_names 16 refl h)
-only_named d (what-is.Truncated n t) h = absurd (strange only_names 17 refl h)
-only_named d (what-is.Overflow t n) h = absurd (strange only_names 18 refl h)
+only_named d what_is.UnknownName h = refl
+only_named d (what_is.UnknownItem m) h = absurd (strange only_names 1 refl h)
+only_named d what_is.UnknownModule h = refl
+only_named d what_is.NotImported h = refl
+only_named d what_is.NotAModule h = refl
+only_named d what_is.NotAValue h = refl
+only_named d (what_is.AlreadyBound l c) h = absurd (strange only_names 6 refl h)
+only_named d (what_is.NoMembers t) h = absurd (strange only_names 7 refl h)
+only_named d (what_is.OperandType x n t) h = absurd (strange only_names 8 refl h)
+only_named d (what_is.NotCallable t) h = absurd (strange only_names 9 refl h)
+only_named d (what_is.TooManyArgs f a b) h = absurd (strange only_names 10 refl h)
+only_named d (what_is.TooFewArgs f a b) h = absurd (strange only_names 11 refl h)
+only_named d (what_is.ArgType f i n t) h = absurd (strange only_names 12 refl h)
+only_named d what_is.VoidValue h = absurd (strange only_names 13 refl h)
+only_named d what_is.IntegralTooLarge h = absurd (strange only_names 14 refl h)
+only_named d what_is.MultipleImports h = refl
+only_named d (what_is.DiscardedValue t) h = absurd (strange only_names 16 refl h)
+only_named d (what_is.Truncated n t) h = absurd (strange only_names 17 refl h)
+only_named d (what_is.Overflow t n) h = absurd (strange only_names 18 refl h)
 
 pub name_row : (d : Diagnostic) {r : DiagnosticRow} → OneOf only_names (tag_of what.the_type d.what) → r ≡ named_row d 0 0 → r ≡ row_of d
 name_row d h e = row_as d refl (e ∙ only_named d d.what h)

@@ -16,38 +16,38 @@ use Rattle.language.specs.Judgements.{Diag, errors_in, warnings_in}
 use Rattle.language.specs.Findings.{ty_entry, diag_row}
 use Rattle.language.specs.Numbers.{token_of, sum}
 use Rattle.findings.specs.declared.Side.{Side}
-use Rattle.findings.specs.declared.Side.TheVariants as side-is
+use Rattle.findings.specs.declared.Side.TheVariants as side_is
 use Rattle.findings.specs.declared.What.{What}
-use Rattle.findings.specs.declared.What.TheVariants as what-is
+use Rattle.findings.specs.declared.What.TheVariants as what_is
 use Rattle.findings.specs.declared.Diagnostic.{Diagnostic}
 use Rattle.findings.specs.declared.Counts.{Counts}
 
 -- ---- kinds
 
 abbrev pub side_number : Side → ℕ
-side_number side-is.Left = 1
-side_number side-is.Right = 2
+side_number side_is.Left = 1
+side_number side_is.Right = 2
 
 abbrev pub kind_number : What → ℕ
-kind_number what-is.UnknownName = 1
-kind_number (what-is.UnknownItem m) = 2
-kind_number what-is.UnknownModule = 4
-kind_number what-is.NotImported = 5
-kind_number what-is.NotAModule = 6
-kind_number what-is.NotAValue = 7
-kind_number (what-is.AlreadyBound l c) = 8
-kind_number (what-is.NoMembers t) = 9
-kind_number (what-is.OperandType s w t) = 10
-kind_number (what-is.NotCallable t) = 11
-kind_number (what-is.TooManyArgs f a b) = 12
-kind_number (what-is.TooFewArgs f a b) = 13
-kind_number (what-is.ArgType f i w t) = 19
-kind_number what-is.VoidValue = 21
-kind_number what-is.IntegralTooLarge = 22
-kind_number what-is.MultipleImports = 23
-kind_number (what-is.DiscardedValue t) = 24
-kind_number (what-is.Truncated n t) = 25
-kind_number (what-is.Overflow t w) = 26
+kind_number what_is.UnknownName = 1
+kind_number (what_is.UnknownItem m) = 2
+kind_number what_is.UnknownModule = 4
+kind_number what_is.NotImported = 5
+kind_number what_is.NotAModule = 6
+kind_number what_is.NotAValue = 7
+kind_number (what_is.AlreadyBound l c) = 8
+kind_number (what_is.NoMembers t) = 9
+kind_number (what_is.OperandType s w t) = 10
+kind_number (what_is.NotCallable t) = 11
+kind_number (what_is.TooManyArgs f a b) = 12
+kind_number (what_is.TooFewArgs f a b) = 13
+kind_number (what_is.ArgType f i w t) = 19
+kind_number what_is.VoidValue = 21
+kind_number what_is.IntegralTooLarge = 22
+kind_number what_is.MultipleImports = 23
+kind_number (what_is.DiscardedValue t) = 24
+kind_number (what_is.Truncated n t) = 25
+kind_number (what_is.Overflow t w) = 26
 
 -- of a kind: 1 an error, 2 a warning
 unfoldable pub severity_number : ℕ → ℕ
@@ -64,29 +64,29 @@ abbrev pub type_as : Ty → «Type»
 type_as t = record { kind = ty_kind t; entry = ty_entry t }
 
 abbrev pub side_as : judgements.Side → Side
-side_as judgements.left = side-is.Left
-side_as judgements.right = side-is.Right
+side_as judgements.left = side_is.Left
+side_as judgements.right = side_is.Right
 
 abbrev pub what_as : (ℕ → tokens.Token) → judgements.What → What
-what_as tokenAt judgements.unknown_name = what-is.UnknownName
-what_as tokenAt (judgements.unknown_item m) = what-is.UnknownItem m
-what_as tokenAt judgements.unknown_module = what-is.UnknownModule
-what_as tokenAt judgements.not_imported = what-is.NotImported
-what_as tokenAt judgements.not_a_module = what-is.NotAModule
-what_as tokenAt judgements.not_a_value = what-is.NotAValue
-what_as tokenAt (judgements.already_bound t) = what-is.AlreadyBound (tokenAt t).line (tokenAt t).column
-what_as tokenAt (judgements.no_members ty) = what-is.NoMembers (type_as ty)
-what_as tokenAt (judgements.operand_type s wanted found) = what-is.OperandType (side_as s) (ty_kind wanted) (type_as found)
-what_as tokenAt (judgements.not_callable ty) = what-is.NotCallable (type_as ty)
-what_as tokenAt (judgements.too_many_args f many wanted) = what-is.TooManyArgs f many wanted
-what_as tokenAt (judgements.too_few_args f many wanted) = what-is.TooFewArgs f many wanted
-what_as tokenAt (judgements.arg_type f i wanted found) = what-is.ArgType f i (ty_kind wanted) (type_as found)
-what_as tokenAt judgements.void_value = what-is.VoidValue
-what_as tokenAt judgements.integral_too_large = what-is.IntegralTooLarge
-what_as tokenAt judgements.multiple_imports = what-is.MultipleImports
-what_as tokenAt (judgements.discarded_value ty) = what-is.DiscardedValue (type_as ty)
-what_as tokenAt (judgements.truncated n ty) = what-is.Truncated (wide_of n) (type_as ty)
-what_as tokenAt (judgements.overflow found wanted) = what-is.Overflow (type_as found) (ty_kind wanted)
+what_as token_at judgements.unknown_name = what_is.UnknownName
+what_as token_at (judgements.unknown_item m) = what_is.UnknownItem m
+what_as token_at judgements.unknown_module = what_is.UnknownModule
+what_as token_at judgements.not_imported = what_is.NotImported
+what_as token_at judgements.not_a_module = what_is.NotAModule
+what_as token_at judgements.not_a_value = what_is.NotAValue
+what_as token_at (judgements.already_bound t) = what_is.AlreadyBound (token_at t).line (token_at t).column
+what_as token_at (judgements.no_members ty) = what_is.NoMembers (type_as ty)
+what_as token_at (judgements.operand_type s wanted found) = what_is.OperandType (side_as s) (ty_kind wanted) (type_as found)
+what_as token_at (judgements.not_callable ty) = what_is.NotCallable (type_as ty)
+what_as token_at (judgements.too_many_args f many wanted) = what_is.TooManyArgs f many wanted
+what_as token_at (judgements.too_few_args f many wanted) = what_is.TooFewArgs f many wanted
+what_as token_at (judgements.arg_type f i wanted found) = what_is.ArgType f i (ty_kind wanted) (type_as found)
+what_as token_at judgements.void_value = what_is.VoidValue
+what_as token_at judgements.integral_too_large = what_is.IntegralTooLarge
+what_as token_at judgements.multiple_imports = what_is.MultipleImports
+what_as token_at (judgements.discarded_value ty) = what_is.DiscardedValue (type_as ty)
+what_as token_at (judgements.truncated n ty) = what_is.Truncated (wide_of n) (type_as ty)
+what_as token_at (judgements.overflow found wanted) = what_is.Overflow (type_as found) (ty_kind wanted)
 
 -- what was found at a place, with the span of the name where the kind shows one
 unfoldable pub placed : ℕ → ℕ → ℕ → ℕ → What → Diagnostic
@@ -142,25 +142,25 @@ bare_row d = shown_row d (record { from = 0; start = 0; end = 0 }) 0 0 0 0
 
 -- what a finding shows, by its kind
 abbrev pub row_by : Diagnostic → What → DiagnosticRow
-row_by d what-is.UnknownName = named_row d 0 0
-row_by d (what-is.UnknownItem m) = named_row d m 0
-row_by d what-is.UnknownModule = named_row d 0 0
-row_by d what-is.NotImported = named_row d 0 0
-row_by d what-is.NotAModule = named_row d 0 0
-row_by d what-is.NotAValue = named_row d 0 0
-row_by d (what-is.AlreadyBound l c) = named_row d l c
-row_by d (what-is.NoMembers t) = typed_row d t 0 0 0
-row_by d (what-is.OperandType s w t) = typed_row d t (side_number s) w 1
-row_by d (what-is.NotCallable t) = typed_row d t 0 0 0
-row_by d (what-is.TooManyArgs f many wanted) = typed_row d (function_type f) many wanted 0
-row_by d (what-is.TooFewArgs f many wanted) = typed_row d (function_type f) many wanted 0
-row_by d (what-is.ArgType f i wanted t) = typed_row d t f i wanted
-row_by d what-is.VoidValue = bare_row d
-row_by d what-is.IntegralTooLarge = bare_row d
-row_by d what-is.MultipleImports = named_row d 0 0
-row_by d (what-is.DiscardedValue t) = typed_row d t 0 0 0
-row_by d (what-is.Truncated n t) = typed_row d t n.lo n.hi 0
-row_by d (what-is.Overflow t wanted) = typed_row d t wanted 0 0
+row_by d what_is.UnknownName = named_row d 0 0
+row_by d (what_is.UnknownItem m) = named_row d m 0
+row_by d what_is.UnknownModule = named_row d 0 0
+row_by d what_is.NotImported = named_row d 0 0
+row_by d what_is.NotAModule = named_row d 0 0
+row_by d what_is.NotAValue = named_row d 0 0
+row_by d (what_is.AlreadyBound l c) = named_row d l c
+row_by d (what_is.NoMembers t) = typed_row d t 0 0 0
+row_by d (what_is.OperandType s w t) = typed_row d t (side_number s) w 1
+row_by d (what_is.NotCallable t) = typed_row d t 0 0 0
+row_by d (what_is.TooManyArgs f many wanted) = typed_row d (function_type f) many wanted 0
+row_by d (what_is.TooFewArgs f many wanted) = typed_row d (function_type f) many wanted 0
+row_by d (what_is.ArgType f i wanted t) = typed_row d t f i wanted
+row_by d what_is.VoidValue = bare_row d
+row_by d what_is.IntegralTooLarge = bare_row d
+row_by d what_is.MultipleImports = named_row d 0 0
+row_by d (what_is.DiscardedValue t) = typed_row d t 0 0 0
+row_by d (what_is.Truncated n t) = typed_row d t n.lo n.hi 0
+row_by d (what_is.Overflow t wanted) = typed_row d t wanted 0 0
 
 unfoldable pub row_of : Diagnostic → DiagnosticRow
 row_of d = row_by d d.what

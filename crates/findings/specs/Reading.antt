@@ -4,14 +4,14 @@ use Rattle.rows.specs.declared.layout.DiagnosticRow.{DiagnosticRow}
 use Rattle.rows.specs.declared.types.Type.{«Type»}
 use Rattle.language.specs.Choice.{if'}
 use Rattle.constants.specs.Constants.{is_module, is_function_entry, function_named}
-use Rattle.findings.specs.declared.Side.TheVariants as side-is
+use Rattle.findings.specs.declared.Side.TheVariants as side_is
 use Rattle.findings.specs.declared.What.{What}
-use Rattle.findings.specs.declared.What.TheVariants as what-is
+use Rattle.findings.specs.declared.What.TheVariants as what_is
 use Rattle.findings.specs.declared.Diagnostic.{Diagnostic}
 use Rattle.findings.specs.declared.Read.{Read}
 use Rattle.findings.specs.declared.Read.TheVariants.{Is, Nothing}
 use Rattle.findings.specs.declared.reading.Guess.{Guess}
-use Rattle.findings.specs.declared.reading.Guess.TheVariants as guess-is
+use Rattle.findings.specs.declared.reading.Guess.TheVariants as guess_is
 use Rattle.findings.specs.Findings.{kind_number, shows_name, placed, row_of, numbered}
 
 -- ---- which findings rows can show
@@ -30,25 +30,25 @@ sound_type t = if' (eqb t.kind 14) (is_function_entry t.entry) (is_plain t.kind 
 
 -- an unknown item is missed in a module, what is called with arguments is a function, and an integer is below 2^127
 abbrev pub sound_what : What → Bool
-sound_what what-is.UnknownName = true
-sound_what (what-is.UnknownItem m) = is_module m
-sound_what what-is.UnknownModule = true
-sound_what what-is.NotImported = true
-sound_what what-is.NotAModule = true
-sound_what what-is.NotAValue = true
-sound_what (what-is.AlreadyBound l c) = true
-sound_what (what-is.NoMembers t) = sound_type t
-sound_what (what-is.OperandType s w t) = is_type w && sound_type t
-sound_what (what-is.NotCallable t) = sound_type t
-sound_what (what-is.TooManyArgs f a b) = is_function_entry f
-sound_what (what-is.TooFewArgs f a b) = is_function_entry f
-sound_what (what-is.ArgType f i w t) = (is_function_entry f && is_type w) && sound_type t
-sound_what what-is.VoidValue = true
-sound_what what-is.IntegralTooLarge = true
-sound_what what-is.MultipleImports = true
-sound_what (what-is.DiscardedValue t) = sound_type t
-sound_what (what-is.Truncated n t) = ltb n.hi 9223372036854775808 && sound_type t
-sound_what (what-is.Overflow t w) = sound_type t && is_type w
+sound_what what_is.UnknownName = true
+sound_what (what_is.UnknownItem m) = is_module m
+sound_what what_is.UnknownModule = true
+sound_what what_is.NotImported = true
+sound_what what_is.NotAModule = true
+sound_what what_is.NotAValue = true
+sound_what (what_is.AlreadyBound l c) = true
+sound_what (what_is.NoMembers t) = sound_type t
+sound_what (what_is.OperandType s w t) = is_type w && sound_type t
+sound_what (what_is.NotCallable t) = sound_type t
+sound_what (what_is.TooManyArgs f a b) = is_function_entry f
+sound_what (what_is.TooFewArgs f a b) = is_function_entry f
+sound_what (what_is.ArgType f i w t) = (is_function_entry f && is_type w) && sound_type t
+sound_what what_is.VoidValue = true
+sound_what what_is.IntegralTooLarge = true
+sound_what what_is.MultipleImports = true
+sound_what (what_is.DiscardedValue t) = sound_type t
+sound_what (what_is.Truncated n t) = ltb n.hi 9223372036854775808 && sound_type t
+sound_what (what_is.Overflow t w) = sound_type t && is_type w
 
 -- and where the kind shows no name there is no span
 unfoldable pub sound_diagnostic : Diagnostic → Bool
@@ -70,34 +70,34 @@ type_in r = record { kind = r.ty; entry = if' (eqb r.ty 14) (function_named r.st
 -- an operand's finding, by its side
 unfoldable pub operand_in : DiagnosticRow → Guess
 operand_in r =
-    if' (eqb r.first 1) (guess-is.Is (what-is.OperandType side-is.Left r.second (type_in r)))
-    (if' (eqb r.first 2) (guess-is.Is (what-is.OperandType side-is.Right r.second (type_in r))) guess-is.Nothing)
+    if' (eqb r.first 1) (guess_is.Is (what_is.OperandType side_is.Left r.second (type_in r)))
+    (if' (eqb r.first 2) (guess_is.Is (what_is.OperandType side_is.Right r.second (type_in r))) guess_is.Nothing)
 
 unfoldable pub truncated_in : DiagnosticRow → Guess
-truncated_in r = guess-is.Is (what-is.Truncated (record { hi = r.second; lo = r.first }) (type_in r))
+truncated_in r = guess_is.Is (what_is.Truncated (record { hi = r.second; lo = r.first }) (type_in r))
 
 -- what a row can have been, by its kind
 unfoldable pub guess_by : ℕ → DiagnosticRow → Guess
 guess_by kind r =
-    if' (eqb kind 1) (guess-is.Is what-is.UnknownName)
-    (if' (eqb kind 2) (guess-is.Is (what-is.UnknownItem r.first))
-    (if' (eqb kind 4) (guess-is.Is what-is.UnknownModule)
-    (if' (eqb kind 5) (guess-is.Is what-is.NotImported)
-    (if' (eqb kind 6) (guess-is.Is what-is.NotAModule)
-    (if' (eqb kind 7) (guess-is.Is what-is.NotAValue)
-    (if' (eqb kind 8) (guess-is.Is (what-is.AlreadyBound r.first r.second))
-    (if' (eqb kind 9) (guess-is.Is (what-is.NoMembers (type_in r)))
+    if' (eqb kind 1) (guess_is.Is what_is.UnknownName)
+    (if' (eqb kind 2) (guess_is.Is (what_is.UnknownItem r.first))
+    (if' (eqb kind 4) (guess_is.Is what_is.UnknownModule)
+    (if' (eqb kind 5) (guess_is.Is what_is.NotImported)
+    (if' (eqb kind 6) (guess_is.Is what_is.NotAModule)
+    (if' (eqb kind 7) (guess_is.Is what_is.NotAValue)
+    (if' (eqb kind 8) (guess_is.Is (what_is.AlreadyBound r.first r.second))
+    (if' (eqb kind 9) (guess_is.Is (what_is.NoMembers (type_in r)))
     (if' (eqb kind 10) (operand_in r)
-    (if' (eqb kind 11) (guess-is.Is (what-is.NotCallable (type_in r)))
-    (if' (eqb kind 12) (guess-is.Is (what-is.TooManyArgs (type_in r).entry r.first r.second))
-    (if' (eqb kind 13) (guess-is.Is (what-is.TooFewArgs (type_in r).entry r.first r.second))
-    (if' (eqb kind 19) (guess-is.Is (what-is.ArgType r.first r.second r.third (type_in r)))
-    (if' (eqb kind 21) (guess-is.Is what-is.VoidValue)
-    (if' (eqb kind 22) (guess-is.Is what-is.IntegralTooLarge)
-    (if' (eqb kind 23) (guess-is.Is what-is.MultipleImports)
-    (if' (eqb kind 24) (guess-is.Is (what-is.DiscardedValue (type_in r)))
+    (if' (eqb kind 11) (guess_is.Is (what_is.NotCallable (type_in r)))
+    (if' (eqb kind 12) (guess_is.Is (what_is.TooManyArgs (type_in r).entry r.first r.second))
+    (if' (eqb kind 13) (guess_is.Is (what_is.TooFewArgs (type_in r).entry r.first r.second))
+    (if' (eqb kind 19) (guess_is.Is (what_is.ArgType r.first r.second r.third (type_in r)))
+    (if' (eqb kind 21) (guess_is.Is what_is.VoidValue)
+    (if' (eqb kind 22) (guess_is.Is what_is.IntegralTooLarge)
+    (if' (eqb kind 23) (guess_is.Is what_is.MultipleImports)
+    (if' (eqb kind 24) (guess_is.Is (what_is.DiscardedValue (type_in r)))
     (if' (eqb kind 25) (truncated_in r)
-    (if' (eqb kind 26) (guess-is.Is (what-is.Overflow (type_in r) r.first)) guess-is.Nothing))))))))))))))))))
+    (if' (eqb kind 26) (guess_is.Is (what_is.Overflow (type_in r) r.first)) guess_is.Nothing))))))))))))))))))
 
 abbrev pub guess_of : DiagnosticRow → Guess
 guess_of r = guess_by r.kind r
@@ -110,8 +110,8 @@ unfoldable pub confirmed : DiagnosticRow → Diagnostic → Read
 confirmed r d = if' (sound_diagnostic d && same_row (row_of d) r) (Is d) Nothing
 
 abbrev pub read_by : DiagnosticRow → Guess → Read
-read_by r (guess-is.Is w) = confirmed r (found_in r w)
-read_by r guess-is.Nothing = Nothing
+read_by r (guess_is.Is w) = confirmed r (found_in r w)
+read_by r guess_is.Nothing = Nothing
 
 unfoldable pub read_of : DiagnosticRow → Read
 read_of r = read_by r (guess_of r)

@@ -15,4 +15,4 @@ EntriesDetermined = CallsDetermined ScanLine LexSource ParseSource CanonSource C
 abbrev pub PartsDetermined : Type 0
 PartsDetermined =
     ((s : List ℕ) (start e i : ℕ) → Determined (StringBody s start e i))
-    × ((fromTable : Bool) (source text : List ℕ) (a e : ℕ) → Determined (NameText fromTable source text a e))
+    × ((from_table : Bool) (source text : List ℕ) (a e : ℕ) → Determined (NameText from_table source text a e))

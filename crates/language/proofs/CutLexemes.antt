@@ -124,7 +124,7 @@ follow_cut m size (suc left) low high bits [] (b ∷ z) h e =
 follow_cut m size (suc left) low high bits (b ∷ s) z h e =
     both_sides (CharCut m z) (within low high b) (λ _. follow_cut m size left 0x80 0xBF _ s z (omega arith) (omega arith)) (λ _. unread)
 
--- the first character, by the rows of `leadOf`
+-- the first character, by the rows of `lead_of`
 char_cut : (b : ℕ) (s z : List ℕ) → CharCut (suc (length s)) z (char_at (b ∷ s)) (char_at (b ∷ s ++ z))
 unfolding char_at
 char_cut b s z =

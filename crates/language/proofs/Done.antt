@@ -70,34 +70,34 @@ lex_leaves s n h = rw (lex_done s (n / token_width) h)
 -- ---- canonicalise
 
 -- with room for its text too
-pub record FitsIn (s : List ℕ) (tokenRoom room : ℕ) : Type 0 where
+pub record FitsIn (s : List ℕ) (token_room room : ℕ) : Type 0 where
   pub fits : Fits s
-  pub tokens : length (tokens s) ≤ tokenRoom
+  pub tokens : length (tokens s) ≤ token_room
   pub bytes : length (text s) ≤ room
 
-pub lexes_in : {s : List ℕ} {tokenRoom room : ℕ} → FitsIn s tokenRoom room → LexesIn s tokenRoom
+pub lexes_in : {s : List ℕ} {token_room room : ℕ} → FitsIn s token_room room → LexesIn s token_room
 lexes_in h = record { lexes = h.fits.lexes; fit = h.tokens }
 
-module _ (s : List ℕ) (tokenRoom room : ℕ) where
-  pub canon_done : FitsIn s tokenRoom room
-      → canon_answer s tokenRoom room ≡ canonised (verdict 0 0 0) (length (tokens s)) (length (text s))
+module _ (s : List ℕ) (token_room room : ℕ) where
+  pub canon_done : FitsIn s token_room room
+      → canon_answer s token_room room ≡ canonised (verdict 0 0 0) (length (tokens s)) (length (text s))
   unfolding canon_answer
-  canon_done h = rw (lex_done s tokenRoom (lexes_in h), le-ltb _ _ h.bytes, le-ltb _ _ h.fits.short)
+  canon_done h = rw (lex_done s token_room (lexes_in h), le-ltb _ _ h.bytes, le-ltb _ _ h.fits.short)
 
-  module _ (z : (canon_answer s tokenRoom room).verdict.number ≡ 0) where
+  module _ (z : (canon_answer s token_room room).verdict.number ≡ 0) where
     -- lexing was done
-    lexes_first : LexesIn s tokenRoom
+    lexes_first : LexesIn s token_room
     unfolding canon_answer
     lexes_first =
-        let n = (lex_answer s tokenRoom).verdict.number in
-        lex_done_only s tokenRoom
+        let n = (lex_answer s token_room).verdict.number in
+        lex_done_only s token_room
         (elim (dec_le n 0) [ yes h ↦ omega arith | no h ↦ let d : n ≡ 0 → ⊥ = λ e. omega arith in rw (ne_eqb _ _ d) at z ])
 
     judged : (canonised_within room (length (tokens s)) (length (text s))).verdict.number ≡ 0
     unfolding canon_answer
-    judged = rw (lex_done s tokenRoom lexes_first) at z
+    judged = rw (lex_done s token_room lexes_first) at z
 
-    pub canon_done_only : FitsIn s tokenRoom room
+    pub canon_done_only : FitsIn s token_room room
     canon_done_only =
         let l = lexes_first in
         elim (dec_le (length (text s)) room) [

@@ -230,9 +230,9 @@ read_what k start ty a b c =
     ∷ (24, discarded_value (read_ty ty start)) ∷ (25, truncated (b * word_limit + a) (read_ty ty start))
     ∷ (26, overflow (read_ty ty start) (read_ty a 0)) ∷ []) unknown_name k
 
-module _ (tokenAt : ℕ → Token) (n : ℕ) where
+module _ (token_at : ℕ → Token) (n : ℕ) where
   what_back : (at : ℕ) (w : What) → RealWhat n w
-      → let d = detail tokenAt at w in (d.kind ≡ 8 → ⊥) → read_what d.kind d.start d.type d.first d.second d.third ≡ w
+      → let d = detail token_at at w in (d.kind ≡ 8 → ⊥) → read_what d.kind d.start d.type d.first d.second d.third ≡ w
   unfolding read_what numbered
   what_back at unknown_name r h = refl
   what_back at (unknown_item m) r h = refl
@@ -256,8 +256,8 @@ module _ (tokenAt : ℕ → Token) (n : ℕ) where
 
   -- a name that is bound twice
   bound_back : (at : ℕ) (w : What) → RealWhat n w
-      → let d = detail tokenAt at w in
-      d.kind ≡ 8 → (t : ℕ) × (w ≡ already_bound t) × (t < n) × (d.first ≡ (tokenAt t).line) × (d.second ≡ (tokenAt t).column)
+      → let d = detail token_at at w in
+      d.kind ≡ 8 → (t : ℕ) × (w ≡ already_bound t) × (t < n) × (d.first ≡ (token_at t).line) × (d.second ≡ (token_at t).column)
   bound_back at (already_bound t) r h = (t, refl, r, refl, refl)
   bound_back at unknown_name r h = absurd (omega arith)
   bound_back at (unknown_item m) r h = absurd (omega arith)
@@ -280,28 +280,28 @@ module _ (tokenAt : ℕ → Token) (n : ℕ) where
 
 pub findings_determine : FindingsDetermine
 unfolding diag_row
-findings_determine tokenAt n apart d e h g r q eq =
+findings_determine token_at n apart d e h g r q eq =
     let at = apart d.at e.at h g (word 0) (word 1) in
     let what = by (eqb x.kind 8) refl in
     rw (word 11, at, what)
   where
     x : Detail
-    x = detail tokenAt d.at d.what
+    x = detail token_at d.at d.what
 
-    word : (i : ℕ) → get_or (diag_row tokenAt d) i 0 ≡ get_or (diag_row tokenAt e) i 0
+    word : (i : ℕ) → get_or (diag_row token_at d) i 0 ≡ get_or (diag_row token_at e) i 0
     word i = ap (λ (ws : List ℕ). get_or ws i 0) eq
 
     by : (b : Bool) → eqb x.kind 8 ≡ b → d.what ≡ e.what
     by true k =
-        let t = bound_back tokenAt n d.at d.what r (eqb-true x.kind 8 k) in
-        let u = bound_back tokenAt n e.at e.what q (sym (word 3) ∙ eqb-true x.kind 8 k) in
+        let t = bound_back token_at n d.at d.what r (eqb-true x.kind 8 k) in
+        let u = bound_back token_at n e.at e.what q (sym (word 3) ∙ eqb-true x.kind 8 k) in
         let same : t.0 ≡ u.0 =
         apart t.0 u.0 t.2 u.2 (sym t.3 ∙ word 8 ∙ u.3) (sym t.4 ∙ word 9 ∙ u.4) in
         t.1 ∙ ap already_bound same ∙ sym u.1
     by false k =
         let o = eqb-false x.kind 8 k in
-        sym (what_back tokenAt n d.at d.what r o)
-        ∙ rw (word 3, word 5, word 7, word 8, word 9, word 10) (what_back tokenAt n e.at e.what q (λ z. o (word 3 ∙ z)))
+        sym (what_back token_at n d.at d.what r o)
+        ∙ rw (word 3, word 5, word 7, word 8, word 9, word 10) (what_back token_at n e.at e.what q (λ z. o (word 3 ∙ z)))
 
 -- ---- statements
 
@@ -337,15 +337,15 @@ deed_back waits = refl
 deed_back evals = refl
 deed_back discards = refl
 
-module _ (tokenAt : ℕ → Token) (n : ℕ) (apart : Apart tokenAt n) where
+module _ (token_at : ℕ → Token) (n : ℕ) (apart : Apart token_at n) where
   -- rows with the same words, one by one
   abbrev Alike : List Row → List Row → Type 0
   Alike [] [] = Unit {0}
   Alike [] (s ∷ ss) = ⊥
   Alike (r ∷ rs) [] = ⊥
-  Alike (r ∷ rs) (s ∷ ss) = (stmt_row tokenAt r ≡ stmt_row tokenAt s) × Alike rs ss
+  Alike (r ∷ rs) (s ∷ ss) = (stmt_row token_at r ≡ stmt_row token_at s) × Alike rs ss
 
-  alike : (rs ss : List Row) → map (stmt_row tokenAt) rs ≡ map (stmt_row tokenAt) ss → Alike rs ss
+  alike : (rs ss : List Row) → map (stmt_row token_at) rs ≡ map (stmt_row token_at) ss → Alike rs ss
   alike [] [] e = tt
   alike [] (s ∷ ss) e = never (cc)
   alike (r ∷ rs) [] e = never (cc)
@@ -354,20 +354,20 @@ module _ (tokenAt : ℕ → Token) (n : ℕ) (apart : Apart tokenAt n) where
   -- what an expression's own row tells of it
   record Own (v w : Term) : Type 0 where
     form : form_of v ≡ form_of w
-    line : (tokenAt (term_at v)).line ≡ (tokenAt (term_at w)).line
-    column : (tokenAt (term_at v)).column ≡ (tokenAt (term_at w)).column
+    line : (token_at (term_at v)).line ≡ (token_at (term_at w)).line
+    column : (token_at (term_at v)).column ≡ (token_at (term_at w)).column
     type : ty_kind (term_type v) ≡ ty_kind (term_type w)
     text : term_text v ≡ term_text w
     low : term_low v ≡ term_low w
     high : term_high v ≡ term_high w
 
-  own : (r s : Row) → stmt_row tokenAt r ≡ stmt_row tokenAt s → Own r.term s.term
+  own : (r s : Row) → stmt_row token_at r ≡ stmt_row token_at s → Own r.term s.term
   unfolding stmt_row
   own r s e =
-      let word : (i : ℕ) → get_or (stmt_row tokenAt r) i 0 ≡ get_or (stmt_row tokenAt s) i 0 = λ i. ap (λ (ws : List ℕ). get_or ws i 0) e in
+      let word : (i : ℕ) → get_or (stmt_row token_at r) i 0 ≡ get_or (stmt_row token_at s) i 0 = λ i. ap (λ (ws : List ℕ). get_or ws i 0) e in
       record { form = word 4; line = word 5; column = word 6; type = word 7; text = word 8; low = word 9; high = word 10 }
 
-  place : {p q : ℕ} → p < n → q < n → (tokenAt p).line ≡ (tokenAt q).line → (tokenAt p).column ≡ (tokenAt q).column → p ≡ q
+  place : {p q : ℕ} → p < n → q < n → (token_at p).line ≡ (token_at q).line → (token_at p).column ≡ (token_at q).column → p ≡ q
   place {p} {q} h g l c = apart p q h g l c
 
   mutual
@@ -425,7 +425,7 @@ module _ (tokenAt : ℕ → Token) (n : ℕ) (apart : Apart tokenAt n) where
   held_told [] (y ∷ gs) h g a = absurd a
   held_told (x ∷ hs) [] h g a = absurd a
   held_told (x ∷ hs) (y ∷ gs) h g a =
-      let word : (i : ℕ) → get_or (stmt_row tokenAt (head_row x)) i 0 ≡ get_or (stmt_row tokenAt (head_row y)) i 0 = λ i. ap (λ (ws : List ℕ). get_or ws i 0) a.0 in
+      let word : (i : ℕ) → get_or (stmt_row token_at (head_row x)) i 0 ≡ get_or (stmt_row token_at (head_row y)) i 0 = λ i. ap (λ (ws : List ℕ). get_or ws i 0) a.0 in
       let at : x.at ≡ y.at = place h.0 g.0 (word 0) (word 1) in
       let deed : x.deed ≡ y.deed = sym (deed_back x.deed) ∙ rw (word 2, word 3) (deed_back y.deed) in
       let b = term_told x.term y.term (rows_of hs) (rows_of gs) h.1 g.1 (own (head_row x) (head_row y) a.0) a.1 in
@@ -436,7 +436,7 @@ module _ (tokenAt : ℕ → Token) (n : ℕ) (apart : Apart tokenAt n) where
       head_row z = row z.at (deed_kind z.deed) (deed_slot z.deed) z.term
 
 pub statements_determine : StatementsDetermine
-statements_determine tokenAt n apart hs gs h g e = held_told tokenAt n apart hs gs h g (alike tokenAt n apart (rows_of hs) (rows_of gs) e)
+statements_determine token_at n apart hs gs h g e = held_told token_at n apart hs gs h g (alike token_at n apart (rows_of hs) (rows_of gs) e)
 
 -- ---- what is found and held in a source
 

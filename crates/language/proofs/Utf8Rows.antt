@@ -61,7 +61,7 @@ abbrev lookup : List Row → ℕ → Option Lead
 lookup [] b = none
 lookup (r ∷ rs) b = if' (within r.low r.high b) (said_by r b) (lookup rs b)
 
--- `leadOf` looks in these rows
+-- `lead_of` looks in these rows
 leads : (b : ℕ) → lead_of b ≡ lookup rows b
 unfolding lead_of
 leads b = rw sub-zero refl

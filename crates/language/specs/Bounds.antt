@@ -10,11 +10,11 @@ use Rattle.language.specs.Sentences.{Expr, Args, none_given, Stmt, let', expr', 
 -- ---- the productions that have a bound, over any bounds
 
 module _ (ts : List Content) where
-  -- as `exprOf`, with so many steps at the most
+  -- as `expr_of`, with so many steps at the most
   unfoldable pub expr_in : ℕ → (ℕ → ℕ → Out Expr) → ℕ → Out Expr
   expr_in steps chain at = and_then (chain steps at) (λ e next s. slashes ts chain (suc steps) e next s)
 
-  -- as `listAt`
+  -- as `list_at`
   unfoldable pub list_in : ℕ → ℕ → ℕ → Out Args
   list_in steps zero = λ at. too_deep at
   list_in steps (suc d) = λ at. args_of ts (expr_in steps (chain_of ts (list_in steps d))) (suc (length ts)) none_given (at + 1)
@@ -24,7 +24,7 @@ module _ (ts : List Content) where
     abbrev pub whole_in : ℕ → Out Expr
     whole_in at = expr_in steps (chain_of ts (list_in steps lists)) at
 
-    -- as `letAt`, `stmtAt`, `stmtsFrom` and `program`
+    -- as `let_at`, `stmt_at`, `stmts_from` and `program`
     unfoldable pub let_in : ℕ → Out Stmt
     let_in at =
         if' (is_name ts (at + 1))

@@ -157,20 +157,20 @@ abbrev pub detail_row : Token → Detail → ℕ → List ℕ
 detail_row t d n =
     t.line ∷ t.column ∷ d.severity ∷ d.kind ∷ d.text ∷ d.start ∷ d.end ∷ d.type ∷ d.first ∷ d.second ∷ d.third ∷ n ∷ []
 
-module _ (tokenAt : ℕ → Token) where
+module _ (token_at : ℕ → Token) where
   -- of a kind that stands at a token: an unknown item shows the number of its module's entry in the constant table, a name
   -- bound twice the place where it was bound first, an operand its side, the type wanted and the operator, which is `/`. Where a
   -- kind says what was found, that is its type. Too many and too few arguments have the function for their type, so that its name
   -- is the text, and how many were given and wanted; an argument of the wrong type has the function's entry, the parameter's number
   -- and the type wanted; `Overflow` has the type wanted.
   abbrev pub detail : ℕ → What → Detail
-  detail at unknown_name = named unknown_name (tokenAt at) 0 0
-  detail at (unknown_item m) = named (unknown_item m) (tokenAt at) m 0
-  detail at unknown_module = named unknown_module (tokenAt at) 0 0
-  detail at not_imported = named not_imported (tokenAt at) 0 0
-  detail at not_a_module = named not_a_module (tokenAt at) 0 0
-  detail at not_a_value = named not_a_value (tokenAt at) 0 0
-  detail at (already_bound t) = named (already_bound t) (tokenAt at) (tokenAt t).line (tokenAt t).column
+  detail at unknown_name = named unknown_name (token_at at) 0 0
+  detail at (unknown_item m) = named (unknown_item m) (token_at at) m 0
+  detail at unknown_module = named unknown_module (token_at at) 0 0
+  detail at not_imported = named not_imported (token_at at) 0 0
+  detail at not_a_module = named not_a_module (token_at at) 0 0
+  detail at not_a_value = named not_a_value (token_at at) 0 0
+  detail at (already_bound t) = named (already_bound t) (token_at at) (token_at t).line (token_at t).column
   detail at (no_members ty) = typed (no_members ty) ty 0 0 0
   detail at (operand_type s wanted found) = typed (operand_type s wanted found) found (side_kind s) (ty_kind wanted) 1
   detail at (not_callable ty) = typed (not_callable ty) ty 0 0 0
@@ -179,13 +179,13 @@ module _ (tokenAt : ℕ → Token) where
   detail at (arg_type f i wanted found) = typed (arg_type f i wanted found) found f i (ty_kind wanted)
   detail at void_value = bare void_value
   detail at integral_too_large = bare integral_too_large
-  detail at multiple_imports = named multiple_imports (tokenAt at) 0 0
+  detail at multiple_imports = named multiple_imports (token_at at) 0 0
   detail at (discarded_value ty) = typed (discarded_value ty) ty 0 0 0
   detail at (truncated n ty) = typed (truncated n ty) ty (n % word_limit) (n / word_limit) 0
   detail at (overflow found wanted) = typed (overflow found wanted) found (ty_kind wanted) 0 0
 
   unfoldable pub diag_row : Diag → List ℕ
-  diag_row d = detail_row (tokenAt d.at) (detail d.at d.what) d.statement
+  diag_row d = detail_row (token_at d.at) (detail d.at d.what) d.statement
 
 -- ---- rows of statements (02, E2): "A statement takes one row; each callee, argument and operand below its outermost expression takes
 -- one more". A row has 11 words: line and column, kind, slot, form, line and column of the expression, type, where its text is (as
@@ -288,9 +288,9 @@ term_high (atom p (slot s t)) = 0
 term_high (called p c f vs) = count vs
 term_high (divided p a b) = 0
 
-module _ (tokenAt : ℕ → Token) where
+module _ (token_at : ℕ → Token) where
   unfoldable pub stmt_row : Row → List ℕ
   stmt_row r =
-      (tokenAt r.at).line ∷ (tokenAt r.at).column ∷ r.kind ∷ r.slot ∷ form_of r.term ∷ (tokenAt (term_at r.term)).line
-      ∷ (tokenAt (term_at r.term)).column ∷ ty_kind (term_type r.term) ∷ term_text r.term ∷ term_low r.term ∷ term_high r.term
+      (token_at r.at).line ∷ (token_at r.at).column ∷ r.kind ∷ r.slot ∷ form_of r.term ∷ (token_at (term_at r.term)).line
+      ∷ (token_at (term_at r.term)).column ∷ ty_kind (term_type r.term) ∷ term_text r.term ∷ term_low r.term ∷ term_high r.term
       ∷ []

@@ -107,9 +107,9 @@ parsed_as s room t (no n k at) =
 
 -- "parse 1 to 7": where lexing refuses, that; "6 only when neither 5 nor 7 holds"
 unfoldable pub parse_answer : List ℕ → ℕ → ℕ → Parsed
-parse_answer s tokenRoom nodeRoom =
-    let l = lex_answer s tokenRoom in
-    if' (eqb l.verdict.number 0) (parsed_as s nodeRoom l.count (program (contents (tokens s)))) (parsed l.verdict 0 0)
+parse_answer s token_room node_room =
+    let l = lex_answer s token_room in
+    if' (eqb l.verdict.number 0) (parsed_as s node_room l.count (program (contents (tokens s)))) (parsed l.verdict 0 0)
 
 abbrev pub parsed_nodes : Out (List Stmt) → List Node
 parsed_nodes (ok ss at x) = nodes ss
@@ -142,8 +142,8 @@ canonised_within room t n =
 
 -- "canonicalise 1 to 4 and 10": where lexing refuses, that
 unfoldable pub canon_answer : List ℕ → ℕ → ℕ → Canonised
-canon_answer s tokenRoom room =
-    let l = lex_answer s tokenRoom in
+canon_answer s token_room room =
+    let l = lex_answer s token_room in
     if' (eqb l.verdict.number 0) (canonised_within room l.count (length (text s))) (canonised l.verdict 0 0)
 
 -- the token table of t words and the text of n bytes as canonicalise leaves them
@@ -215,9 +215,9 @@ judged_within s room t n (judged ds hs ls) = checked_within room t n ds hs (sum 
 -- "check 1 to 9 and 11": where parsing refuses, that. Judging goes by statements in order and stops at the first 8 or 9 that it meets:
 -- "between 8 and 9 the earlier token decides" (02, E2)
 unfoldable pub check_answer : List ℕ → ℕ → ℕ → ℕ → Checked
-check_answer s tokenRoom nodeRoom stmtRoom =
-    let p = parse_answer s tokenRoom nodeRoom in
-    if' (eqb p.verdict.number 0) (judged_within s stmtRoom p.tokens p.nodes (checked s)) (refused_check p.verdict)
+check_answer s token_room node_room stmt_room =
+    let p = parse_answer s token_room node_room in
+    if' (eqb p.verdict.number 0) (judged_within s stmt_room p.tokens p.nodes (checked s)) (refused_check p.verdict)
 
 -- the token with an index; past the end `Eof`
 abbrev pub token_of : List ℕ → ℕ → Token

@@ -322,7 +322,7 @@ node_row n = n.kind ∷ n.tok ∷ n.first ∷ n.second ∷ n.third ∷ []
 
 -- ---- the claims
 
--- what the grammar repeats, each with as many turns as it may need; `slashesAt` has one for each step that is left
+-- what the grammar repeats, each with as many turns as it may need; `slashes_at` has one for each step that is left
 module _ (ts : List Content) where
   abbrev pub names : ℕ → ℕ → ℕ → Out ℕ
   names n at s = names_from ts (suc (length ts)) n at s
@@ -337,7 +337,7 @@ module _ (ts : List Content) where
   stmts ss at = stmts_from ts (suc (length ts)) ss at
 
 -- the equations that a reader expects of each production, from any token on, with no bound on the turns. The others
--- (`address`, `named'`, `primary`, `links`, `chainOf`, `argOf`, `stmtAt`) are their own equations.
+-- (`address`, `named'`, `primary`, `links`, `chain_of`, `arg_of`, `stmt_at`) are their own equations.
 abbrev pub NamesUnfold : Type 0
 NamesUnfold =
     (ts : List Content) (n at s : ℕ)

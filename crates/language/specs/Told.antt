@@ -32,8 +32,8 @@ BodiesCounted =
 
 -- the first n tokens stand at different places
 abbrev pub Apart : (ℕ → Token) → ℕ → Type 0
-Apart tokenAt n =
-    (i j : ℕ) → i < n → j < n → (tokenAt i).line ≡ (tokenAt j).line → (tokenAt i).column ≡ (tokenAt j).column → i ≡ j
+Apart token_at n =
+    (i j : ℕ) → i < n → j < n → (token_at i).line ≡ (token_at j).line → (token_at i).column ≡ (token_at j).column → i ≡ j
 
 -- those of a source do
 abbrev pub TokensApart : Type 0
@@ -91,8 +91,8 @@ RealWhat n (overflow t u) = RealTy t × PlainTy u
 
 abbrev pub FindingsDetermine : Type 0
 FindingsDetermine =
-    (tokenAt : ℕ → Token) (n : ℕ) → Apart tokenAt n → (d e : Diag) → d.at < n → e.at < n → RealWhat n d.what → RealWhat n e.what
-    → diag_row tokenAt d ≡ diag_row tokenAt e → d ≡ e
+    (token_at : ℕ → Token) (n : ℕ) → Apart token_at n → (d e : Diag) → d.at < n → e.at < n → RealWhat n d.what → RealWhat n e.what
+    → diag_row token_at d ≡ diag_row token_at e → d ≡ e
 
 -- an expression stands at the first n tokens, and so do its parts; a slot holds no function
 abbrev pub RealAtom : Atom → Type 0
@@ -116,8 +116,8 @@ RealHeld n (h ∷ hs) = (h.at < n) × RealTerm n h.term × RealHeld n hs
 -- the rows determine the statements
 abbrev pub StatementsDetermine : Type 0
 StatementsDetermine =
-    (tokenAt : ℕ → Token) (n : ℕ) → Apart tokenAt n → (hs gs : List Held) → RealHeld n hs → RealHeld n gs
-    → map (stmt_row tokenAt) (rows_of hs) ≡ map (stmt_row tokenAt) (rows_of gs) → hs ≡ gs
+    (token_at : ℕ → Token) (n : ℕ) → Apart token_at n → (hs gs : List Held) → RealHeld n hs → RealHeld n gs
+    → map (stmt_row token_at) (rows_of hs) ≡ map (stmt_row token_at) (rows_of gs) → hs ≡ gs
 
 -- what is found and held in a source is so
 abbrev pub CheckedReal : Type 0

@@ -5,7 +5,7 @@ use Rattle.language.specs.Lexemes as language
 use Rattle.language.specs.Lexemes.{unexpected_char, unterminated_string, int_out_of_range, int_leading_zero, int_invalid_suffix, bad_ipv4_literal, trivia, str, tok, error}
 use Rattle.rows.specs.Tokens.{tok_as, tok_number, zeros, tok_value}
 use Rattle.lexemes.specs.declared.LexErrorKind.{LexErrorKind}
-use Rattle.lexemes.specs.declared.LexErrorKind.TheVariants as error-is
+use Rattle.lexemes.specs.declared.LexErrorKind.TheVariants as error_is
 use Rattle.lexemes.specs.declared.LexemeKind.{LexemeKind}
 use Rattle.lexemes.specs.declared.LexemeKind.TheVariants as kind_is
 use Rattle.lexemes.specs.declared.Lexeme.{Lexeme}
@@ -13,12 +13,12 @@ use Rattle.lexemes.specs.declared.Lexeme.{Lexeme}
 -- ---- values
 
 abbrev pub error_as : language.LexErrorKind → LexErrorKind
-error_as (unexpected_char c) = error-is.UnexpectedChar c
-error_as unterminated_string = error-is.UnterminatedString
-error_as int_out_of_range = error-is.IntOutOfRange
-error_as int_leading_zero = error-is.IntLeadingZero
-error_as int_invalid_suffix = error-is.IntInvalidSuffix
-error_as bad_ipv4_literal = error-is.IPv4Literal
+error_as (unexpected_char c) = error_is.UnexpectedChar c
+error_as unterminated_string = error_is.UnterminatedString
+error_as int_out_of_range = error_is.IntOutOfRange
+error_as int_leading_zero = error_is.IntLeadingZero
+error_as int_invalid_suffix = error_is.IntInvalidSuffix
+error_as bad_ipv4_literal = error_is.IPv4Literal
 
 abbrev pub kind_as : language.Kind → LexemeKind
 kind_as trivia = kind_is.Trivia
@@ -33,20 +33,20 @@ lexeme_as at l = record { start = at; end = at + l.size; kind = kind_as l.kind }
 -- ---- rows: the code's kinds as numbers
 
 abbrev pub error_number : LexErrorKind → ℕ
-error_number (error-is.UnexpectedChar c) = 1
-error_number error-is.UnterminatedString = 2
-error_number error-is.IntOutOfRange = 3
-error_number error-is.IntLeadingZero = 4
-error_number error-is.IntInvalidSuffix = 5
-error_number error-is.IPv4Literal = 6
+error_number (error_is.UnexpectedChar c) = 1
+error_number error_is.UnterminatedString = 2
+error_number error_is.IntOutOfRange = 3
+error_number error_is.IntLeadingZero = 4
+error_number error_is.IntInvalidSuffix = 5
+error_number error_is.IPv4Literal = 6
 
 abbrev pub error_char : LexErrorKind → ℕ
-error_char (error-is.UnexpectedChar c) = c
-error_char error-is.UnterminatedString = 0
-error_char error-is.IntOutOfRange = 0
-error_char error-is.IntLeadingZero = 0
-error_char error-is.IntInvalidSuffix = 0
-error_char error-is.IPv4Literal = 0
+error_char (error_is.UnexpectedChar c) = c
+error_char error_is.UnterminatedString = 0
+error_char error_is.IntOutOfRange = 0
+error_char error_is.IntLeadingZero = 0
+error_char error_is.IntInvalidSuffix = 0
+error_char error_is.IPv4Literal = 0
 
 abbrev pub class_number : LexemeKind → ℕ
 class_number kind_is.Trivia = 1

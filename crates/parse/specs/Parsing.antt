@@ -129,7 +129,7 @@ StmtOf r t ns (no n k at) = r ≡ Refused n k at
 pub record MetStmt (r : Parsed) (t : List ℕ) (ns : List Node) (o : Out Stmt) : Type 0 where
   pub met : StmtOf r t ns o
 
--- an expression and its `;`, which `stmtAt` has no name for
+-- an expression and its `;`, which `stmt_at` has no name for
 abbrev pub expr_stmt : List Content → ℕ → Out Stmt
 expr_stmt ts at = and_then (expr_at ts most_lists at) (λ e next x. ended ts (expr' e) next)
 

@@ -10,7 +10,7 @@ use denote.Enum.Declared.{tag_of}
 use Rattle.language.specs.Lexemes.{all}
 use Rattle.language.proofs.Tests.{of_each}
 use Rattle.rows.specs.declared.token.Tok.{Tok}
-use Rattle.rows.specs.declared.token.Tok.TheVariants as tok-is
+use Rattle.rows.specs.declared.token.Tok.TheVariants as tok_is
 use Rattle.rows.specs.Tokens.{tok_number, tok_value, zeros}
 use Rattle.rows.specs.contracts.token.Tok as tok
 
@@ -23,42 +23,42 @@ abbrev plain : List ℕ
 plain = 0 ∷ 1 ∷ 2 ∷ 3 ∷ 4 ∷ 5 ∷ 6 ∷ 7 ∷ 8 ∷ 9 ∷ 10 ∷ 11 ∷ 12 ∷ []
 
 pub other_token : (t : Tok) → OneOf plain (tag_of tok.the_type t) → zeros ≡ tok_value t
-other_token tok-is.Eof h = refl
-other_token tok-is.LParen h = refl
-other_token tok-is.RParen h = refl
-other_token tok-is.Dot h = refl
-other_token tok-is.DoubleColon h = refl
-other_token tok-is.Colon h = refl
-other_token tok-is.SemiColon h = refl
-other_token tok-is.Equals h = refl
-other_token tok-is.Comma h = refl
-other_token tok-is.Slash h = refl
-other_token tok-is.ImportKeyword h = refl
-other_token tok-is.LetKeyword h = refl
-other_token tok-is.Identifier h = refl
-other_token (tok-is.BooleanLiteral b) h = absurd (strange plain 13 refl h)
-other_token (tok-is.IPv4Literal n) h = absurd (strange plain 14 refl h)
-other_token (tok-is.StringLiteral n) h = absurd (strange plain 15 refl h)
-other_token (tok-is.HexLiteral w) h = absurd (strange plain 16 refl h)
-other_token (tok-is.DecLiteral w) h = absurd (strange plain 17 refl h)
+other_token tok_is.Eof h = refl
+other_token tok_is.LParen h = refl
+other_token tok_is.RParen h = refl
+other_token tok_is.Dot h = refl
+other_token tok_is.DoubleColon h = refl
+other_token tok_is.Colon h = refl
+other_token tok_is.SemiColon h = refl
+other_token tok_is.Equals h = refl
+other_token tok_is.Comma h = refl
+other_token tok_is.Slash h = refl
+other_token tok_is.ImportKeyword h = refl
+other_token tok_is.LetKeyword h = refl
+other_token tok_is.Identifier h = refl
+other_token (tok_is.BooleanLiteral b) h = absurd (strange plain 13 refl h)
+other_token (tok_is.IPv4Literal n) h = absurd (strange plain 14 refl h)
+other_token (tok_is.StringLiteral n) h = absurd (strange plain 15 refl h)
+other_token (tok_is.HexLiteral w) h = absurd (strange plain 16 refl h)
+other_token (tok_is.DecLiteral w) h = absurd (strange plain 17 refl h)
 
 -- tokens are numbered in the order of their tags
 pub number_tag : (t : Tok) → tok_number t ≡ suc (tag_of tok.the_type t)
-number_tag tok-is.Eof = refl
-number_tag tok-is.LParen = refl
-number_tag tok-is.RParen = refl
-number_tag tok-is.Dot = refl
-number_tag tok-is.DoubleColon = refl
-number_tag tok-is.Colon = refl
-number_tag tok-is.SemiColon = refl
-number_tag tok-is.Equals = refl
-number_tag tok-is.Comma = refl
-number_tag tok-is.Slash = refl
-number_tag tok-is.ImportKeyword = refl
-number_tag tok-is.LetKeyword = refl
-number_tag tok-is.Identifier = refl
-number_tag (tok-is.BooleanLiteral b) = refl
-number_tag (tok-is.IPv4Literal n) = refl
-number_tag (tok-is.StringLiteral n) = refl
-number_tag (tok-is.HexLiteral w) = refl
-number_tag (tok-is.DecLiteral w) = refl
+number_tag tok_is.Eof = refl
+number_tag tok_is.LParen = refl
+number_tag tok_is.RParen = refl
+number_tag tok_is.Dot = refl
+number_tag tok_is.DoubleColon = refl
+number_tag tok_is.Colon = refl
+number_tag tok_is.SemiColon = refl
+number_tag tok_is.Equals = refl
+number_tag tok_is.Comma = refl
+number_tag tok_is.Slash = refl
+number_tag tok_is.ImportKeyword = refl
+number_tag tok_is.LetKeyword = refl
+number_tag tok_is.Identifier = refl
+number_tag (tok_is.BooleanLiteral b) = refl
+number_tag (tok_is.IPv4Literal n) = refl
+number_tag (tok_is.StringLiteral n) = refl
+number_tag (tok_is.HexLiteral w) = refl
+number_tag (tok_is.DecLiteral w) = refl

@@ -9,94 +9,94 @@ use Rattle.language.specs.Lexemes.{l_paren, r_paren, dot, double_colon, colon, s
 use Rattle.language.specs.Tables.{bit, content_kind, content_low, content_high, token_row, token_width}
 use Rattle.language.specs.Tokens as tokens
 use Rattle.rows.specs.declared.token.Tok.{Tok}
-use Rattle.rows.specs.declared.token.Tok.TheVariants as tok-is
+use Rattle.rows.specs.declared.token.Tok.TheVariants as tok_is
 use Rattle.rows.specs.declared.token.Token.{Token}
 
 -- ---- tokens
 
 abbrev pub tok_as : language.Tok → Tok
-tok_as l_paren = tok-is.LParen
-tok_as r_paren = tok-is.RParen
-tok_as dot = tok-is.Dot
-tok_as double_colon = tok-is.DoubleColon
-tok_as colon = tok-is.Colon
-tok_as semi_colon = tok-is.SemiColon
-tok_as equals = tok-is.Equals
-tok_as comma = tok-is.Comma
-tok_as slash = tok-is.Slash
-tok_as import_keyword = tok-is.ImportKeyword
-tok_as let_keyword = tok-is.LetKeyword
-tok_as identifier = tok-is.Identifier
-tok_as (boolean_literal b) = tok-is.BooleanLiteral b
-tok_as (ipv4_literal n) = tok-is.IPv4Literal n
-tok_as (hex_literal n) = tok-is.HexLiteral (wide_of n)
-tok_as (dec_literal n) = tok-is.DecLiteral (wide_of n)
+tok_as l_paren = tok_is.LParen
+tok_as r_paren = tok_is.RParen
+tok_as dot = tok_is.Dot
+tok_as double_colon = tok_is.DoubleColon
+tok_as colon = tok_is.Colon
+tok_as semi_colon = tok_is.SemiColon
+tok_as equals = tok_is.Equals
+tok_as comma = tok_is.Comma
+tok_as slash = tok_is.Slash
+tok_as import_keyword = tok_is.ImportKeyword
+tok_as let_keyword = tok_is.LetKeyword
+tok_as identifier = tok_is.Identifier
+tok_as (boolean_literal b) = tok_is.BooleanLiteral b
+tok_as (ipv4_literal n) = tok_is.IPv4Literal n
+tok_as (hex_literal n) = tok_is.HexLiteral (wide_of n)
+tok_as (dec_literal n) = tok_is.DecLiteral (wide_of n)
 
 abbrev pub tok_number : Tok → ℕ
-tok_number tok-is.Eof = 1
-tok_number tok-is.LParen = 2
-tok_number tok-is.RParen = 3
-tok_number tok-is.Dot = 4
-tok_number tok-is.DoubleColon = 5
-tok_number tok-is.Colon = 6
-tok_number tok-is.SemiColon = 7
-tok_number tok-is.Equals = 8
-tok_number tok-is.Comma = 9
-tok_number tok-is.Slash = 10
-tok_number tok-is.ImportKeyword = 11
-tok_number tok-is.LetKeyword = 12
-tok_number tok-is.Identifier = 13
-tok_number (tok-is.BooleanLiteral b) = 14
-tok_number (tok-is.IPv4Literal n) = 15
-tok_number (tok-is.StringLiteral n) = 16
-tok_number (tok-is.HexLiteral w) = 17
-tok_number (tok-is.DecLiteral w) = 18
+tok_number tok_is.Eof = 1
+tok_number tok_is.LParen = 2
+tok_number tok_is.RParen = 3
+tok_number tok_is.Dot = 4
+tok_number tok_is.DoubleColon = 5
+tok_number tok_is.Colon = 6
+tok_number tok_is.SemiColon = 7
+tok_number tok_is.Equals = 8
+tok_number tok_is.Comma = 9
+tok_number tok_is.Slash = 10
+tok_number tok_is.ImportKeyword = 11
+tok_number tok_is.LetKeyword = 12
+tok_number tok_is.Identifier = 13
+tok_number (tok_is.BooleanLiteral b) = 14
+tok_number (tok_is.IPv4Literal n) = 15
+tok_number (tok_is.StringLiteral n) = 16
+tok_number (tok_is.HexLiteral w) = 17
+tok_number (tok_is.DecLiteral w) = 18
 
 abbrev pub zeros : Wide
 zeros = record { hi = 0; lo = 0 }
 
 abbrev pub tok_value : Tok → Wide
-tok_value tok-is.Eof = zeros
-tok_value tok-is.LParen = zeros
-tok_value tok-is.RParen = zeros
-tok_value tok-is.Dot = zeros
-tok_value tok-is.DoubleColon = zeros
-tok_value tok-is.Colon = zeros
-tok_value tok-is.SemiColon = zeros
-tok_value tok-is.Equals = zeros
-tok_value tok-is.Comma = zeros
-tok_value tok-is.Slash = zeros
-tok_value tok-is.ImportKeyword = zeros
-tok_value tok-is.LetKeyword = zeros
-tok_value tok-is.Identifier = zeros
-tok_value (tok-is.BooleanLiteral b) = record { hi = 0; lo = bit b }
-tok_value (tok-is.IPv4Literal n) = record { hi = 0; lo = n }
-tok_value (tok-is.StringLiteral n) = record { hi = 0; lo = n }
-tok_value (tok-is.HexLiteral w) = w
-tok_value (tok-is.DecLiteral w) = w
+tok_value tok_is.Eof = zeros
+tok_value tok_is.LParen = zeros
+tok_value tok_is.RParen = zeros
+tok_value tok_is.Dot = zeros
+tok_value tok_is.DoubleColon = zeros
+tok_value tok_is.Colon = zeros
+tok_value tok_is.SemiColon = zeros
+tok_value tok_is.Equals = zeros
+tok_value tok_is.Comma = zeros
+tok_value tok_is.Slash = zeros
+tok_value tok_is.ImportKeyword = zeros
+tok_value tok_is.LetKeyword = zeros
+tok_value tok_is.Identifier = zeros
+tok_value (tok_is.BooleanLiteral b) = record { hi = 0; lo = bit b }
+tok_value (tok_is.IPv4Literal n) = record { hi = 0; lo = n }
+tok_value (tok_is.StringLiteral n) = record { hi = 0; lo = n }
+tok_value (tok_is.HexLiteral w) = w
+tok_value (tok_is.DecLiteral w) = w
 
 -- ---- rows
 
 -- the token with a kind and the two words of its value; a kind that no token has is `Eof`'s
 unfoldable pub tok_of : ℕ → ℕ → ℕ → Tok
 tok_of kind lo hi =
-    if' (eqb kind 2) tok-is.LParen
-    (if' (eqb kind 3) tok-is.RParen
-    (if' (eqb kind 4) tok-is.Dot
-    (if' (eqb kind 5) tok-is.DoubleColon
-    (if' (eqb kind 6) tok-is.Colon
-    (if' (eqb kind 7) tok-is.SemiColon
-    (if' (eqb kind 8) tok-is.Equals
-    (if' (eqb kind 9) tok-is.Comma
-    (if' (eqb kind 10) tok-is.Slash
-    (if' (eqb kind 11) tok-is.ImportKeyword
-    (if' (eqb kind 12) tok-is.LetKeyword
-    (if' (eqb kind 13) tok-is.Identifier
-    (if' (eqb kind 14) (tok-is.BooleanLiteral (not (eqb lo 0)))
-    (if' (eqb kind 15) (tok-is.IPv4Literal (lo % 4294967296))
-    (if' (eqb kind 16) (tok-is.StringLiteral lo)
-    (if' (eqb kind 17) (tok-is.HexLiteral (record { hi = hi; lo = lo }))
-    (if' (eqb kind 18) (tok-is.DecLiteral (record { hi = hi; lo = lo })) tok-is.Eof))))))))))))))))
+    if' (eqb kind 2) tok_is.LParen
+    (if' (eqb kind 3) tok_is.RParen
+    (if' (eqb kind 4) tok_is.Dot
+    (if' (eqb kind 5) tok_is.DoubleColon
+    (if' (eqb kind 6) tok_is.Colon
+    (if' (eqb kind 7) tok_is.SemiColon
+    (if' (eqb kind 8) tok_is.Equals
+    (if' (eqb kind 9) tok_is.Comma
+    (if' (eqb kind 10) tok_is.Slash
+    (if' (eqb kind 11) tok_is.ImportKeyword
+    (if' (eqb kind 12) tok_is.LetKeyword
+    (if' (eqb kind 13) tok_is.Identifier
+    (if' (eqb kind 14) (tok_is.BooleanLiteral (not (eqb lo 0)))
+    (if' (eqb kind 15) (tok_is.IPv4Literal (lo % 4294967296))
+    (if' (eqb kind 16) (tok_is.StringLiteral lo)
+    (if' (eqb kind 17) (tok_is.HexLiteral (record { hi = hi; lo = lo }))
+    (if' (eqb kind 18) (tok_is.DecLiteral (record { hi = hi; lo = lo })) tok_is.Eof))))))))))))))))
 
 -- the kind of the token in a row: `Eof` past the last whole row
 unfoldable pub kind_at : List ℕ → ℕ → ℕ
@@ -107,7 +107,7 @@ unfoldable pub tok_at : List ℕ → ℕ → Tok
 tok_at toks at =
     if' (leb (token_width * at + token_width) (length toks))
     (tok_of (get_or toks (token_width * at) 0) (get_or toks (token_width * at + 5) 0) (get_or toks (token_width * at + 6) 0))
-    tok-is.Eof
+    tok_is.Eof
 
 -- the row of a token
 abbrev pub token_as : tokens.Token → Token

@@ -16,7 +16,7 @@ use Rattle.language.specs.Lexemes as language
 use Rattle.language.specs.Lexemes.{is_digit, is_word, run, octet, quad, not_quad, joined, further, quad_from, quad_lexeme, integer, number, lexeme_of, error, bad_ipv4_literal}
 use Rattle.language.proofs.Tests.{never}
 use Rattle.rows.specs.declared.token.Tok.TheVariants.{IPv4Literal}
-use Rattle.lexemes.specs.declared.LexErrorKind.TheVariants as error-is
+use Rattle.lexemes.specs.declared.LexErrorKind.TheVariants as error_is
 use Rattle.lexemes.specs.declared.LexemeKind.{LexemeKind}
 use Rattle.lexemes.specs.declared.LexemeKind.TheVariants as kind_is
 use Rattle.lexemes.specs.Kinds.{kind_as, lexeme_as}
@@ -114,7 +114,7 @@ module _ (s : List ℕ) (at : ℕ) (r : Quad) (r-said : r ≡ quad_as at (quad_f
           let n : run is_word (drop d s) ≡ 0 = omega arith in
           rw (number_is, good_said here.address a (here.said ∙ g), n, here.end, z)
 
-      pub malformed : (o ≡ Bad) ⊎ (e ≡ d → ⊥) → made at e (kind_is.Error error-is.IPv4Literal) ≡ lexeme_as at (number (drop at s))
+      pub malformed : (o ≡ Bad) ⊎ (e ≡ d → ⊥) → made at e (kind_is.Error error_is.IPv4Literal) ≡ lexeme_as at (number (drop at s))
       unfolding run_end
       malformed h =
           let p : e ≡ at + (here.bytes + run is_word (drop d s)) = omega (arith, here.end) in

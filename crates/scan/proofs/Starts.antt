@@ -22,7 +22,7 @@ use Rattle.rows.specs.declared.token.Tok.{Tok}
 use Rattle.lexemes.specs.declared.Lexeme.{Lexeme}
 use Rattle.lexemes.specs.declared.LexemeKind.{LexemeKind}
 use Rattle.lexemes.specs.declared.LexemeKind.TheVariants as kind_is
-use Rattle.lexemes.specs.declared.LexErrorKind.TheVariants as error-is
+use Rattle.lexemes.specs.declared.LexErrorKind.TheVariants as error_is
 use Rattle.scan.specs.declared.Mark.TheVariants.{Is, Not}
 use Rattle.lexemes.specs.Kinds.{lexeme_as}
 use Rattle.rows.specs.Tokens.{tok_as}
@@ -106,7 +106,7 @@ module _ (line : List ℕ) (at : ℕ) where
       rw (m, eq-eqb _ _ k)
 
   pub string_open : (e : ℕ) → e ≡ run_end is_body line (at + 1) → (get_or line e 0 ≡ 34 → ⊥)
-      → made at e (kind_is.Error error-is.UnterminatedString) ≡ lexeme_as at (string (drop (at + 1) line))
+      → made at e (kind_is.Error error_is.UnterminatedString) ≡ lexeme_as at (string (drop (at + 1) line))
   unfolding run_end string
   string_open e h q =
       let n = run is_body (drop (at + 1) line) in
@@ -197,19 +197,19 @@ module _ (line : List ℕ) (at : ℕ) where
     lexeme_ascii c next r k l = let x = read c next r in rw (here line at h, x.1, k, lt-ltb _ _ l)
 
     pub lexeme_other : (c next : ℕ) → Read c next ≡ placed at (char_at (drop at line)) → is_blank c ≡ false → 128 ≤ c
-        → made at next (kind_is.Error (error-is.UnexpectedChar c)) ≡ lexeme_as at (lexeme (drop at line))
+        → made at next (kind_is.Error (error_is.UnexpectedChar c)) ≡ lexeme_as at (lexeme (drop at line))
     unfolding lexeme
     lexeme_other c next r k l =
         let x = read c next r in
         let z : lexeme (drop at line) ≡ lexeme_of (error (unexpected_char c)) x.0 = rw (here line at h, x.1, k, le-ltb _ _ l) in
-        ap (λ (e : ℕ). made at e (kind_is.Error (error-is.UnexpectedChar c))) x.2 ∙ ap (lexeme_as at) (sym z)
+        ap (λ (e : ℕ). made at e (kind_is.Error (error_is.UnexpectedChar c))) x.2 ∙ ap (lexeme_as at) (sym z)
 
     pub lexeme_none : Nothing ≡ placed at (char_at (drop at line))
-        → made at (at + 1) (kind_is.Error (error-is.UnexpectedChar (get_or line at 0))) ≡ lexeme_as at (lexeme (drop at line))
+        → made at (at + 1) (kind_is.Error (error_is.UnexpectedChar (get_or line at 0))) ≡ lexeme_as at (lexeme (drop at line))
     unfolding lexeme
     lexeme_none r = go (char_at (drop at line)) refl r
       where
-        go : (x : Char) → char_at (drop at line) ≡ x → Nothing ≡ placed at x → made at (at + 1) (kind_is.Error (error-is.UnexpectedChar (get_or line at 0))) ≡ lexeme_as at (lexeme (drop at line))
+        go : (x : Char) → char_at (drop at line) ≡ x → Nothing ≡ placed at x → made at (at + 1) (kind_is.Error (error_is.UnexpectedChar (get_or line at 0))) ≡ lexeme_as at (lexeme (drop at line))
         go (char n size) e k = never (cc)
         go no_char e k = let z : char_at (get_or line at 0 ∷ drop (at + 1) line) ≡ no_char = rw (← here line at h) e in rw (here line at h, z)
 

@@ -10,7 +10,7 @@ use Rattle.lexemes.specs.Kinds.{lexeme_as}
 use Rattle.rows.specs.Tokens.{tok_as}
 use Rattle.language.specs.Tokens.{between}
 use Rattle.scan.specs.declared.Mark.{Mark}
-use Rattle.scan.specs.declared.Mark.TheVariants as mark-is
+use Rattle.scan.specs.declared.Mark.TheVariants as mark_is
 use Rattle.scan.specs.declared.Step.{Step}
 use Rattle.scan.specs.declared.Step.TheVariants.{Found, Done}
 use Rattle.rows.specs.Rows.{verdict_as}
@@ -20,8 +20,8 @@ abbrev pub word_at : List ℕ → ℕ → ℕ → Tok
 word_at s at e = tok_as (word (between s at e))
 
 abbrev pub mark_as : Option language.Tok → Mark
-mark_as (some t) = mark-is.Is (tok_as t)
-mark_as none = mark-is.Not
+mark_as (some t) = mark_is.Is (tok_as t)
+mark_as none = mark_is.Not
 
 -- ---- the scanner
 

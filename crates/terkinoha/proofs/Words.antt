@@ -19,20 +19,20 @@ use mir.Val.{Val, vunit, vbool, vint, vfloat, vptr, vcode, vstruct, Vals, vnil, 
 use Rattle.language.specs.Numbers.{Scanned, Lexed, Parsed, Canonised, Checked}
 use Rattle.scan.specs.Scanning.{scanned_as}
 use Rattle.scan.specs.Entry.{ScanLine}
-use Rattle.scan.proofs.Scanned.TheLaws as of-scan
+use Rattle.scan.proofs.Scanned.TheLaws as of_scan
 use Rattle.lex.specs.Lexing.{lexed_as}
 use Rattle.lex.specs.Entry.{LexSource}
-use Rattle.lex.proofs.Lexed.TheLaws as of-lex
+use Rattle.lex.proofs.Lexed.TheLaws as of_lex
 use Rattle.parse.specs.Entry.{parsed_as, ParseSource}
-use Rattle.parse.proofs.ParseAnswer.TheLaws as of-parse
+use Rattle.parse.proofs.ParseAnswer.TheLaws as of_parse
 use Rattle.canon.specs.Entry.{canonised_as, CanonSource}
-use Rattle.canon.proofs.Canonised.TheLaws as of-canon
+use Rattle.canon.proofs.Canonised.TheLaws as of_canon
 use Rattle.checker.specs.Entry.{checked_as, CheckSource}
-use Rattle.checker.proofs.CheckAnswer.TheLaws as of-check
+use Rattle.checker.proofs.CheckAnswer.TheLaws as of_check
 use Rattle.terkinoha.specs.declared.Body.{Body}
 use Rattle.terkinoha.specs.Bodies.{NextBody, BodyAt}
 use Rattle.terkinoha.specs.Words.{scanned_words, lexed_words, parsed_words, canonised_words, checked_words, body_words}
-use Rattle.terkinoha.proofs.Body.TheLaws as of-body
+use Rattle.terkinoha.proofs.Body.TheLaws as of_body
 use Rattle.terkinoha.specs.contracts.terkinoha_scan_words as scan
 use Rattle.terkinoha.specs.contracts.terkinoha_lex_words as lex
 use Rattle.terkinoha.specs.contracts.terkinoha_parse_words as parse
@@ -60,12 +60,12 @@ mutual
 
 -- each answer's struct has the words of specs/Words.antt, in that order
 pub record AnswersLie : Type 0 where
-  pub scanned : (a : Scanned) → words_in (of-scan.lowered (scanned_as a)) ≡ scanned_words a
-  pub lexed : (a : Lexed) → words_in (of-lex.lowered (lexed_as a)) ≡ lexed_words a
-  pub parsed : (a : Parsed) → words_in (of-parse.lowered (parsed_as a)) ≡ parsed_words a
-  pub canonised : (a : Canonised) → words_in (of-canon.lowered (canonised_as a)) ≡ canonised_words a
-  pub checked : (a : Checked) → words_in (of-check.lowered (checked_as a)) ≡ checked_words a
-  pub body : (b : Body) → words_in (of-body.lowered b) ≡ body_words b
+  pub scanned : (a : Scanned) → words_in (of_scan.lowered (scanned_as a)) ≡ scanned_words a
+  pub lexed : (a : Lexed) → words_in (of_lex.lowered (lexed_as a)) ≡ lexed_words a
+  pub parsed : (a : Parsed) → words_in (of_parse.lowered (parsed_as a)) ≡ parsed_words a
+  pub canonised : (a : Canonised) → words_in (of_canon.lowered (canonised_as a)) ≡ canonised_words a
+  pub checked : (a : Checked) → words_in (of_check.lowered (checked_as a)) ≡ checked_words a
+  pub body : (b : Body) → words_in (of_body.lowered b) ≡ body_words b
 
 pub answers_lie : AnswersLie
 unfolding words_in all_words

@@ -1,4 +1,4 @@
--- What `leadOf` says of an octet by the rows of the language's table, as the code has it, and that it is small.
+-- What `lead_of` says of an octet by the rows of the language's table, as the code has it, and that it is small.
 use mathlib.Core.Path.{◌≡◌, refl}
 use mathlib.Core.Bool.{true}
 use Prim.Native.Nat.{ℕ, ◌+◌, ◌-◌, ◌≤◌, ◌<◌}
