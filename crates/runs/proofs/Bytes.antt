@@ -1,6 +1,6 @@
 -- Facts on one number: a byte or a character.
---     blank-one, blank-in   a blank character by its number, and by its range's place in the list
---     not-blank             a number that no arm has
+--     blank_one, blank_in   a blank character by its number, and by its range's place in the list
+--     not_blank_lem         a number that no arm has
 --     refused, passed       what `if !f(b)` says of what f tests
 use Prim.Native.Nat.{ℕ, zero, suc, ◌+◌, ◌-◌, ◌≤◌, ◌<◌}
 use mathlib.Core.Path.{◌≡◌, refl, sym, ap, ◌∙◌}

@@ -1,6 +1,6 @@
 -- A part of a line, compared with a key byte by byte.
 --     Matched    the first i bytes are the same
---     key-..     what a turn of the loop says: it begins, one byte more, another byte, all of them; key-size another length
+--     key_..     what a turn of the loop says: it begins, one byte more, another byte, all of them; key_size another length
 use Prim.Native.Nat.{ℕ, ◌+◌, ◌-◌, ◌≤◌, ◌<◌}
 use mathlib.Core.Path.{◌≡◌, refl, sym, ◌∙◌}
 use mathlib.Core.Bool.{true, false}

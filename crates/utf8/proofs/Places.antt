@@ -1,8 +1,8 @@
 -- Where no character starts first, for a loop that goes by places.
---     bad-ascii  an ASCII byte is passed
---     bad-char   a character is passed: it ends within the source
---     bad-here   no character starts
---     bad-end    the source is at its end
+--     bad_ascii  an ASCII byte is passed
+--     bad_char   a character is passed: it ends within the source
+--     bad_here   no character starts
+--     bad_end    the source is at its end
 --     pass-..    within a run of ASCII: a byte, and a block of bytes
 use mathlib.Core.Path.{◌≡◌, refl, sym, ap, ◌∙◌}
 use mathlib.Core.Bool.{Bool, true, false, not, ◌&&◌}
