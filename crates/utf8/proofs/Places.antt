@@ -3,7 +3,7 @@
 --     bad_char   a character is passed: it ends within the source
 --     bad_here   no character starts
 --     bad_end    the source is at its end
---     pass-..    within a run of ASCII: a byte, and a block of bytes
+--     pass_..    within a run of ASCII: a byte, and a block of bytes
 use mathlib.Core.Path.{◌≡◌, refl, sym, ap, ◌∙◌}
 use mathlib.Core.Bool.{Bool, true, false, not, ◌&&◌}
 use mathlib.Core.List.{List, [], ◌∷◌}
