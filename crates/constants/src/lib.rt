@@ -158,12 +158,10 @@ pub fn lookup(
     requires { (rows.now ≡ table_rows) × (text.now ≡ table_text) }
     ensures { (result ≡ or_zero (lookup inside name.now)) × (result ≤ entry_count) }
 {
-    let mut i: usize = 0;
-    while i < Constants::ENTRIES {
+    for i in 0..Constants::ENTRIES {
         if is_hit(rows, text, i, inside, name) {
             return i as u64 + 1;
         }
-        i += 1;
     }
     0
 }
@@ -204,12 +202,10 @@ pub fn function_named(rows: &[u64; Constants::WORDS], start: u64, end: u64) -> u
     requires { rows.now ≡ table_rows }
     ensures { result ≡ function_named start end }
 {
-    let mut k: u64 = 1;
-    while k <= Constants::LAST {
+    for k in 1..=Constants::LAST {
         if is_function(rows, k) & has_span(rows, k, start, end) {
             return k;
         }
-        k += 1;
     }
     0
 }

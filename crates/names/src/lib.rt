@@ -6,7 +6,7 @@
 // and then seven words for each name.
 ghost use Rattle.std.specs.Prelude.{◌≡◌, false, ℕ, ◌+◌, ◌*◌, ◌/◌, ◌<◌, ◌≤◌, length};
 ghost use Rattle.language.specs.Lexemes.{same};
-ghost use Rattle.names.specs.Names.{name_width, key_of, key_at, name_word, name_of, NoneOf, Keyed, Others, names_in, Finds};
+ghost use Rattle.names.specs.Names.{name_width, key_of, key_at, name_word, name_of, NoneOf, stored, Keyed, Others, names_in, Finds};
 
 // A name and what it stands for: where it starts and ends in the source, its token, and a form and three words that say what it
 // stands for. The form is 0 where the name's statement failed, and of an import, whose kind is the number of its module.
@@ -62,10 +62,8 @@ pub fn key_of(name: &[u8]) -> u64
     ensures { result ≡ key_of name.now }
 {
     let mut key: u64 = 0;
-    let mut i = 0;
-    while i < name.len() {
-        key = (key % Entry::BELOW) * Entry::TURN + key / Entry::BELOW + name[i] as u64;
-        i += 1;
+    for b in name {
+        key = (key % Entry::BELOW) * Entry::TURN + key / Entry::BELOW + *b as u64;
     }
     key
 }
@@ -76,6 +74,22 @@ pub fn word(names: &[u64], i: usize, j: usize) -> u64
     ensures { result ≡ name_word names.now i j }
 {
     names[names.len() / Entry::WORDS + Entry::AFTER_KEY * i + j]
+}
+
+// Stores an entry in a row that the table has room for.
+pub fn put(names: &mut [u64], row: usize, e: Entry)
+    requires { row < length names.old / name_width }
+    ensures { names.new ≡ stored (length names.old / name_width) names.old row e }
+{
+    let at = names.len() / Entry::WORDS + Entry::AFTER_KEY * row;
+    names[row] = e.key;
+    names[at + Entry::START] = e.start;
+    names[at + Entry::END] = e.end;
+    names[at + Entry::TOKEN] = e.token;
+    names[at + Entry::FORM] = e.form;
+    names[at + Entry::KIND] = e.kind;
+    names[at + Entry::LOW] = e.lo;
+    names[at + Entry::HIGH] = e.hi;
 }
 
 // Whether entry i has a name. An entry with another key is passed without a look at its bytes.
@@ -92,7 +106,7 @@ fn is_named(source: &[u8], names: &[u64], i: usize, key: u64, name: &[u8]) -> bo
     parts::same(parts::part(source, a, e), name)
 }
 
-// Whether one of eight keys from i on may be the wanted one.
+// Whether one of eight keys from i on may be the wanted one. Eight tests in a row, with no way out between: they are made at once.
 fn any8(names: &[u64], i: usize, key: u64) -> bool
     requires { i + 8 ≤ length names.now }
     ensures { result ≡ false → NoneOf names.now key i (i + 8) }
@@ -102,7 +116,7 @@ fn any8(names: &[u64], i: usize, key: u64) -> bool
             | ((names[i + 6] == key) | (names[i + 7] == key)))
 }
 
-// How many entries are passed by eights: each has another key.
+// How many entries are passed by eights: each has another key. No `for` goes by eights here, as the loop ends where a hit may be.
 fn others(names: &[u64], used: usize, key: u64) -> usize
     requires { used ≤ length names.now / name_width }
     ensures { Others names.now used key result }
@@ -122,15 +136,14 @@ pub fn find(source: &[u8], names: &[u64], used: usize, key: u64, name: &[u8]) ->
     requires { (used ≤ length names.now / name_width) × Keyed source.now names.now used × (key ≡ key_of name.now) }
     ensures { Finds (names_in source.now names.now used 0) name.now result }
 {
-    let mut i = others(names, used, key);
-    while i < used {
+    let start = others(names, used, key);
+    for i in start..used {
         if is_named(source, names, i, key, name) {
             return Found {
                 at: i,
                 compared: i + 1,
             };
         }
-        i += 1;
     }
     Found {
         at: used,

@@ -8,31 +8,12 @@ ghost use Rattle.language.specs.Tokens.{between};
 pub fn part(s: &[u8], a: usize, e: usize) -> &[u8]
     ensures { result.now ≡ between s.now a e }
 {
-    if e < a {
-        return &s[..0];
-    }
-    if s.len() < a {
-        return &s[..0];
-    }
-    if s.len() < e {
-        return &s[a..];
-    }
-    &s[a..e]
+    s.get(a..e.min(s.len())).unwrap_or(&s[..0])
 }
 
 // Whether two texts are the same bytes.
 pub fn same(x: &[u8], y: &[u8]) -> bool
     ensures { result ≡ same x.now y.now }
 {
-    if x.len() != y.len() {
-        return false;
-    }
-    let mut i = 0;
-    while i < x.len() {
-        if x[i] != y[i] {
-            return false;
-        }
-        i += 1;
-    }
-    true
+    x == y
 }

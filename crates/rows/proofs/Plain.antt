@@ -1,8 +1,8 @@
--- Tokens by their tags: one that no arm names carries nothing.
+-- Tokens by their tags.
 use Prim.Native.Nat.{ℕ, suc}
 use mathlib.Core.Path.{◌≡◌, refl, sym, ap, ◌∙◌}
 use mathlib.Core.Bool.{true, not, false≢true}
-use mathlib.Core.List.{List, [], ◌∷◌}
+use mathlib.Core.List.{List}
 use borrow.Author.Tests.{eq-eqb}
 use lib.Dec.{eqb}
 use types.Run.{OneOf}
@@ -11,36 +11,12 @@ use Rattle.language.specs.Lexemes.{all}
 use Rattle.language.proofs.Tests.{of_each}
 use Rattle.rows.specs.declared.token.Tok.{Tok}
 use Rattle.rows.specs.declared.token.Tok.TheVariants as tok_is
-use Rattle.rows.specs.Tokens.{tok_number, tok_value, zeros}
+use Rattle.rows.specs.Tokens.{tok_number}
 use Rattle.rows.specs.contracts.token.Tok as tok
 
 -- x is no key
 pub strange : (ks : List ℕ) (x : ℕ) → all (λ k. not (eqb k x)) ks ≡ true → OneOf ks x → ⊥
 strange ks x a h = false≢true (ap not (sym (eq-eqb x x refl)) ∙ of_each (λ k. not (eqb k x)) ks x a h)
-
--- the tags of the tokens that carry nothing
-abbrev plain : List ℕ
-plain = 0 ∷ 1 ∷ 2 ∷ 3 ∷ 4 ∷ 5 ∷ 6 ∷ 7 ∷ 8 ∷ 9 ∷ 10 ∷ 11 ∷ 12 ∷ []
-
-pub other_token : (t : Tok) → OneOf plain (tag_of tok.the_type t) → zeros ≡ tok_value t
-other_token tok_is.Eof h = refl
-other_token tok_is.LParen h = refl
-other_token tok_is.RParen h = refl
-other_token tok_is.Dot h = refl
-other_token tok_is.DoubleColon h = refl
-other_token tok_is.Colon h = refl
-other_token tok_is.SemiColon h = refl
-other_token tok_is.Equals h = refl
-other_token tok_is.Comma h = refl
-other_token tok_is.Slash h = refl
-other_token tok_is.ImportKeyword h = refl
-other_token tok_is.LetKeyword h = refl
-other_token tok_is.Identifier h = refl
-other_token (tok_is.BooleanLiteral b) h = absurd (strange plain 13 refl h)
-other_token (tok_is.IPv4Literal n) h = absurd (strange plain 14 refl h)
-other_token (tok_is.StringLiteral n) h = absurd (strange plain 15 refl h)
-other_token (tok_is.HexLiteral w) h = absurd (strange plain 16 refl h)
-other_token (tok_is.DecLiteral w) h = absurd (strange plain 17 refl h)
 
 -- tokens are numbered in the order of their tags
 pub number_tag : (t : Tok) → tok_number t ≡ suc (tag_of tok.the_type t)

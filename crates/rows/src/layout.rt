@@ -64,7 +64,7 @@ impl NodeRow {
 
 // What a check finds. What `text`, `start` and `end` name is which text its name is in, and where; what `first`, `second` and
 // `third` mean depends on the kind. `statement` is the number of its statement, from 1.
-#[derive(Clone, Copy)]
+#[derive(Clone, Copy, PartialEq, Eq)]
 pub struct DiagnosticRow {
     pub line: u64,
     pub column: u64,

@@ -103,27 +103,23 @@ impl Tok {
     }
 
     // The value that a literal carries.
+    #[tactic(auto, unfolding(crate::specs::Tokens::tok_value))]
     pub fn value(self) -> Wide
         ensures { result ≡ tok_value self }
     {
         match self {
-            Tok::BooleanLiteral(b) => Wide {
-                hi: 0,
-                lo: b as u64,
-            },
-            Tok::IPv4Literal(a) => Wide {
-                hi: 0,
-                lo: a as u64,
-            },
-            Tok::StringLiteral(n) => Wide { hi: 0, lo: n },
+            Tok::BooleanLiteral(b) => Wide::from(b as u64),
+            Tok::IPv4Literal(a) => Wide::from(a as u64),
+            Tok::StringLiteral(n) => Wide::from(n),
             Tok::HexLiteral(v) => v,
             Tok::DecLiteral(v) => v,
-            _ => Wide { hi: 0, lo: 0 },
+            _ => Wide::default(),
         }
     }
 }
 
 // The token with a kind and the two words of its value. A kind that no token has is read as `Eof`.
+#[tactic(auto, unfolding(crate::specs::Tokens::tok_of))]
 fn tok_of(kind: u64, lo: u64, hi: u64) -> Tok
     ensures { result ≡ tok_of kind lo hi }
 {
@@ -179,6 +175,7 @@ pub fn token_row(toks: &[u64], i: usize) -> Token
 }
 
 // The kind of the token in row `at`: `Eof` past the last row.
+#[tactic(auto, unfolding(crate::specs::Tokens::kind_at))]
 pub fn kind_at(toks: &[u64], at: usize) -> u64
     requires { at ≤ 4294967296 }
     ensures { result ≡ kind_at toks.now at }
@@ -191,6 +188,7 @@ pub fn kind_at(toks: &[u64], at: usize) -> u64
 }
 
 // The token in row `at`: `Eof` past the last row.
+#[tactic(auto, unfolding(crate::specs::Tokens::tok_at))]
 pub fn tok_at(toks: &[u64], at: usize) -> Tok
     requires { at ≤ 4294967296 }
     ensures { result ≡ tok_at toks.now at }

@@ -43,7 +43,7 @@ impl Ty {
 }
 
 // Which text is shown, and where in it.
-#[derive(Clone, Copy)]
+#[derive(Clone, Copy, Default)]
 pub struct Text {
     pub from: u64,
     pub start: u64,

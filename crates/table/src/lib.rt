@@ -8,6 +8,7 @@ ghost use Rattle.table.specs.Table.{pad_to, put_row};
 pub fn put_byte(text: &mut [u8], i: usize, v: u8)
     ensures { text.new ≡ set text.old i v }
 {
+    // No `get_mut`: after the borrow that it lends, a proof knows the slice's length and no element.
     if i < text.len() {
         text[i] = v;
     }
@@ -21,11 +22,7 @@ pub fn put_row(table: &mut [u64], row: usize, words: &[u64])
     let width = words.len();
     let start = row * width;
     if start + width <= table.len() {
-        let mut i = 0;
-        while i < width {
-            table[start + i] = words[i];
-            i += 1;
-        }
+        table[start..start + width].copy_from_slice(words);
     }
 }
 
@@ -33,20 +30,12 @@ pub fn put_row(table: &mut [u64], row: usize, words: &[u64])
 pub fn clear(table: &mut [u64])
     ensures { table.new ≡ pad_to (length table.old) [] }
 {
-    let mut i = 0;
-    while i < table.len() {
-        table[i] = 0;
-        i += 1;
-    }
+    table.fill(0);
 }
 
 // Every byte zero.
 pub fn clear_bytes(text: &mut [u8])
     ensures { text.new ≡ pad_to (length text.old) [] }
 {
-    let mut i = 0;
-    while i < text.len() {
-        text[i] = 0;
-        i += 1;
-    }
+    text.fill(0);
 }

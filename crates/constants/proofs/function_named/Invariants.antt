@@ -1,10 +1,7 @@
-use Prim.Native.Nat.{◌≤◌, ◌-◌}
+use Prim.Native.Nat.{◌-◌}
 use mathlib.Core.Path.{◌≡◌}
 use Rattle.constants.specs.Constants.{function_from, function_named}
 use Rattle.constants.proofs.function_named.Given as goal
 
 abbrev pub invariant-loop-k : goal.invariant-loop-k
-invariant-loop-k l = (1 ≤ l.k) × (l.k ≤ 15) × (function_from (15 - l.k) l.k l.start l.end ≡ function_named l.start l.end)
-
-abbrev pub decreases-loop-k : goal.decreases-loop-k
-decreases-loop-k l = 15 - l.k
+invariant-loop-k l = function_from (15 - l.k) l.k l.start l.end ≡ function_named l.start l.end

@@ -1,4 +1,3 @@
-use Prim.Native.Nat.{◌≤◌, ◌-◌}
 use mathlib.Core.Path.{◌≡◌}
 use Rattle.language.specs.Values.{lookup}
 use Rattle.constants.specs.Constants.{or_zero}
@@ -6,7 +5,4 @@ use Rattle.constants.proofs.Entries.{from}
 use Rattle.constants.proofs.lookup.Given as goal
 
 abbrev pub invariant-loop-i : goal.invariant-loop-i
-invariant-loop-i l = (l.i ≤ 14) × (or_zero (from l.inside l.name l.i) ≡ or_zero (lookup l.inside l.name))
-
-abbrev pub decreases-loop-i : goal.decreases-loop-i
-decreases-loop-i l = 14 - l.i
+invariant-loop-i l = or_zero (from l.inside l.name l.i) ≡ or_zero (lookup l.inside l.name)

@@ -1,10 +1,7 @@
-use Prim.Native.Nat.{◌+◌, ◌-◌, ◌≤◌}
+use Prim.Native.Nat.{◌+◌, ◌-◌}
 use mathlib.Core.Path.{◌≡◌}
 use Rattle.names.specs.Names.{place, names_in}
 use Rattle.names.proofs.find.Given as goal
 
 abbrev pub invariant-loop-i : goal.invariant-loop-i
-invariant-loop-i l = (l.i ≤ l.used) × (l.i + place (names_in l.source l.names (l.used - l.i) l.i) l.name ≡ place (names_in l.source l.names l.used 0) l.name)
-
-abbrev pub decreases-loop-i : goal.decreases-loop-i
-decreases-loop-i l = l.used - l.i
+invariant-loop-i l = l.i + place (names_in l.source l.names (l.used - l.i) l.i) l.name ≡ place (names_in l.source l.names l.used 0) l.name
