@@ -4,8 +4,6 @@ use mathlib.Core.Path.{◌≡◌, refl, sym, ap, ◌∙◌}
 use mathlib.Core.List.{List, [], ◌∷◌, ◌++◌, append_assoc, append-nil}
 use native.Mathlib.Omega.{arith}
 use borrow.Author.Tests.{eq-eqb, ne_eqb}
-use types.Run.{OneOf}
-use denote.Enum.Declared.{tag_of}
 use lib.ListN.{length, drop, length-take}
 use Rattle.language.specs.Lexemes.{scan_from}
 use Rattle.language.specs.Tokens.{unquoted, between, bodies_of, bodies_in}
@@ -13,12 +11,10 @@ use Rattle.language.specs.Canonical.{quoted, spell_bodies}
 use Rattle.language.proofs.Parts.{part_size}
 use Rattle.lexemes.specs.declared.Lexeme.{Lexeme}
 use Rattle.lexemes.specs.declared.LexemeKind.TheVariants as kind_is
-use Rattle.scan.specs.declared.Scanner.{Scanner}
-use Rattle.scan.specs.declared.Step.TheVariants.{Found, Done}
+use Rattle.std.specs.Prelude.{None}
 use Rattle.scan.specs.Scanning as scanning
 use Rattle.scan.specs.Scanning.{step_at}
-use Rattle.lexemes.specs.contracts.LexemeKind as kind
-use Rattle.scan.proofs.Turns.{turn, at_end}
+use Rattle.scan.proofs.Turns.{Steps, turn, at_end}
 use Rattle.lex.proofs.Bodies.{unquoted_is, none_here, one_here}
 use Rattle.writer.specs.Writing.{Writes}
 use Rattle.canon.specs.Spelling.{literals_text, literal_text}
@@ -63,15 +59,15 @@ module _ (part t : List ℕ) (at : ℕ) where
   start pos z = record { done = []; whole = rw z; writes = none t at; few = omega arith; within = omega arith }
 
   module _ (u : List ℕ) (end pos : ℕ) (k : Telling part t at u end pos) where
-    pub all_told : Done ≡ step_at part pos → length part ≤ 65536
+    pub all_told : None ≡ step_at part pos → length part ≤ 65536
         → Writes t at (literals_text (bodies_in part)) end u × (end ≤ at + 262144)
     all_told e h =
         let all : k.done ≡ bodies_in part = sym (append-nil k.done) ∙ rw (at_end part pos e) at k.whole in
         (rw (← all) k.writes, omega (arith, k.few, k.within))
 
-    module _ (l : Lexeme) (next : Scanner) (e : Found l next ≡ step_at part pos) where
+    module _ (l : Lexeme) (next : ℕ) (e : Steps part pos l next) where
       -- no literal
-      pub passed : OneOf (0 ∷ 2 ∷ 3 ∷ []) (tag_of kind.the_type l.kind) → Telling part t at u end next.pos
+      pub passed : (l.kind ≡ kind_is.Str → ⊥) → Telling part t at u end next
       passed h =
           let p = turn part pos l next e in
           record {
@@ -83,11 +79,11 @@ module _ (part t : List ℕ) (at : ℕ) where
           }
 
       module _ {r : List ℕ} (d : r ≡ scanning.body_of part l.start l.end) where
-        short : length r ≤ next.pos - pos - 2
+        short : length r ≤ next - pos - 2
         short =
             let p = turn part pos l next e in
-            let w : r ≡ scanning.body_of part pos next.pos = d ∙ rw (p.begins, p.ends) in
-            rw w (body_short part pos next.pos p.within)
+            let w : r ≡ scanning.body_of part pos next = d ∙ rw (p.begins, p.ends) in
+            rw w (body_short part pos next p.within)
 
         -- what the call asks for
         pub room : length part ≤ 65536 → at ≤ 65536 → (length r ≤ 65536) × (end ≤ 524287)
@@ -95,7 +91,7 @@ module _ (part t : List ℕ) (at : ℕ) where
 
         -- a literal
         pub told : l.kind ≡ kind_is.Str → {v : List ℕ} {to : ℕ} → Writes u end (literal_text at end r) to v × (to ≤ end + length r + 3)
-            → Telling part t at v to next.pos
+            → Telling part t at v to next
         told h {v} {to} w =
             let p = turn part pos l next e in
             record {

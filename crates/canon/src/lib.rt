@@ -1,8 +1,7 @@
 #![tactic(auto)]
 // Canonical text: the tokens of a source, spelt in one way. The definition is `Canonical` of the crate `language`. The crate
 // `writer` counts bytes past the end of the lent text and does not keep them, and the count is judged at the end.
-ghost use Rattle.std.specs.Prelude.{◌≡◌, [], ◌∷◌, ◌+◌, ◌≤◌, length};
-ghost use Rattle.table.specs.Table.{pad_to};
+ghost use Rattle.std.specs.Prelude.{◌≡◌, ◌∷◌, ◌+◌, ◌≤◌, length};
 ghost use Rattle.language.specs.Integers.{hexadecimal};
 ghost use Rattle.language.specs.Tokens.{bodies_in, most_bytes};
 ghost use Rattle.language.specs.Canonical.{spell_digits, spell_quad, quoted};
@@ -10,13 +9,16 @@ ghost use Rattle.wide.specs.Wide.{value_of};
 ghost use Rattle.writer.specs.Writing.{Writes};
 ghost use Rattle.canon.specs.Spelling.{literals_text, literal_text, mark_of, bool_text, fixed_text, row_text, gap_text, RowFits, WritesText};
 ghost use Rattle.lex.specs.Entry.{Lexes};
-ghost use Rattle.canon.specs.Entry.{CanonSource};
+ghost use Rattle.canon.specs.Entry.{CanonSource, CanonsInto, verdict_of};
+ghost use Rattle.canon.specs.declared.CanonError.TheVariants.{Lex};
 
+use lex::LexError;
 use lexemes::LexemeKind;
 use rows::{Source, TokKind, TokenRow, Verdict};
-use scan::{Scanner, Step};
+use scan::Scanner;
 use wide::Wide;
 
+// What C reads.
 #[repr(C)]
 #[derive(Clone, Copy)]
 pub struct Canonised {
@@ -85,19 +87,13 @@ fn literals(part: &[u8], text: &mut [u8], at: usize) -> usize
     ensures upper_bound { result ≤ at + 262144 }
 {
     let mut end = at;
-    let mut scanner = Scanner::new();
-    loop {
-        let step = scanner.next(part);
-        let Step::Found(found, next) = step else {
-            return end;
-        };
-        let kind = found.kind;
-        if let LexemeKind::Str = kind {
+    for found in Scanner::new(part) {
+        if let LexemeKind::Str = found.kind {
             let body = scan::body(part, found.start, found.end);
             end = literal_text(body, at, text, end);
         }
-        scanner = next;
     }
+    end
 }
 
 // ---- tokens
@@ -186,9 +182,8 @@ fn all_text(source: &[u8], toks: &[u64], count: usize, text: &mut [u8]) -> usize
     requires { Lexes source.now toks.now count }
     ensures { WritesText source.now text.old result text.new }
 {
-    let mut i = 1;
     let mut at = 0;
-    while i < count {
+    for i in 1..count {
         if Source::MOST_BYTES < at {
             return at;
         }
@@ -196,55 +191,74 @@ fn all_text(source: &[u8], toks: &[u64], count: usize, text: &mut [u8]) -> usize
         let row = next - TokenRow::WORDS;
         let end = token_text(source, toks, row, text, at);
         at = separator(toks[row], toks[next], text, end);
-        i += 1;
     }
     at
 }
 
 // ---- the entry
 
-fn refused(verdict: Verdict) -> Canonised
-    ensures { result ≡ record { verdict = verdict; tokens = 0; bytes = 0 } }
-{
-    Canonised {
-        verdict: verdict,
-        tokens: 0,
-        bytes: 0,
+// Why there is no canonical text.
+#[derive(Clone, Copy)]
+pub enum CanonError {
+    Lex(LexError),
+    TextRoom,
+}
+
+impl From<LexError> for CanonError {
+    ghost from_gives = { λ e r. r ≡ Lex e };
+
+    fn from(error: LexError) -> CanonError {
+        CanonError::Lex(error)
     }
 }
 
-// Number 10: nothing stays in the token table, nor what is written of the text.
-fn too_long(toks: &mut [u64], written: &mut [u8]) -> Canonised
-    ensures value { result ≡ record { verdict = record { number = 10; kind = 0; line = 0; column = 0; character = 0 }; tokens = 0; bytes = 0 } }
-    ensures toks_after { toks.new ≡ pad_to (length toks.old) [] }
-    ensures written_after { written.new ≡ pad_to (length written.old) [] }
+// The numbers, which C reads.
+impl From<CanonError> for Verdict {
+    ghost from_gives = { λ e v. v ≡ verdict_of e };
+
+    fn from(error: CanonError) -> Verdict {
+        match error {
+            CanonError::Lex(e) => Verdict::from(e),
+            CanonError::TextRoom => Verdict::new(Verdict::TEXT_ROOM, 0, 0),
+        }
+    }
+}
+
+// Lexes a source into a lent table of tokens, and writes its canonical text to a lent text. A refusal may leave anything in both.
+fn text_into(source: &[u8], toks: &mut [u64], text: &mut [u8]) -> Result<Canonised, CanonError>
+    ensures { CanonsInto source.now (length toks.old) (length text.old) result toks.new text.new }
 {
-    table::clear(toks);
-    table::clear_bytes(written);
-    refused(Verdict::new(Verdict::TEXT_ROOM, 0, 0))
+    let room = text.len();
+    let count = lex::tokens_into(source, toks)?;
+    table::clear_bytes(text);
+    let size = all_text(source, toks, count, text);
+    if room < size {
+        return Err(CanonError::TextRoom);
+    }
+    if Source::MOST_BYTES < size {
+        return Err(CanonError::TextRoom);
+    }
+    Ok(Canonised {
+        verdict: Verdict::new(Verdict::DONE, 0, 0),
+        tokens: count as u64,
+        bytes: size as u64,
+    })
 }
 
 // Lexes a source into a lent table of tokens, and writes its canonical text to a lent text.
 pub fn canonicalise(source: &[u8], toks: &mut [u64], text: &mut [u8]) -> Canonised
     ensures { CanonSource source.now (length toks.old) (length text.old) result toks.new text.new }
 {
-    let room = text.len();
-    table::clear_bytes(text);
-    let lexed = lex::lex_source(source, toks);
-    let verdict = lexed.verdict;
-    if 0 < verdict.number {
-        return refused(verdict);
-    }
-    let size = all_text(source, toks, lexed.tokens as usize, text);
-    if room < size {
-        return too_long(toks, text);
-    }
-    if Source::MOST_BYTES < size {
-        return too_long(toks, text);
-    }
-    Canonised {
-        verdict: verdict,
-        tokens: lexed.tokens,
-        bytes: size as u64,
+    match text_into(source, toks, text) {
+        Ok(done) => done,
+        Err(error) => {
+            table::clear(toks);
+            table::clear_bytes(text);
+            Canonised {
+                verdict: Verdict::from(error),
+                tokens: 0,
+                bytes: 0,
+            }
+        }
     }
 }

@@ -1,33 +1,30 @@
 -- What lexing a source answers and leaves, for each way that it goes.
 use mathlib.Core.Path.{◌≡◌, refl, sym, ◌∙◌}
-use mathlib.Core.Bool.{false}
 use mathlib.Core.List.{List, [], ◌∷◌, ◌++◌, append_assoc}
 use mathlib.Core.Option.{none, some}
-use Prim.Native.Nat.{ℕ, suc, ◌+◌, ◌≤◌, ◌<◌, ◌/◌}
+use Prim.Native.Nat.{ℕ, suc, ◌+◌, ◌≤◌, ◌<◌}
 use native.Mathlib.Omega.{arith}
 use borrow.Author.Tests.{lt-ltb, le-ltb}
-use lib.Dec.{eqb}
 use lib.ListN.{length}
-use Rattle.table.specs.Table.{pad_to, tabled}
-use Rattle.table.proofs.Laws.{pad_own, tabled_none, tabled_own}
+use Rattle.table.specs.Table.{pad_to}
+use Rattle.table.proofs.Laws.{pad_own, tabled_none}
 use Rattle.language.specs.Utf8.{first_bad}
 use Rattle.language.specs.Tables.{token_row, token_width}
 use Rattle.language.specs.Tokens.{lines, Piece, gap, body, token, wrong, Item, items, stepped, tokens_from, eof_token, tokens, Wrong, first_wrong, Place, place_of}
-use Rattle.language.specs.Numbers as numbers
 use Rattle.language.specs.Numbers.{verdict, lexed, lexed_within, lexical, placed, lex_answer, lex_table}
 use Rattle.utf8.specs.Decoding.{bad_of}
-use Rattle.utf8.specs.declared.Bad.TheVariants.{At, Nowhere}
 use Rattle.rows.specs.declared.verdict.Verdict.{Verdict}
 use Rattle.rows.specs.Rows.{verdict_as}
 use Rattle.utf8.proofs.Places.{bad_at, bad_nowhere}
 use Rattle.lex.specs.declared.Lexer.{Lexer}
-use Rattle.lex.specs.declared.Fed.{Fed}
-use Rattle.lex.specs.declared.Fed.TheVariants.{Goes, Stops}
+use Rattle.lex.specs.declared.LexError.{LexError}
+use Rattle.lex.specs.declared.LexError.TheVariants.{NotUtf8}
+use Rattle.std.specs.Prelude.{Ok, Err, Some, None}
 use Rattle.lex.specs.declared.Loc.{Loc}
 use Rattle.lex.specs.declared.Lexed.{Lexed}
-use Rattle.lex.specs.Entry.{LexSource}
+use Rattle.lex.specs.Entry.{LexSource, LexesInto, Refuses}
 use Rattle.lex.proofs.Lines.{few_lines}
-use Rattle.lex.specs.Lexing.{State, begun, stated, flushed_state, step_to, feed, Holds, Few, FedIs, FeedsAll, Finishes, loc_as}
+use Rattle.lex.specs.Lexing.{verdict_of, State, begun, stated, flushed_state, step_to, feed, Holds, Few, FedIs, FeedsAll, Finishes, loc_as}
 
 -- ---- the answer
 
@@ -37,11 +34,11 @@ module _ (s : List ℕ) (room : ℕ) where
   too_long h = rw (lt-ltb _ _ h)
 
   module _ (h : length s ≤ 65536) where
-    pub bad_byte : (at : ℕ) → At at ≡ bad_of (first_bad s) → lex_answer s room ≡ lexed (placed 2 (place_of s at)) 0
+    pub bad_byte : (at : ℕ) → Some at ≡ bad_of (first_bad s) → lex_answer s room ≡ lexed (placed 2 (place_of s at)) 0
     unfolding lex_answer
     bad_byte at e = rw (le-ltb _ _ h, bad_at (first_bad s) at e, lex_answer)
 
-    module _ (e : Nowhere ≡ bad_of (first_bad s)) where
+    module _ (e : None ≡ bad_of (first_bad s)) where
       pub wrong_one : (w : Wrong) → first_wrong (items s) ≡ some w → lex_answer s room ≡ lexed (lexical w) 0
       unfolding lex_answer
       wrong_one w f = rw (le-ltb _ _ h, bad_nowhere (first_bad s) e, lex_answer, f, lex_answer)
@@ -73,21 +70,17 @@ all_tokens s (i ∷ is) = all_tokens (step_to i.piece i s) is ∙ go i.piece
     go (wrong e) = refl
 
 -- a place as the code gives it
-pub placed_as : (p : Place) (o : Loc) → o ≡ loc_as p → {w : Verdict} → w ≡ record { number = 2; kind = 0; line = o.line; column = o.column; character = 0 }
-    → w ≡ verdict_as (placed 2 p)
-placed_as p o e d = d ∙ rw e
+pub placed_as : (p : Place) (o : Loc) → o ≡ loc_as p → verdict_of (NotUtf8 o) ≡ verdict_as (placed 2 p)
+placed_as p o e = rw e
 
 -- of the table t, which was all zero
 module _ (s t u : List ℕ) (k : ℕ) (z : t ≡ pad_to k []) where
-  pub stopped : {r : Fed} (v : Verdict) → r ≡ Stops v → FeedsAll t r u s
-      → (o : Wrong) × (first_wrong (items s) ≡ some o) × (v ≡ verdict_as (lexical o))
-  stopped v d g = let g' : FeedsAll t (Stops v) u s = rw d at g in g'.fed (pad_own k (length t) [] z refl)
+  pub stopped : (e : LexError) → FeedsAll t (Err e) u s
+      → (o : Wrong) × (first_wrong (items s) ≡ some o) × (verdict_of e ≡ verdict_as (lexical o))
+  stopped e g = g.fed (pad_own k (length t) [] z refl)
 
-  module _ {r : Fed} (x : Lexer) (d : r ≡ Goes x) (g : FeedsAll t r u s) where
-    went : FeedsAll t (Goes x) u s
-    went = rw d at g
-
-    right : FedIs (Goes x) u (feed begun (items s)) (first_wrong (items s))
+  module _ (x : Lexer) (went : FeedsAll t (Ok x) u s) where
+    right : FedIs (Ok x) u (feed begun (items s)) (first_wrong (items s))
     right = went.fed (pad_own k (length t) [] z refl)
 
     pub few : length s ≤ 65536 → Few x (length s)
@@ -109,17 +102,15 @@ result v k = record { verdict = v; tokens = k }
 
 module _ (s : List ℕ) (n : ℕ) where
   -- a refusal leaves a table of zeros
-  pub refused : (v : numbers.Verdict) → eqb v.number 0 ≡ false → lex_answer s (n / token_width) ≡ lexed v 0
-      → (w : Verdict) → w ≡ verdict_as v → {r : Lexed} → r ≡ result w 0 → {t : List ℕ} (k : ℕ) → t ≡ pad_to k [] → length t ≡ n
-      → LexSource s n r t
+  pub refused : (e : LexError) → Refuses s n e
+      → (w : Verdict) → w ≡ verdict_of e → {t : List ℕ} (k : ℕ) → t ≡ pad_to k [] → length t ≡ n
+      → LexSource s n (result w 0) t
   unfolding lex_table
-  refused v not-0 e w d q k z l =
-      record { answer = q ∙ rw (e, d); table = pad_own k n [] z l ∙ rw (e, not-0) (sym (tabled_none token_row token_width n)) }
+  refused e (v, not-0, a, d) w q k z l =
+      record { answer = rw (a, q, d); table = pad_own k n [] z l ∙ rw (a, not-0) (sym (tabled_none token_row token_width n)) }
 
   -- what is done leaves every token's row
-  pub accepted : (count : ℕ) → lex_answer s (n / token_width) ≡ lexed (verdict 0 0 0) count
-      → (w : Verdict) → w ≡ verdict_as (verdict 0 0 0) → {t : List ℕ} (k : ℕ) → t ≡ tabled token_row token_width k (tokens s) → length t ≡ n
-      → LexSource s n (result w count) t
+  pub accepted : (count : ℕ) (t : List ℕ) → LexesInto s n (Ok count) t
+      → (w : Verdict) → w ≡ verdict_as (verdict 0 0 0) → LexSource s n (result w count) t
   unfolding lex_table
-  accepted count e w d k z l =
-      record { answer = rw (e, d); table = tabled_own token_row token_width k n (tokens s) z l ∙ rw e }
+  accepted count t (e, z) w d = record { answer = rw (e, d); table = z ∙ rw e }

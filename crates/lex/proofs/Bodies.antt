@@ -2,13 +2,10 @@
 use Prim.Native.Nat.{ℕ, suc, ◌+◌, ◌-◌, ◌≤◌, ◌<◌}
 use mathlib.Core.Path.{◌≡◌, refl, sym, ◌∙◌}
 use mathlib.Core.List.{List, [], ◌∷◌}
-use mathlib.Core.Logic.{inl, inr}
 use native.Mathlib.Decide.{dec_le}
 use native.Mathlib.Numerals.{add-one}
 use native.Mathlib.Omega.{arith}
 use borrow.Author.Tests.{le-leb, lt-leb}
-use types.Run.{OneOf}
-use denote.Enum.Declared.{tag_of}
 use lib.ListN.{length, get_or, drop}
 use lib.Seq.{drop-cons, take-take}
 use Rattle.language.specs.Lexemes.{Kind, trivia, str, tok, error, scan_from, lexeme}
@@ -17,15 +14,13 @@ use Rattle.language.proofs.Tests.{never}
 use Rattle.language.proofs.Parts.{part_size}
 use Rattle.lexemes.specs.declared.Lexeme.{Lexeme}
 use Rattle.lexemes.specs.declared.LexemeKind.TheVariants as kind_is
-use Rattle.scan.specs.declared.Scanner.{Scanner}
-use Rattle.scan.specs.declared.Step.TheVariants.{Found, Done}
+use Rattle.std.specs.Prelude.{None}
 use Rattle.scan.specs.Scanning as scanning
 use Rattle.lexemes.specs.Kinds.{kind_as}
 use Rattle.scan.specs.Scanning.{step_at}
-use Rattle.lexemes.specs.contracts.LexemeKind as kind
 use Rattle.scan.proofs.Parts.{some_body, no_body}
 use Rattle.lex.specs.Lexing.{nth, body_at}
-use Rattle.scan.proofs.Turns.{turn, at_end}
+use Rattle.scan.proofs.Turns.{Steps, turn, at_end}
 
 -- ---- the loop
 
@@ -51,31 +46,29 @@ is_literal_lem trivia e = never (cc)
 is_literal_lem (tok t) e = never (cc)
 is_literal_lem (error x) e = never (cc)
 
-pub no_literal : (k : Kind) (bs : List ℕ) → OneOf (0 ∷ 2 ∷ 3 ∷ []) (tag_of kind.the_type (kind_as k)) → body_of k bs ≡ []
+pub no_literal : (k : Kind) (bs : List ℕ) → (kind_as k ≡ kind_is.Str → ⊥) → body_of k bs ≡ []
 no_literal trivia bs o = refl
 no_literal (tok t) bs o = refl
 no_literal (error x) bs o = refl
-no_literal str bs (inl o) = absurd (omega (arith, o))
-no_literal str bs (inr (inl o)) = absurd (omega (arith, o))
-no_literal str bs (inr (inr o)) = absurd (omega (arith, o))
+no_literal str bs o = absurd (o refl)
 
 -- the bodies from a lexeme on: its own where it is a literal, and those after
-module _ (text : List ℕ) (pos : ℕ) (l : Lexeme) (next : Scanner) (e : Found l next ≡ step_at text pos) where
+module _ (text : List ℕ) (pos : ℕ) (l : Lexeme) (to : ℕ) (e : Steps text pos l to) where
   abbrev after : List (List ℕ)
-  after = bodies_of text (scan_from 0 next.pos (drop next.pos text))
+  after = bodies_of text (scan_from 0 to (drop to text))
 
-  pub none_here : OneOf (0 ∷ 2 ∷ 3 ∷ []) (tag_of kind.the_type l.kind) → bodies_of text (scan_from 0 pos (drop pos text)) ≡ after
+  pub none_here : (l.kind ≡ kind_is.Str → ⊥) → bodies_of text (scan_from 0 pos (drop pos text)) ≡ after
   none_here h =
-      let p = turn text pos l next e in
+      let p = turn text pos l to e in
       let n = no_literal (lexeme (drop pos text)).kind (between text pos (pos + (lexeme (drop pos text)).size)) (rw p.kind at h) in
       rw (p.rest, n)
 
   pub one_here : l.kind ≡ kind_is.Str → {r : List ℕ} → r ≡ scanning.body_of text l.start l.end
       → bodies_of text (scan_from 0 pos (drop pos text)) ≡ r ∷ after
   one_here h {r} d =
-      let p = turn text pos l next e in
-      let to = pos + (lexeme (drop pos text)).size in
-      let w : r ≡ unquoted (between text pos to) = d ∙ rw (p.begins, p.ends, p.past) (sym (unquoted_is text pos to (omega (arith, p.within, p.past)))) in
+      let p = turn text pos l to e in
+      let end = pos + (lexeme (drop pos text)).size in
+      let w : r ≡ unquoted (between text pos end) = d ∙ rw (p.begins, p.ends, p.past) (sym (unquoted_is text pos end (omega (arith, p.within, p.past)))) in
       rw (p.rest, is_literal_lem (lexeme (drop pos text)).kind (sym h ∙ p.kind), w)
 
 -- the body numbered i is the one numbered `left` of the lexemes from `pos` on
@@ -86,22 +79,22 @@ pub start : (text : List ℕ) (i pos : ℕ) → pos ≡ 0 → Looking text i i p
 start text i pos z = record { same = rw z }
 
 module _ (text : List ℕ) (i left pos : ℕ) (k : Looking text i left pos) where
-  pub none_left : Done ≡ step_at text pos → [] ≡ nth i (bodies_in text)
+  pub none_left : None ≡ step_at text pos → [] ≡ nth i (bodies_in text)
   none_left e = rw (at_end text pos e) at k.same
 
-  module _ (l : Lexeme) (next : Scanner) (e : Found l next ≡ step_at text pos) where
+  module _ (l : Lexeme) (to : ℕ) (e : Steps text pos l to) where
     -- no literal
-    pub passed : OneOf (0 ∷ 2 ∷ 3 ∷ []) (tag_of kind.the_type l.kind) → Looking text i left next.pos
-    passed h = record { same = rw (none_here text pos l next e h) at k.same }
+    pub passed : (l.kind ≡ kind_is.Str → ⊥) → Looking text i left to
+    passed h = record { same = rw (none_here text pos l to e h) at k.same }
 
     module _ (h : l.kind ≡ kind_is.Str) where
       -- a literal, and it is the one
       pub is_it : {r : List ℕ} → left ≡ 0 → r ≡ scanning.body_of text l.start l.end → r ≡ nth i (bodies_in text)
-      is_it z d = rw (one_here text pos l next e h d, z) at k.same
+      is_it z d = rw (one_here text pos l to e h d, z) at k.same
 
       -- a literal, and it is not
-      pub not_it : (left ≡ 0 → ⊥) → Looking text i (left - 1) next.pos
-      not_it z = let n : left ≡ suc (left - 1) = omega arith in record { same = rw (one_here text pos l next e h refl, n) at k.same }
+      pub not_it : (left ≡ 0 → ⊥) → Looking text i (left - 1) to
+      not_it z = let n : left ≡ suc (left - 1) = omega arith in record { same = rw (one_here text pos l to e h refl, n) at k.same }
 
 -- ---- a string token of a source
 

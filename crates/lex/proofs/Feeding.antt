@@ -14,18 +14,15 @@ use Rattle.lexemes.specs.declared.LexErrorKind.{LexErrorKind}
 use Rattle.lexemes.specs.declared.LexemeKind.{LexemeKind}
 use Rattle.lexemes.specs.declared.LexemeKind.TheVariants as kind_is
 use Rattle.lexemes.specs.declared.Lexeme.{Lexeme}
-use Rattle.scan.specs.declared.Scanner.{Scanner}
-use Rattle.scan.specs.declared.Step.TheVariants.{Found, Done}
-use Rattle.rows.specs.declared.verdict.Verdict.{Verdict}
-use Rattle.lexemes.specs.Kinds.{error_as, kind_as, error_number, error_char}
+use Rattle.std.specs.Prelude.{Ok, Err, None}
+use Rattle.lexemes.specs.Kinds.{error_as, kind_as}
 use Rattle.scan.specs.Scanning.{step_at}
 use Rattle.rows.specs.Rows.{verdict_as}
-use Rattle.scan.proofs.Turns.{turn, at_end}
+use Rattle.scan.proofs.Turns.{Steps, turn, at_end}
 use Rattle.lexemes.proofs.Rows.{same_error}
 use Rattle.lex.specs.declared.Lexer.{Lexer}
-use Rattle.lex.specs.declared.Fed.{Fed}
-use Rattle.lex.specs.declared.Fed.TheVariants.{Goes, Stops}
-use Rattle.lex.specs.Lexing.{State, step_to, feed, Holds, Stands, Strings, Tokens, line_items, Feeds}
+use Rattle.lex.specs.declared.LexError.TheVariants.{Lexical}
+use Rattle.lex.specs.Lexing.{verdict_of, waiting, State, step_to, feed, Holds, Stands, Strings, Tokens, line_items, Feeds}
 use Rattle.lex.proofs.States.{feed_append, wrong_after}
 
 -- ---- a step of the lexer
@@ -42,7 +39,7 @@ record Stepped (p : Piece) (i : Item) (y : Lexer) (u : List ℕ) (z : Lexer) (v 
   right : or_else {A = Wrong} p i none (λ e j. some (record { kind = e; at = j })) ≡ none
   holds : (s : State) → Holds y u s → Holds z v (step_to p i s)
   lines : z.lno ≡ y.lno
-  few : z.count + z.pending.bodies ≤ y.count + y.pending.bodies + 1
+  few : z.count + waiting z.pending ≤ y.count + waiting y.pending + 1
   size : length v ≡ length u
 
 stepped : (k : Kind) (bs : List ℕ) (start from to : ℕ) (i : Item) (y z : Lexer) (u v : List ℕ) → Stands y.lno start from to i
@@ -58,7 +55,7 @@ stepped str bs start from to i y z u v h (a, b) =
       size = ap length b;
     }
 stepped (tok t) bs start from to i y z u v h a =
-    record { right = refl; holds = λ s g. a.holds s i t bs refl h g; lines = a.lines; few = omega (arith, a.count, a.bodies); size = a.size }
+    record { right = refl; holds = λ s g. a.holds s i t bs refl h g; lines = a.lines; few = let w = ap waiting a.bodies in omega (arith, a.count, w); size = a.size }
 stepped (error x) bs start from to i y z u v h a = absurd a
 
 -- which error of the language the code's stands for
@@ -69,9 +66,9 @@ wrong_kind (tok t) bs e h = never (cc)
 wrong_kind (error o) bs e h = (o, refl, cc)
 
 -- the verdict at an error
-verdict_is : (o : language.LexErrorKind) (k : LexErrorKind) (v : Verdict) (start from to : ℕ) {n : ℕ} {i : Item} → k ≡ error_as o → Stands n start from to i
-    → v ≡ record { number = 3; kind = error_number k; line = n; column = from + 1; character = error_char k } → v ≡ verdict_as (numbers.lexical (record { kind = o; at = i }))
-verdict_is o k v start from to e h w = w ∙ rw (e, (same_error o).0, (same_error o).1, ← h.line, ← h.column)
+verdict_is : (o : language.LexErrorKind) (k : LexErrorKind) (start from to : ℕ) {n : ℕ} {i : Item} → k ≡ error_as o → Stands n start from to i
+    → verdict_of (Lexical k (record { line = n; column = from + 1 })) ≡ verdict_as (numbers.lexical (record { kind = o; at = i }))
+verdict_is o k start from to e h = rw (e, (same_error o).0, (same_error o).1, ← h.line, ← h.column)
 
 -- ---- the loop
 
@@ -83,21 +80,21 @@ pub record Feeding (x : Lexer) (t : List ℕ) (start : ℕ) (line : List ℕ) (y
   pub right : first_wrong done ≡ none
   pub holds : (s : State) → Holds x t s → Holds y u (feed s done)
   pub lines : y.lno ≡ x.lno
-  pub few : y.count + y.pending.bodies ≤ start + pos
+  pub few : y.count + waiting y.pending ≤ start + pos
   pub within : pos ≤ length line
   pub size : length u ≡ length t
 
 module _ (x : Lexer) (t : List ℕ) (start : ℕ) (line : List ℕ) where
-  pub begun : x.count + x.pending.bodies ≤ start → (pos : ℕ) → pos ≡ 0 → Feeding x t start line x t pos
+  pub begun : x.count + waiting x.pending ≤ start → (pos : ℕ) → pos ≡ 0 → Feeding x t start line x t pos
   unfolding first_wrong feed
   begun h pos z =
       record { done = []; whole = rw z; right = refl; holds = λ s g. g; lines = refl; few = omega arith; within = omega arith; size = refl }
 
   module _ (y : Lexer) (u : List ℕ) (pos : ℕ) (f : Feeding x t start line y u pos) where
-    module _ (l : Lexeme) (next : Scanner) (e : Found l next ≡ step_at line pos) where
+    module _ (l : Lexeme) (to : ℕ) (e : Steps line pos l to) where
       -- what the calls ask for
-      pub room : start + length line ≤ 65536 → (start + l.end ≤ 65536) × (l.start ≤ l.end) × (y.count + y.pending.bodies ≤ 65536)
-      room h = let b = turn line pos l next e in let n = f.few in let w = f.within in (omega arith, omega arith, omega arith)
+      pub room : start + length line ≤ 65536 → (start + l.end ≤ 65536) × (l.start ≤ l.end) × (y.count + waiting y.pending ≤ 65536)
+      room h = let b = turn line pos l to e in let n = f.few in let w = f.within in (omega arith, omega arith, omega arith)
 
       -- this lexeme, and those that are left
       abbrev bytes : List ℕ
@@ -107,19 +104,19 @@ module _ (x : Lexer) (t : List ℕ) (start : ℕ) (line : List ℕ) where
       item = item_of x.lno (line_at start line) (placed pos (lexeme (drop pos line)))
 
       abbrev after : List Item
-      after = map (item_of x.lno (line_at start line)) (scan_from 0 next.pos (drop next.pos line))
+      after = map (item_of x.lno (line_at start line)) (scan_from 0 to (drop to line))
 
       whole_here : f.done ++ item ∷ after ≡ line_items x.lno start line
-      whole_here = rw (turn line pos l next e).rest at f.whole
+      whole_here = rw (turn line pos l to e).rest at f.whole
 
       stands : Stands y.lno start l.start l.end item
-      stands = let b = turn line pos l next e in record { line = sym f.lines; column = omega arith; begins = omega arith; ends = omega arith }
+      stands = let b = turn line pos l to e in record { line = sym f.lines; column = omega arith; begins = omega arith; ends = omega arith }
 
       -- a lexeme that is no error is fed
-      pub more : {k : LexemeKind} {z : Lexer} {v : List ℕ} → l.kind ≡ k → Turned k start l.start l.end y u z v → Feeding x t start line z v next.pos
+      pub more : {k : LexemeKind} {z : Lexer} {v : List ℕ} → l.kind ≡ k → Turned k start l.start l.end y u z v → Feeding x t start line z v to
       unfolding first_wrong feed
       more {k} {z} {v} d w =
-          let b = turn line pos l next e in
+          let b = turn line pos l to e in
           let m : k ≡ kind_as (lexeme (drop pos line)).kind = sym d ∙ b.kind in
           let g = stepped (lexeme (drop pos line)).kind bytes start l.start l.end item y z u v stands (rw m at w) in
           record {
@@ -134,12 +131,11 @@ module _ (x : Lexer) (t : List ℕ) (start : ℕ) (line : List ℕ) where
           }
 
       -- at an error it stops
-      pub stopped : (k : LexErrorKind) (v : Verdict) → l.kind ≡ kind_is.Error k
-          → v ≡ record { number = 3; kind = error_number k; line = y.lno; column = l.start + 1; character = error_char k }
-          → Feeds x t (Stops v) u x.lno (start + length line) (line_items x.lno start line)
+      pub stopped : (k : LexErrorKind) → l.kind ≡ kind_is.Error k
+          → Feeds x t (Err (Lexical k (record { line = y.lno; column = l.start + 1 }))) u x.lno (start + length line) (line_items x.lno start line)
       unfolding first_wrong
-      stopped k v d w =
-          let b = turn line pos l next e in
+      stopped k d =
+          let b = turn line pos l to e in
           let o = wrong_kind (lexeme (drop pos line)).kind bytes k (sym d ∙ b.kind) in
           record {
             size = f.size;
@@ -148,12 +144,12 @@ module _ (x : Lexer) (t : List ℕ) (start : ℕ) (line : List ℕ) where
                 λ s h. (
                   record { kind = o.0; at = item },
                   ap first_wrong (sym whole_here) ∙ wrong_after f.done (item ∷ after) f.right ∙ rw o.1,
-                  verdict_is o.0 k v start l.start l.end o.2 stands w,
+                  verdict_is o.0 k start l.start l.end o.2 stands,
                 );
           }
 
     -- at the end of the line all lexemes are fed
-    pub finished : Done ≡ step_at line pos → Feeds x t (Goes y) u x.lno (start + length line) (line_items x.lno start line)
+    pub finished : None ≡ step_at line pos → Feeds x t (Ok y) u x.lno (start + length line) (line_items x.lno start line)
     finished e =
         let all : f.done ≡ line_items x.lno start line = sym (append-nil f.done) ∙ rw (at_end line pos e) at f.whole in
         record {
@@ -161,11 +157,3 @@ module _ (x : Lexer) (t : List ℕ) (start : ℕ) (line : List ℕ) where
           few = (f.lines, omega (arith, f.few, f.within));
           fed = λ s h. rw (← all) (f.right, f.holds s h);
         }
-
--- ---- a line
-
--- the lexer that feeds it counts a line more, and holds the same
-pub numbered : (x : Lexer) (t : List ℕ) (r : Fed) (u : List ℕ) (n at : ℕ) (is : List Item)
-    → Feeds (record { lno = n; count = x.count; pending = x.pending }) t r u n at is → Feeds x t r u n at is
-numbered x t r u n at is f =
-    record { size = f.size; few = f.few; fed = λ s g. f.fed s (record { rows = g.rows; counted = g.counted; waits = g.waits }) }

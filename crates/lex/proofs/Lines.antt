@@ -16,13 +16,12 @@ use Rattle.language.proofs.Tests.{by_cases}
 use Rattle.language.proofs.Parts.{part_size}
 use Rattle.table.specs.Table.{pad_to}
 use Rattle.table.proofs.Laws.{tabled_none}
-use Rattle.rows.specs.declared.verdict.Verdict.{Verdict}
 use Rattle.language.proofs.LexemeSizes.{run_fits}
 use Rattle.lex.specs.declared.Lexer.{Lexer}
-use Rattle.lex.specs.declared.Fed.{Fed}
-use Rattle.lex.specs.declared.Fed.TheVariants.{Goes, Stops}
+use Rattle.lex.specs.declared.LexError.{LexError}
+use Rattle.std.specs.Prelude.{Result, Ok, Err, None}
 use Rattle.lex.proofs.States.{feed_append, wrong_append}
-use Rattle.lex.specs.Lexing.{begun, feed, line_items, Few, FedIs, Feeds, line_end, FeedsAll}
+use Rattle.lex.specs.Lexing.{waiting, begun, feed, line_items, Few, FedIs, Feeds, line_end, FeedsAll}
 
 -- ---- a line, and the lines after it
 
@@ -117,26 +116,26 @@ module _ (s : List ℕ) (at : ℕ) (l : at < length s) (e : ℕ) (q : e ≡ line
 pub record LinesFed (s t : List ℕ) (u : List ℕ) (x : Lexer) (at : ℕ) : Type 0 where
   pub done : List Item
   pub whole : done ++ items_from (x.lno + 1) (lines_from at (drop at s)) ≡ items s
-  pub fed : t ≡ pad_to (length t) [] → FedIs (Goes x) u (feed begun done) (first_wrong done)
+  pub fed : t ≡ pad_to (length t) [] → FedIs (Ok x) u (feed begun done) (first_wrong done)
   pub counted : x.lno + length (lines_from at (drop at s)) ≡ length (lines s)
   pub size : length u ≡ length t
   pub few_lines : x.lno ≤ at
-  pub few_tokens : x.count + x.pending.bodies ≤ at
-  pub fewer : x.count + x.pending.bodies ≤ length s
+  pub few_tokens : x.count + waiting x.pending ≤ at
+  pub fewer : x.count + waiting x.pending ≤ length s
   pub within : at ≤ length s + 1
 
-pub start : (s t : List ℕ) (x : Lexer) → (x.lno ≡ 0) × (x.count ≡ 0) × (x.pending.bodies ≡ 0) → LinesFed s t t x 0
+pub start : (s t : List ℕ) (x : Lexer) → (x.lno ≡ 0) × (x.count ≡ 0) × (x.pending ≡ None) → LinesFed s t t x 0
 unfolding items feed first_wrong
 start s t x e =
     record {
       done = [];
       whole = rw e.0;
-      fed = λ z. (refl, record { rows = z ∙ sym (tabled_none token_row token_width (length t)); counted = e.1; waits = e.2 });
+      fed = λ z. (refl, record { rows = z ∙ sym (tabled_none token_row token_width (length t)); counted = e.1; waits = rw e.2 tt });
       counted = rw e.0 (omega arith);
       size = refl;
       few_lines = omega (arith, e.0);
-      few_tokens = omega (arith, e.1, e.2);
-      fewer = omega (arith, e.1, e.2);
+      few_tokens = omega (arith, e.1, ap waiting e.2);
+      fewer = omega (arith, e.1, ap waiting e.2);
       within = omega arith;
     }
 
@@ -159,7 +158,7 @@ module _ (s t u : List ℕ) (x : Lexer) (at : ℕ) (f : LinesFed s t u x at) whe
     joined = rw (next_items s at l e q x.lno) at f.whole
 
     -- where it stops, the whole stops
-    stops : (v : Verdict) (w : List ℕ) → Feeds x u (Stops v) w (x.lno + 1) e line → FeedsAll t (Stops v) w s
+    stops : (v : LexError) (w : List ℕ) → Feeds x u (Err v) w (x.lno + 1) e line → FeedsAll t (Err v) w s
     stops v w r =
         record {
           size = r.size ∙ f.size;
@@ -172,7 +171,7 @@ module _ (s t u : List ℕ) (x : Lexer) (at : ℕ) (f : LinesFed s t u x at) whe
               (h.0, rw joined at m, h.2);
         }
 
-    goes : (y : Lexer) (w : List ℕ) → Feeds x u (Goes y) w (x.lno + 1) e line → LinesFed s t w y (e + 1)
+    goes : (y : Lexer) (w : List ℕ) → Feeds x u (Ok y) w (x.lno + 1) e line → LinesFed s t w y (e + 1)
     goes y w r =
         let i = within_source s at l e q in
         let n = r.few.0 in
@@ -195,16 +194,16 @@ module _ (s t u : List ℕ) (x : Lexer) (at : ℕ) (f : LinesFed s t u x at) whe
         }
 
     -- the same from what the call says of its result
-    abbrev Said : Fed → List ℕ → Type 0
+    abbrev Said : Result Lexer LexError → List ℕ → Type 0
     Said r w = Feeds x u r w (x.lno + 1) (at + length (between s at e)) line
 
-    pub stopped : {r : Fed} (v : Verdict) {w : List ℕ} → r ≡ Stops v → Said r w → FeedsAll t r w s
-    stopped v {w} d g = rw d (stops v w (rw (d, line_size s at l e q) at g))
+    pub stopped : (v : LexError) {w : List ℕ} → Said (Err v) w → FeedsAll t (Err v) w s
+    stopped v {w} g = stops v w (rw (line_size s at l e q) at g)
 
-    pub more : {r : Fed} (y : Lexer) {w : List ℕ} → r ≡ Goes y → Said r w → LinesFed s t w y (e + 1)
-    more y {w} d g = goes y w (rw (d, line_size s at l e q) at g)
+    pub more : (y : Lexer) {w : List ℕ} → Said (Ok y) w → LinesFed s t w y (e + 1)
+    more y {w} g = goes y w (rw (line_size s at l e q) at g)
 
-  pub finished : length s ≤ at → FeedsAll t (Goes x) u s
+  pub finished : length s ≤ at → FeedsAll t (Ok x) u s
   finished h =
       let d : drop at s ≡ [] = drop_of_length-le s {i = at} h in
       let a : f.done ++ items_from (x.lno + 1) (lines_from at []) ≡ items s = rw d at f.whole in

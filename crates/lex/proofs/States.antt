@@ -1,9 +1,12 @@
 -- What the lexer's steps do to the state that a lexer and its table hold.
-use mathlib.Core.Path.{◌≡◌, refl, sym, ap, ◌∙◌}
-use mathlib.Core.List.{List, [], ◌∷◌, ◌++◌, append-nil}
+use mathlib.Core.Path.{◌≡◌, refl, ap, ◌∙◌, subst}
+use mathlib.Core.List.{List, [], ◌∷◌, ◌++◌}
+use Rattle.std.specs.Prelude as code
+use Rattle.std.specs.Prelude.{Some, None}
 use mathlib.Core.Option.{Option, none, some}
 use Prim.Native.Nat.{ℕ, ◌+◌, ◌*◌}
 use native.Mathlib.Decide.{dec_le}
+use native.Mathlib.Numerals.{add-one}
 use native.Mathlib.Omega.{arith}
 use lib.ListN.{length, length-append}
 use lib.Seq.{length-sets}
@@ -14,12 +17,12 @@ use Rattle.wide.specs.declared.Wide.{Wide}
 use Rattle.language.specs.Lexemes as language
 use Rattle.language.specs.Lexemes.{l_paren, r_paren, dot, double_colon, colon, semi_colon, equals, comma, slash, import_keyword, let_keyword, identifier, boolean_literal, ipv4_literal, hex_literal, dec_literal}
 use Rattle.language.specs.Tables.{token_row, token_width}
-use Rattle.language.specs.Tokens.{Token, Piece, gap, body, token, wrong, Item, content_of, Pending, joined, flushed, pending_token, item_token, Wrong, or_else, first_wrong}
+use Rattle.language.specs.Tokens.{Token, Piece, gap, body, token, wrong, Item, content_of, Pending, flushed, pending_token, item_token, Wrong, or_else, first_wrong}
 use Rattle.rows.specs.declared.token.Tok.{Tok}
 use Rattle.rows.specs.Tokens.{tok_as, tok_number, tok_value}
 use Rattle.lex.specs.declared.PendingStr.{PendingStr}
 use Rattle.lex.specs.declared.Lexer.{Lexer}
-use Rattle.lex.specs.Lexing.{State, stated, flushed_state, step_to, feed, PendingIs, Holds, Stands, Strings, Flushes, Tokens, Finishes}
+use Rattle.lex.specs.Lexing.{State, stated, flushed_state, step_to, feed, waiting, PendingIs, Holds, Flushes, Tokens, Finishes}
 
 -- ---- lists of lexemes
 
@@ -63,82 +66,47 @@ put_length t k ws =
       | no h ↦ rw (put_full t k (length ws) ws refl (omega arith))
     ]
 
--- the lexer after a row, with literals p that wait
-abbrev pushed : Lexer → PendingStr → Lexer
-pushed x p = record { lno = x.lno; count = x.count + 1; pending = p }
+-- the lexer after a row
+abbrev pushed : Lexer → Lexer
+pushed x = record { lno = x.lno; count = x.count + 1; pending = None }
 
 -- a row stored at the count is one token more, and no literal waits
-module _ (x : Lexer) (t u ws : List ℕ) (p : PendingStr) (e : u ≡ put_row t x.count ws) (b : p.bodies ≡ 0) where
+module _ (x : Lexer) (t u ws : List ℕ) (e : u ≡ put_row t x.count ws) where
   put_size : length u ≡ length t
   put_size = ap length e ∙ put_length t x.count ws
 
-  put_token : (s : State) (k : Token) → ws ≡ token_row k → Holds x t s → Holds (pushed x p) u (stated (s.done ++ k ∷ []) none)
+  put_token : (s : State) (k : Token) → ws ≡ token_row k → Holds x t s → Holds (pushed x) u (stated (s.done ++ k ∷ []) none)
   put_token s k r h =
       let z : u ≡ tabled token_row token_width (length t) (s.done ++ k ∷ []) = e ∙ rw (r, h.counted) (next_row (length t) s.done k h.rows) in
       record {
         rows = tabled_own token_row token_width (length t) (length u) (s.done ++ k ∷ []) z refl;
         counted = let d = h.counted in simp length-append (omega arith);
-        waits = b;
+        waits = tt;
       }
 
 -- ---- the literals that wait
 
--- the first literal, and one that is joined with those before it
-module _ (x : Lexer) (start from to : ℕ) where
-  abbrev waiting : PendingStr → Lexer
-  waiting p = record { lno = x.lno; count = x.count; pending = p }
-
-  abbrev first_one : PendingStr
-  first_one = record { line = x.lno; column = from + 1; start = start + from; end = start + to; bodies = 1 }
-
-  abbrev one_more : PendingStr
-  one_more =
-      record { line = x.pending.line; column = x.pending.column; start = x.pending.start; end = start + to; bodies = x.pending.bodies + 1 }
-
-  pub string_first : x.pending.bodies ≡ 0 → Strings x start from to (waiting first_one)
-  string_first z = record { lines = refl; count = refl; bodies = omega arith; waits = go }
-    where
-      go : (q : Option Pending) (i : Item) (b : List ℕ) → Stands x.lno start from to i → PendingIs x.pending q → PendingIs first_one (some (joined q i b))
-      go none i b h w = (sym h.line, sym h.column, sym h.begins, sym h.ends, refl)
-      go (some q) i b h w = absurd (omega (arith, w.4))
-
-  pub string_more : (x.pending.bodies ≡ 0 → ⊥) → Strings x start from to (waiting one_more)
-  string_more z = record { lines = refl; count = refl; bodies = refl; waits = go }
-    where
-      go : (q : Option Pending) (i : Item) (b : List ℕ) → Stands x.lno start from to i → PendingIs x.pending q → PendingIs one_more (some (joined q i b))
-      go none i b h w = absurd (z w)
-      go (some q) i b h w = (w.0, w.1, w.2, sym h.ends, let n = w.4 in simp length-append (omega arith))
-
--- no literal waits, and some wait
+-- some wait
 module _ (x : Lexer) (t : List ℕ) where
-  pub flush_none : x.pending.bodies ≡ 0 → Flushes x t x t
-  flush_none z = record { lines = refl; count = omega arith; bodies = z; size = refl; holds = λ s h. go s.done s.pending h }
-    where
-      go : (ks : List Token) (o : Option Pending) → Holds x t (stated ks o) → Holds x t (stated (ks ++ flushed o) none)
-      go ks none h = rw append-nil h
-      go ks (some q) h = absurd (omega (arith, h.waits.4))
+  abbrev string_row : PendingStr → List ℕ
+  string_row p = 16 ∷ p.line ∷ p.column ∷ p.start ∷ p.end ∷ (p.others + 1) ∷ 0 ∷ []
 
-  abbrev string_row : List ℕ
-  string_row =
-      let p = x.pending in
-      16 ∷ p.line ∷ p.column ∷ p.start ∷ p.end ∷ p.bodies ∷ 0 ∷ []
-
-  pub flush_some : (u : List ℕ) (p : PendingStr) → (x.pending.bodies ≡ 0 → ⊥) → u ≡ put_row t x.count string_row → p.bodies ≡ 0 → Flushes x t (pushed x p) u
+  pub flush_some : (p : PendingStr) → x.pending ≡ Some p → (u : List ℕ) → u ≡ put_row t x.count (string_row p) → Flushes x t (pushed x) u
   unfolding token_row
-  flush_some u p z e b =
+  flush_some p z u e =
       record {
         lines = refl;
-        count = omega arith;
-        bodies = b;
-        size = put_size x t u string_row p e b;
+        count = let w : waiting x.pending ≡ p.others + 1 = ap waiting z in omega arith;
+        bodies = refl;
+        size = put_size x t u (string_row p) e;
         holds = λ s h. go s.done s.pending h;
       }
     where
-      go : (ks : List Token) (o : Option Pending) → Holds x t (stated ks o) → Holds (pushed x p) u (stated (ks ++ flushed o) none)
-      go ks none h = absurd (z h.waits)
+      go : (ks : List Token) (o : Option Pending) → Holds x t (stated ks o) → Holds (pushed x) u (stated (ks ++ flushed o) none)
+      go ks none h = absurd (subst (λ (r : code.Option PendingStr). PendingIs r none) z h.waits)
       go ks (some q) h =
-          let w = h.waits in
-          put_token x t u string_row p e b (stated ks (some q)) (pending_token q) (rw (w.0, w.1, w.2, w.3, w.4)) h
+          let w = subst (λ (r : code.Option PendingStr). PendingIs r (some q)) z h.waits in
+          put_token x t u (string_row p) e (stated ks (some q)) (pending_token q) (rw (w.0, w.1, w.2, w.3, w.4, add-one)) h
 
 -- ---- a token
 
@@ -171,27 +139,27 @@ row_is (hex_literal v) bs i = refl
 row_is (dec_literal v) bs i = refl
 
 -- after the literals that wait a row is stored
-module _ (x : Lexer) (t : List ℕ) (y : Lexer) (u : List ℕ) (f : Flushes x t y u) (v : List ℕ) (p : PendingStr) (b : p.bodies ≡ 0) where
+module _ (x : Lexer) (t : List ℕ) (y : Lexer) (u : List ℕ) (f : Flushes x t y u) (v : List ℕ) where
   pub token_after : (start from to : ℕ) (k : Tok) (kind : ℕ) (value : Wide) → kind ≡ tok_number k → value ≡ tok_value k
-      → v ≡ put_row u y.count (row_of kind y.lno (from + 1) (start + from) (start + to) value) → Tokens x t start from to k (pushed y p) v
+      → v ≡ put_row u y.count (row_of kind y.lno (from + 1) (start + from) (start + to) value) → Tokens x t start from to k (pushed y) v
   token_after start from to k kind value d w e =
       let row = row_of kind y.lno (from + 1) (start + from) (start + to) value in
       record {
         lines = f.lines;
         count = let n = f.count in omega arith;
-        bodies = b;
-        size = put_size y u v row p e b ∙ f.size;
+        bodies = refl;
+        size = put_size y u v row e ∙ f.size;
         holds =
             λ s i l bs a h g.
-            put_token y u v row p e b (flushed_state s) (item_token i (content_of l bs))
+            put_token y u v row e (flushed_state s) (item_token i (content_of l bs))
             (rw (d, w, a, f.lines, ← h.line, ← h.column, ← h.begins, ← h.ends) (row_is l bs i)) (f.holds s g);
       }
 
-  pub finish_after : (all : ℕ) → v ≡ put_row u y.count (eof_row y.lno all) → Finishes x t all (pushed y p) v
+  pub finish_after : (all : ℕ) → v ≡ put_row u y.count (eof_row y.lno all) → Finishes x t all (pushed y) v
   unfolding token_row
   finish_after all e =
       let row = eof_row y.lno all in
       record {
-        size = put_size y u v row p e b ∙ f.size;
-        holds = λ s k r h. put_token y u v row p e b (flushed_state s) k (rw (r, f.lines)) (f.holds s h);
+        size = put_size y u v row e ∙ f.size;
+        holds = λ s k r h. put_token y u v row e (flushed_state s) k (rw (r, f.lines)) (f.holds s h);
       }

@@ -1,5 +1,6 @@
 -- How the lexer's state and its table stand for the tokens so far, and what a line does to them.
-use Rattle.std.specs.Prelude.{ℕ, zero, suc, ◌+◌, ◌≤◌, ◌≡◌, List, [], ◌∷◌, ◌++◌, map, leb, length, drop}
+use Rattle.std.specs.Prelude as code
+use Rattle.std.specs.Prelude.{Result, Ok, Err, Some, None, ℕ, zero, suc, ◌+◌, ◌≤◌, ◌≡◌, List, [], ◌∷◌, ◌++◌, map, leb, length, drop}
 use Rattle.std.proofs.Math.Option.{Option, none, some}
 use Rattle.language.specs.Choice.{if'}
 use Rattle.table.specs.Table.{pad_to, tabled}
@@ -11,12 +12,23 @@ use Rattle.language.specs.Numbers as numbers
 use Rattle.rows.specs.Tokens.{tok_as}
 use Rattle.rows.specs.Rows.{verdict_as}
 use Rattle.rows.specs.declared.token.Tok.{Tok}
+use Rattle.rows.specs.declared.verdict.Verdict.{Verdict}
+use Rattle.lexemes.specs.Kinds.{error_number, error_char}
 use Rattle.lex.specs.declared.PendingStr.{PendingStr}
 use Rattle.lex.specs.declared.Lexer.{Lexer}
-use Rattle.lex.specs.declared.Fed.{Fed}
-use Rattle.lex.specs.declared.Fed.TheVariants.{Goes, Stops}
 use Rattle.lex.specs.declared.Loc.{Loc}
+use Rattle.lex.specs.declared.LexError.{LexError}
+use Rattle.lex.specs.declared.LexError.TheVariants.{TooLong, NotUtf8, Lexical, TokenRoom}
 use Rattle.lex.specs.declared.Lexed.{Lexed}
+
+-- ---- refusals
+
+-- the numbers of a refusal
+abbrev pub verdict_of : LexError → Verdict
+verdict_of TooLong = verdict_as (numbers.verdict 1 0 0)
+verdict_of (NotUtf8 p) = record { number = 2; kind = 0; line = p.line; column = p.column; character = 0 }
+verdict_of (Lexical e p) = record { number = 3; kind = error_number e; line = p.line; column = p.column; character = error_char e }
+verdict_of TokenRoom = verdict_as (numbers.verdict 4 0 0)
 
 -- ---- the state
 
@@ -48,10 +60,17 @@ feed s (i ∷ is) = feed (step_to i.piece i s) is
 
 -- ---- the code's state
 
-abbrev pub PendingIs : PendingStr → Option Pending → Type 0
-PendingIs p none = p.bodies ≡ 0
-PendingIs p (some q) =
-    (p.line ≡ q.line) × (p.column ≡ q.column) × (p.start ≡ q.start) × (p.end ≡ q.end) × (p.bodies ≡ suc (length q.others))
+-- how many literals wait
+abbrev pub waiting : code.Option PendingStr → ℕ
+waiting None = 0
+waiting (Some p) = p.others + 1
+
+abbrev pub PendingIs : code.Option PendingStr → Option Pending → Type 0
+PendingIs None none = Unit {0}
+PendingIs (Some p) none = ⊥
+PendingIs None (some q) = ⊥
+PendingIs (Some p) (some q) =
+    (p.line ≡ q.line) × (p.column ≡ q.column) × (p.start ≡ q.start) × (p.end ≡ q.end) × (p.others ≡ length q.others)
 
 -- a lexer and a table hold a state
 pub record Holds (x : Lexer) (table : List ℕ) (s : State) : Type 0 where
@@ -72,22 +91,22 @@ pub record Stands (n start from to : ℕ) (i : Item) : Type 0 where
 pub record Strings (x : Lexer) (start from to : ℕ) (y : Lexer) : Type 0 where
   pub lines : y.lno ≡ x.lno
   pub count : y.count ≡ x.count
-  pub bodies : y.pending.bodies ≡ x.pending.bodies + 1
+  pub bodies : waiting y.pending ≡ waiting x.pending + 1
   pub waits : (q : Option Pending) (i : Item) (b : List ℕ) → Stands x.lno start from to i → PendingIs x.pending q → PendingIs y.pending (some (joined q i b))
 
 -- the literals that wait become a token
 pub record Flushes (x : Lexer) (t : List ℕ) (y : Lexer) (u : List ℕ) : Type 0 where
   pub lines : y.lno ≡ x.lno
-  pub count : y.count ≤ x.count + x.pending.bodies
-  pub bodies : y.pending.bodies ≡ 0
+  pub count : y.count ≤ x.count + waiting x.pending
+  pub bodies : y.pending ≡ None
   pub size : length u ≡ length t
   pub holds : (s : State) → Holds x t s → Holds y u (flushed_state s)
 
 -- and a token comes after them
 pub record Tokens (x : Lexer) (t : List ℕ) (start from to : ℕ) (k : Tok) (y : Lexer) (u : List ℕ) : Type 0 where
   pub lines : y.lno ≡ x.lno
-  pub count : y.count ≤ x.count + x.pending.bodies + 1
-  pub bodies : y.pending.bodies ≡ 0
+  pub count : y.count ≤ x.count + waiting x.pending + 1
+  pub bodies : y.pending ≡ None
   pub size : length u ≡ length t
   pub holds : (s : State) (i : Item) (l : language.Tok) (bs : List ℕ) → k ≡ tok_as l → Stands x.lno start from to i → Holds x t s
       → Holds y u (step_to (token (content_of l bs)) i s)
@@ -101,19 +120,19 @@ line_items n at line = map (item_of n (line_at at line)) (scan line)
 -- few tokens before the place `at` of a source, and few lines
 pub record Few (x : Lexer) (at : ℕ) : Type 0 where
   pub lines : x.lno ≤ at + 1
-  pub tokens : x.count + x.pending.bodies ≤ at
+  pub tokens : x.count + waiting x.pending ≤ at
   pub short : at ≤ most_bytes
 
 -- what feeding lexemes up to a place came to: it goes on with the state after all of them, or stops at the first error
-abbrev pub FedIs : Fed → List ℕ → State → Option Wrong → Type 0
-FedIs (Goes x) table s w = (w ≡ none) × Holds x table s
-FedIs (Stops v) table s w = (o : Wrong) × (w ≡ some o) × (v ≡ verdict_as (numbers.lexical o))
+abbrev pub FedIs : Result Lexer LexError → List ℕ → State → Option Wrong → Type 0
+FedIs (Ok x) table s w = (w ≡ none) × Holds x table s
+FedIs (Err e) table s w = (o : Wrong) × (w ≡ some o) × (verdict_of e ≡ verdict_as (numbers.lexical o))
 
-abbrev pub GoesFew : Fed → ℕ → ℕ → Type 0
-GoesFew (Goes x) n at = (x.lno ≡ n) × (x.count + x.pending.bodies ≤ at)
-GoesFew (Stops v) n at = Unit {0}
+abbrev pub GoesFew : Result Lexer LexError → ℕ → ℕ → Type 0
+GoesFew (Ok x) n at = (x.lno ≡ n) × (x.count + waiting x.pending ≤ at)
+GoesFew (Err e) n at = Unit {0}
 
-pub record Feeds (x : Lexer) (t : List ℕ) (r : Fed) (u : List ℕ) (n at : ℕ) (is : List Item) : Type 0 where
+pub record Feeds (x : Lexer) (t : List ℕ) (r : Result Lexer LexError) (u : List ℕ) (n at : ℕ) (is : List Item) : Type 0 where
   pub size : length u ≡ length t
   pub few : GoesFew r n at
   pub fed : (s : State) → Holds x t s → FedIs r u (feed s is) (first_wrong is)
@@ -123,7 +142,7 @@ abbrev pub line_end : List ℕ → ℕ → ℕ
 line_end s at = at + run not_newline (drop at s)
 
 -- the whole source, fed to a new lexer and a table of zeros
-pub record FeedsAll (t : List ℕ) (r : Fed) (u s : List ℕ) : Type 0 where
+pub record FeedsAll (t : List ℕ) (r : Result Lexer LexError) (u s : List ℕ) : Type 0 where
   pub size : length u ≡ length t
   pub few : GoesFew r (length (lines s)) (length s)
   pub fed : t ≡ pad_to (length t) [] → FedIs r u (feed begun (items s)) (first_wrong (items s))

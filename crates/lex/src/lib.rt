@@ -1,26 +1,24 @@
 #![tactic(auto)]
 // The lexer: from raw source to tokens. Ports lex.rs `Lexer`, `Token` and `PendingStr`; the definitions are `Tokens` of
 // the crate `language`.
-ghost use Rattle.std.specs.Prelude.{◌≡◌, ◌+◌, ◌≤◌, length};
+ghost use Rattle.std.specs.Prelude.{◌≡◌, ◌+◌, ◌≤◌, length, None};
 ghost use Rattle.language.specs.Tokens.{place_of, bodies_in, most_bytes};
-ghost use Rattle.lex.specs.Entry.{LexSource, StringBody};
-ghost use Rattle.lexemes.specs.Kinds.{error_number, error_char};
-ghost use Rattle.lex.specs.Lexing.{Strings, Flushes, Tokens, Few, line_items, Feeds, Finishes, line_end, FeedsAll, loc_as, nth};
+ghost use Rattle.lex.specs.Entry.{LexSource, LexesInto, StringBody};
+ghost use Rattle.lex.specs.Lexing.{waiting, Strings, Flushes, Tokens, Few, line_items, Feeds, Finishes, line_end, FeedsAll, loc_as, verdict_of, nth};
 
 use lexemes::{LexErrorKind, LexemeKind};
 use rows::{Source, Tok, TokKind, TokenRow, Verdict};
-use scan::{Scanner, Step};
-use utf8::Bad;
+use scan::Scanner;
 
-// The string token that is not written yet, because the next literal may belong to it: the place of its first literal, its
-// span so far, and how many literals it has. With 0 of them there is no such token.
+// A string token that is not written yet, because the next literal may belong to it: the place of its first literal, its span
+// so far, and how many literals came after the first.
 #[derive(Clone, Copy)]
 pub struct PendingStr {
     pub line: u64,
     pub column: u64,
     pub start: u64,
     pub end: u64,
-    pub bodies: u64,
+    pub others: u64,
 }
 
 // What is known between two lines. The tokens themselves are in the lent table.
@@ -31,14 +29,7 @@ pub struct Lexer {
     // How many tokens there are so far. One that the table has no room for is counted, and not kept.
     pub count: usize,
     // The literals at the end of what was read, which another line may go on.
-    pub pending: PendingStr,
-}
-
-// What feeding came to: the lexer goes on, or it stops with number 3 at the first error.
-#[derive(Clone, Copy)]
-pub enum Fed {
-    Goes(Lexer),
-    Stops(Verdict),
+    pub pending: Option<PendingStr>,
 }
 
 // A line and a column, both from 1.
@@ -48,6 +39,7 @@ pub struct Loc {
     pub column: u64,
 }
 
+// What C reads.
 #[repr(C)]
 #[derive(Clone, Copy)]
 pub struct Lexed {
@@ -55,93 +47,104 @@ pub struct Lexed {
     pub tokens: u64,
 }
 
-impl PendingStr {
-    pub fn none() -> Self
-        ensures { result.bodies ≡ 0 }
-    {
-        Self {
-            line: 0,
-            column: 0,
-            start: 0,
-            end: 0,
-            bodies: 0,
+// Why a source is refused.
+#[derive(Clone, Copy)]
+pub enum LexError {
+    TooLong,
+    // Where the text is no UTF-8.
+    NotUtf8(Loc),
+    // The first lexeme that is none, and where it starts.
+    Lexical(LexErrorKind, Loc),
+    TokenRoom,
+}
+
+// The numbers, which C reads.
+impl From<LexError> for Verdict {
+    ghost from_gives = { λ e v. v ≡ verdict_of e };
+
+    fn from(error: LexError) -> Verdict {
+        match error {
+            LexError::TooLong => Verdict::new(Verdict::TOO_LONG, 0, 0),
+            LexError::NotUtf8(at) => Verdict::new(Verdict::NOT_UTF8, at.line, at.column),
+            LexError::Lexical(e, at) => Verdict {
+                number: Verdict::LEXICAL,
+                kind: e.kind(),
+                line: at.line,
+                column: at.column,
+                character: e.character(),
+            },
+            LexError::TokenRoom => Verdict::new(Verdict::TOKEN_ROOM, 0, 0),
         }
     }
 }
 
 impl Lexer {
     pub fn new() -> Self
-        ensures { (result.lno ≡ 0) × (result.count ≡ 0) × (result.pending.bodies ≡ 0) }
+        ensures { (result.lno ≡ 0) × (result.count ≡ 0) × (result.pending ≡ None) }
     {
         Self {
             lno: 0,
             count: 0,
-            pending: PendingStr::none(),
+            pending: None,
         }
     }
 
     // A literal from `from` up to `to` of the line that starts at `start`: it is joined with those that wait.
     fn string(self, start: usize, from: usize, to: usize) -> Lexer
-        requires { (start + to ≤ most_bytes) × (from ≤ to) × (self.pending.bodies ≤ most_bytes) }
+        requires { (start + to ≤ most_bytes) × (from ≤ to) × (waiting self.pending ≤ most_bytes) }
         ensures { Strings self start from to result }
     {
-        let p = self.pending;
         let end = (start + to) as u64;
-        if p.bodies == 0 {
-            return Lexer {
-                lno: self.lno,
-                count: self.count,
-                pending: PendingStr {
+        match self.pending {
+            None => Lexer {
+                pending: Some(PendingStr {
                     line: self.lno,
                     column: from as u64 + 1,
                     start: (start + from) as u64,
-                    end: end,
-                    bodies: 1,
-                },
-            };
-        }
-        Lexer {
-            lno: self.lno,
-            count: self.count,
-            pending: PendingStr {
-                line: p.line,
-                column: p.column,
-                start: p.start,
-                end: end,
-                bodies: p.bodies + 1,
+                    end,
+                    others: 0,
+                }),
+                ..self
+            },
+            Some(p) => Lexer {
+                pending: Some(PendingStr {
+                    end,
+                    others: p.others + 1,
+                    ..p
+                }),
+                ..self
             },
         }
     }
 
     // The literals that wait become a token.
     fn flush(self, table: &mut [u64]) -> Lexer
-        requires { self.count ≤ most_bytes }
+        requires { self.count + waiting self.pending ≤ most_bytes }
         ensures { Flushes self table.old result table.new }
     {
-        let p = self.pending;
-        if p.bodies == 0 {
+        let Some(p) = self.pending else {
             return self;
-        }
+        };
         let row = [
             TokKind::STRING_LITERAL,
             p.line,
             p.column,
             p.start,
             p.end,
-            p.bodies,
+            p.others + 1,
             0,
         ];
         table::put_row(table, self.count, &row);
         Lexer {
-            lno: self.lno,
             count: self.count + 1,
-            pending: PendingStr::none(),
+            pending: None,
+            ..self
         }
     }
 
     // A token from `from` up to `to` of the line that starts at `start`.
     fn token(self, start: usize, from: usize, to: usize, tok: Tok, table: &mut [u64]) -> Lexer
-        requires { (start + to ≤ most_bytes) × (from ≤ to) × (self.count + self.pending.bodies ≤ most_bytes) }
+        requires { (start + to ≤ most_bytes) × (from ≤ to) × (self.count + waiting self.pending ≤ most_bytes) }
         ensures { Tokens self table.old start from to tok result table.new }
     {
         let lexer = self.flush(table);
@@ -157,55 +160,46 @@ impl Lexer {
         ];
         table::put_row(table, lexer.count, &row);
         Lexer {
-            lno: lexer.lno,
             count: lexer.count + 1,
-            pending: PendingStr::none(),
+            pending: None,
+            ..lexer
         }
     }
 
     // Lexes the line numbered `lno`, which starts at `start` of the source, lexeme by lexeme.
-    fn lexemes(self, line: &[u8], start: usize, table: &mut [u64]) -> Fed
-        requires { (self.count + self.pending.bodies ≤ start) × (start + length line.now ≤ most_bytes) }
+    fn lexemes(self, line: &[u8], start: usize, table: &mut [u64]) -> Result<Lexer, LexError>
+        requires { (self.count + waiting self.pending ≤ start) × (start + length line.now ≤ most_bytes) }
         ensures { Feeds self table.old result table.new self.lno (start + length line.now) (line_items self.lno start line.now) }
     {
         let mut lexer = self;
-        let mut scanner = Scanner::new();
-        loop {
-            let step = scanner.next(line);
-            let Step::Found(found, next) = step else {
-                return Fed::Goes(lexer);
-            };
-            let kind = found.kind;
-            match kind {
-                LexemeKind::Trivia => {
-                    scanner = next;
-                }
+        for found in Scanner::new(line) {
+            match found.kind {
+                LexemeKind::Trivia => {}
                 LexemeKind::Str => {
                     lexer = lexer.string(start, found.start, found.end);
-                    scanner = next;
                 }
                 LexemeKind::Tok(t) => {
                     lexer = lexer.token(start, found.start, found.end, t, table);
-                    scanner = next;
                 }
                 LexemeKind::Error(e) => {
-                    return Fed::Stops(lexical(e, lexer.lno, found.start));
+                    let line = lexer.lno;
+                    let column = found.start as u64 + 1;
+                    return Err(LexError::Lexical(e, Loc { line, column }));
                 }
             }
         }
+        Ok(lexer)
     }
 
     // Lexes one line, lent without its byte 10, of which the first byte stands at `start` of the source. The source is not asked for,
     // so the line may stand anywhere.
-    pub fn line(self, line: &[u8], start: usize, table: &mut [u64]) -> Fed
+    pub fn line(self, line: &[u8], start: usize, table: &mut [u64]) -> Result<Lexer, LexError>
         requires { Few self start × (start + length line.now ≤ most_bytes) }
         ensures { Feeds self table.old result table.new (self.lno + 1) (start + length line.now) (line_items (self.lno + 1) start line.now) }
     {
-        let pending = self.pending;
         let lexer = Lexer {
             lno: self.lno + 1,
-            count: self.count,
-            pending: pending,
+            ..self
         };
         lexer.lexemes(line, start, table)
     }
@@ -227,24 +221,10 @@ impl Lexer {
         ];
         table::put_row(table, lexer.count, &row);
         Lexer {
-            lno: lexer.lno,
             count: lexer.count + 1,
-            pending: PendingStr::none(),
+            pending: None,
+            ..lexer
         }
-    }
-}
-
-// Number 3: a lexical error that starts at `from` of the line numbered `lno`.
-fn lexical(e: LexErrorKind, lno: u64, from: usize) -> Verdict
-    requires { from ≤ most_bytes }
-    ensures { result ≡ record { number = 3; kind = error_number e; line = lno; column = from + 1; character = error_char e } }
-{
-    Verdict {
-        number: Verdict::LEXICAL,
-        kind: e.kind(),
-        line: lno,
-        column: from as u64 + 1,
-        character: e.character(),
     }
 }
 
@@ -264,24 +244,19 @@ fn loc_of(source: &[u8], at: usize) -> Loc
 {
     let mut line: u64 = 1;
     let mut column: u64 = 1;
-    let mut i = 0;
-    while i < at {
-        if source[i] == b'\n' {
+    for b in &source[..at] {
+        if *b == b'\n' {
             line += 1;
             column = 1;
         } else {
             column += 1;
         }
-        i += 1;
     }
-    Loc {
-        line: line,
-        column: column,
-    }
+    Loc { line, column }
 }
 
-// Feeds a source to a new lexer, line by line.
-fn feed_lines(source: &[u8], table: &mut [u64]) -> Fed
+// Feeds a source to a new lexer, line by line. The loop goes by position, since spans are counted from where a line starts.
+fn feed_lines(source: &[u8], table: &mut [u64]) -> Result<Lexer, LexError>
     requires { length source.now ≤ most_bytes }
     ensures { FeedsAll table.old result table.new source.now }
 {
@@ -289,54 +264,47 @@ fn feed_lines(source: &[u8], table: &mut [u64]) -> Fed
     let mut at = 0;
     while at < source.len() {
         let end = line_end(source, at);
-        let fed = lexer.line(&source[at..end], at, table);
-        let Fed::Goes(next) = fed else {
-            return fed;
-        };
-        lexer = next;
+        lexer = lexer.line(&source[at..end], at, table)?;
         at = end + 1;
     }
-    Fed::Goes(lexer)
+    Ok(lexer)
 }
 
-fn refused(verdict: Verdict) -> Lexed
-    ensures { result ≡ record { verdict = verdict; tokens = 0 } }
+// Lexes a source into a lent table, and answers how many tokens it has. A refusal may leave anything in the table: who calls
+// this for C clears it then.
+pub fn tokens_into(source: &[u8], table: &mut [u64]) -> Result<usize, LexError>
+    ensures { LexesInto source.now (length table.old) result table.new }
 {
-    Lexed {
-        verdict: verdict,
-        tokens: 0,
+    let room = table.len() / TokenRow::WORDS;
+    if Source::MOST_BYTES < source.len() {
+        return Err(LexError::TooLong);
     }
+    if let Some(at) = utf8::first_bad(source) {
+        return Err(LexError::NotUtf8(loc_of(source, at)));
+    }
+    table::clear(table);
+    let lexer = feed_lines(source, table)?;
+    let done = lexer.finish(source.len(), table);
+    if room < done.count {
+        return Err(LexError::TokenRoom);
+    }
+    Ok(done.count)
 }
 
 // Lexes a source into a lent table of tokens.
 pub fn lex_source(source: &[u8], table: &mut [u64]) -> Lexed
     ensures { LexSource source.now (length table.old) result table.new }
 {
-    let room = table.len() / TokenRow::WORDS;
-    table::clear(table);
-    if Source::MOST_BYTES < source.len() {
-        return refused(Verdict::new(Verdict::TOO_LONG, 0, 0));
-    }
-    let bad = utf8::first_bad(source);
-    if let Bad::At(at) = bad {
-        let s = loc_of(source, at);
-        return refused(Verdict::new(Verdict::NOT_UTF8, s.line, s.column));
-    }
-    let fed = feed_lines(source, table);
-    match fed {
-        Fed::Stops(verdict) => {
+    match tokens_into(source, table) {
+        Ok(count) => Lexed {
+            verdict: Verdict::new(Verdict::DONE, 0, 0),
+            tokens: count as u64,
+        },
+        Err(error) => {
             table::clear(table);
-            refused(verdict)
-        }
-        Fed::Goes(lexer) => {
-            let done = lexer.finish(source.len(), table);
-            if room < done.count {
-                table::clear(table);
-                return refused(Verdict::new(Verdict::TOKEN_ROOM, 0, 0));
-            }
             Lexed {
-                verdict: Verdict::new(Verdict::DONE, 0, 0),
-                tokens: done.count as u64,
+                verdict: Verdict::from(error),
+                tokens: 0,
             }
         }
     }
@@ -360,19 +328,13 @@ fn nth_body(text: &[u8], i: u64) -> &[u8]
     ensures { result.now ≡ nth i (bodies_in text.now) }
 {
     let mut left = i;
-    let mut scanner = Scanner::new();
-    loop {
-        let step = scanner.next(text);
-        let Step::Found(found, next) = step else {
-            return &text[..0];
-        };
-        let kind = found.kind;
-        if let LexemeKind::Str = kind {
+    for found in Scanner::new(text) {
+        if let LexemeKind::Str = found.kind {
             if left == 0 {
                 return scan::body(text, found.start, found.end);
             }
             left -= 1;
         }
-        scanner = next;
     }
+    &text[..0]
 }

@@ -1,8 +1,9 @@
 -- How the code's lexemes stand for the language's, and their kinds as numbers.
-use Rattle.std.specs.Prelude.{ℕ, ◌+◌, List, [], ◌∷◌}
+use Rattle.std.specs.Prelude.{ℕ, ◌+◌, List, [], ◌∷◌, Result, Ok, Err}
 use Rattle.wide.specs.declared.Wide.{Wide}
 use Rattle.language.specs.Lexemes as language
 use Rattle.language.specs.Lexemes.{unexpected_char, unterminated_string, int_out_of_range, int_leading_zero, int_invalid_suffix, bad_ipv4_literal, trivia, str, tok, error}
+use Rattle.rows.specs.declared.token.Tok.{Tok}
 use Rattle.rows.specs.Tokens.{tok_as, tok_number, zeros, tok_value}
 use Rattle.lexemes.specs.declared.LexErrorKind.{LexErrorKind}
 use Rattle.lexemes.specs.declared.LexErrorKind.TheVariants as error_is
@@ -25,6 +26,11 @@ kind_as trivia = kind_is.Trivia
 kind_as str = kind_is.Str
 kind_as (tok t) = kind_is.Tok (tok_as t)
 kind_as (error e) = kind_is.Error (error_as e)
+
+-- what reading a token came to
+abbrev pub read_kind : Result Tok LexErrorKind → LexemeKind
+read_kind (Ok t) = kind_is.Tok t
+read_kind (Err e) = kind_is.Error e
 
 -- a lexeme that starts at `at`
 abbrev pub lexeme_as : ℕ → language.Lexeme → Lexeme

@@ -2,7 +2,7 @@
 // Lexemes: what the scanner finds at one place of a line, and the words of a lexeme's row. Ports lex.rs `Lexeme`, `LexemeKind`
 // and `LexErrorKind`; the definitions are `Lexemes` and `Tables` of the crate `language`.
 ghost use Rattle.std.specs.Prelude.{◌≡◌};
-ghost use Rattle.lexemes.specs.Kinds.{error_number, error_char, class_number, kind_number, kind_value, row_of};
+ghost use Rattle.lexemes.specs.Kinds.{error_number, error_char, class_number, kind_number, kind_value, read_kind, row_of};
 
 use rows::{LexemeRow, Tok};
 use wide::Wide;
@@ -85,6 +85,18 @@ impl LexemeKind {
     pub const ERROR: u64 = 4;
 }
 
+// What reading a token came to.
+impl From<Result<Tok, LexErrorKind>> for LexemeKind {
+    ghost from_gives = { λ r k. k ≡ read_kind r };
+
+    fn from(r: Result<Tok, LexErrorKind>) -> LexemeKind {
+        match r {
+            Ok(t) => LexemeKind::Tok(t),
+            Err(e) => LexemeKind::Error(e),
+        }
+    }
+}
+
 #[derive(Clone, Copy)]
 pub struct Lexeme {
     pub start: usize,
@@ -92,6 +104,8 @@ pub struct Lexeme {
     pub kind: LexemeKind,
 }
 
+// The three words of a row that tell a kind. Their numbers are the rows' of the C interface (docs/TABLES.md), so `as` of an enum
+// does not give them.
 fn class_of(kind: LexemeKind) -> u64
     ensures { result ≡ class_number kind }
 {
@@ -107,8 +121,7 @@ fn kind_of(kind: LexemeKind) -> u64
     ensures { result ≡ kind_number kind }
 {
     match kind {
-        LexemeKind::Trivia => 0,
-        LexemeKind::Str => 0,
+        LexemeKind::Trivia | LexemeKind::Str => 0,
         LexemeKind::Tok(t) => t.kind(),
         LexemeKind::Error(e) => e.kind(),
     }
@@ -118,13 +131,9 @@ fn value_of(kind: LexemeKind) -> Wide
     ensures { result ≡ kind_value kind }
 {
     match kind {
-        LexemeKind::Trivia => Wide { hi: 0, lo: 0 },
-        LexemeKind::Str => Wide { hi: 0, lo: 0 },
+        LexemeKind::Trivia | LexemeKind::Str => Wide::default(),
         LexemeKind::Tok(t) => t.value(),
-        LexemeKind::Error(e) => Wide {
-            hi: 0,
-            lo: e.character(),
-        },
+        LexemeKind::Error(e) => Wide::from(e.character()),
     }
 }
 

@@ -3,29 +3,21 @@ use Prim.Native.Nat.{ℕ, ◌+◌, ◌*◌, ◌-◌, ◌<◌, ◌≤◌}
 use mathlib.Core.Path.{◌≡◌, refl, sym, ◌∙◌}
 use mathlib.Core.Bool.{Bool, true, false}
 use mathlib.Core.List.{List}
-use mathlib.Core.Logic.{inl, inr}
 use native.Mathlib.Omega.{arith}
 use borrow.Author.Tests.{lt-ltb, le-ltb}
 use lib.Dec.{ltb}
-use lib.ListN.{length, get_or}
+use lib.ListN.{length, get_or, drop}
 use Rattle.language.specs.Choice.{if'}
 use Rattle.language.specs.Integers.{limit}
 use Rattle.language.specs.Lexemes.{digit_of, read_digits, wrong, int_out_of_range, int_invalid_suffix}
 use Rattle.language.proofs.Tests.{never, inside_test, outside_test}
 use Rattle.wide.specs.declared.Wide.{Wide}
-use Rattle.wide.specs.declared.Scaled.{Scaled}
-use Rattle.wide.specs.declared.Scaled.TheVariants.{Fits, Over}
+use Rattle.std.specs.Prelude.{Option, Some, None, Ok, Err, ok_or}
+use Rattle.std.proofs.lemmas.List.{drop_more, drop_all}
 use Rattle.wide.specs.Wide.{value_of, wide_of, fitted, scaled}
-use Rattle.language.proofs.Parts.{part_cons, part_none}
+use Rattle.lexemes.specs.declared.LexErrorKind.{LexErrorKind}
 use Rattle.lexemes.specs.declared.LexErrorKind.TheVariants.{IntOutOfRange, IntInvalidSuffix}
-use Rattle.numerals.specs.declared.Number.TheVariants.{Value, Wrong}
-use Rattle.language.specs.Tokens.{between}
-use Rattle.numerals.specs.Numerals.{Base, number_as}
-
--- the base that is not ten
-pub sixteen : (base : ℕ) → Base base → (base ≡ 10 → ⊥) → base ≡ 16
-sixteen base (inl e) n = absurd (n e)
-sixteen base (inr e) n = e
+use Rattle.numerals.specs.Numerals.{number_as}
 
 -- ---- digits
 
@@ -50,54 +42,57 @@ module _ (b : ℕ) where
 
 -- ---- words
 
-fits_said : (t : Bool) (n : ℕ) (w : Wide) → if' t (Fits (wide_of n)) Over ≡ Fits w → (t ≡ true) × (w ≡ wide_of n)
+fits_said : (t : Bool) (n : ℕ) (w : Wide) → if' t (Some (wide_of n)) None ≡ Some w → (t ≡ true) × (w ≡ wide_of n)
 fits_said true n w e = (refl, cc)
 fits_said false n w e = never (cc)
 
-over_said : (t : Bool) (n : ℕ) → if' t (Fits (wide_of n)) Over ≡ Over → t ≡ false
+over_said : (t : Bool) (n : ℕ) → if' t (Some (wide_of n)) None ≡ None → t ≡ false
 over_said true n e = never (cc)
 over_said false n e = refl
+
+-- what `ok_or` is made of
+pub none_of : (o : Option Wide) (e x : LexErrorKind) → Err x ≡ ok_or o e → (o ≡ None) × (x ≡ e)
+none_of (Some w) e x h = never (cc)
+none_of None e x h = (refl, cc)
+
+pub some_of : (o : Option Wide) (e : LexErrorKind) (v : Wide) → Ok v ≡ ok_or o e → o ≡ Some v
+some_of (Some w) e v h = cc
+some_of None e v h = never (cc)
 
 pub value_wide : (n : ℕ) → value_of (wide_of n) ≡ n
 value_wide n = omega arith
 
 -- ---- a step
 
--- v and i of the loop: the digits before i give v
-pub record Reading (base : ℕ) (s : List ℕ) (at e : ℕ) (v : Wide) (i : ℕ) : Type 0 where
-  pub inside : i ≤ e
-  pub same : read_digits base (value_of v) (between s i e) ≡ read_digits base 0 (between s at e)
+-- v of the loop at i: the digits before i give v
+pub record Reading (base : ℕ) (s : List ℕ) (v : Wide) (i : ℕ) : Type 0 where
+  pub inside : i ≤ length s
+  pub same : read_digits base (value_of v) (drop i s) ≡ read_digits base 0 s
   pub whole : wide_of (value_of v) ≡ v
 
-pub start : (base : ℕ) (s : List ℕ) (at e : ℕ) (v : Wide) → at ≤ e → value_of v ≡ 0 → Reading base s at e v at
-start base s at e v h z =
-    let a : v.hi ≡ 0 = omega arith in
-    let b : v.lo ≡ 0 = omega arith in
-    record { inside = h; same = rw z; whole = rw (a, b) }
-
-module _ {base : ℕ} {s : List ℕ} {at e : ℕ} {v : Wide} {i : ℕ} (r : Reading base s at e v i) where
-  pub finished : e ≤ i → Value v ≡ number_as (read_digits base 0 (between s at e))
+module _ {base : ℕ} {s : List ℕ} {v : Wide} {i : ℕ} (r : Reading base s v i) where
+  pub finished : length s ≤ i → Ok v ≡ number_as (read_digits base 0 s)
   unfolding read_digits
-  finished h = rw (← r.same, part_none s i e, r.whole)
+  finished h = rw (← r.same, drop_all i s h, r.whole)
 
-  module _ (h : i < e) (fits : e ≤ length s) (d : ℕ) (given : d ≡ digit_of (get_or s i 0)) where
+  module _ (h : i < length s) (d : ℕ) (given : d ≡ digit_of (get_or s i 0)) where
     step :
-        read_digits base 0 (between s at e)
+        read_digits base 0 s
         ≡ if' (ltb d base)
-        (if' (ltb (value_of v * base + d) limit) (read_digits base (value_of v * base + d) (between s (i + 1) e)) (wrong int_out_of_range))
+        (if' (ltb (value_of v * base + d) limit) (read_digits base (value_of v * base + d) (drop (i + 1) s)) (wrong int_out_of_range))
         (wrong int_invalid_suffix)
     unfolding read_digits
-    step = sym r.same ∙ rw (part_cons s i e, given)
+    step = sym r.same ∙ rw (drop_more s i 0 h, given)
 
-    pub suffix : base ≤ d → Wrong IntInvalidSuffix ≡ number_as (read_digits base 0 (between s at e))
+    pub suffix : base ≤ d → Err IntInvalidSuffix ≡ number_as (read_digits base 0 s)
     suffix l = rw (step, le-ltb d base)
 
-    module _ (l : d < base) (o : Scaled) (said : o ≡ scaled base (value_of v) d) where
-      pub out_of_range_lem : o ≡ Over → Wrong IntOutOfRange ≡ number_as (read_digits base 0 (between s at e))
+    module _ (l : d < base) (o : Option Wide) (said : o ≡ scaled base (value_of v) d) where
+      pub out_of_range_lem : o ≡ None → Err IntOutOfRange ≡ number_as (read_digits base 0 s)
       unfolding fitted
       out_of_range_lem k = rw (step, lt-ltb d base, over_said (ltb (value_of v * base + d) limit) (value_of v * base + d) (sym said ∙ k))
 
-      pub again : (w : Wide) → o ≡ Fits w → Reading base s at e w (i + 1)
+      pub again : (w : Wide) → o ≡ Some w → Reading base s w (i + 1)
       unfolding fitted
       again w k =
           let n = value_of v * base + d in

@@ -19,14 +19,13 @@ use Rattle.wide.specs.Wide.{wide_of}
 use Rattle.rows.specs.declared.token.Tok.{Tok}
 use Rattle.rows.specs.declared.token.Tok.TheVariants.{HexLiteral, DecLiteral}
 use Rattle.lexemes.specs.declared.LexErrorKind.TheVariants.{IntLeadingZero}
-use Rattle.lexemes.specs.declared.LexemeKind.{LexemeKind}
 use Rattle.lexemes.specs.declared.LexemeKind.TheVariants as kind_is
-use Rattle.numerals.specs.declared.Number.{Number}
-use Rattle.numerals.specs.declared.Number.TheVariants.{Value, Wrong}
-use Rattle.lexemes.specs.Kinds.{kind_as}
+use Rattle.std.specs.Prelude.{Result, Ok, Err}
+use Rattle.lexemes.specs.declared.LexErrorKind.{LexErrorKind}
+use Rattle.lexemes.specs.Kinds.{kind_as, read_kind}
 use Rattle.rows.specs.Tokens.{tok_as}
 use Rattle.language.specs.Tokens.{between}
-use Rattle.runs.specs.Runs.{run_end}
+use Rattle.classes.specs.Runs.{run_end}
 use Rattle.numerals.specs.Numerals.{number_as}
 use Rattle.language.proofs.Parts.{part_cons}
 use Rattle.runs.proofs.Places.{run_between}
@@ -173,11 +172,11 @@ module _ (t : List ℕ) where
 -- ---- the integer that a word is
 
 -- the code's literal of a number
-abbrev literal : (Wide → Tok) → Number → LexemeKind
-literal f (Value v) = kind_is.Tok (f v)
-literal f (Wrong e) = kind_is.Error e
+abbrev literal : (Wide → Tok) → Result Wide LexErrorKind → Result Tok LexErrorKind
+literal f (Ok v) = Ok (f v)
+literal f (Err e) = Err e
 
-literal_as : (f : ℕ → language.Tok) (g : Wide → Tok) → ((n : ℕ) → tok_as (f n) ≡ g (wide_of n)) → (r : language.Number) → literal g (number_as r) ≡ kind_as (numbered f r)
+literal_as : (f : ℕ → language.Tok) (g : Wide → Tok) → ((n : ℕ) → tok_as (f n) ≡ g (wide_of n)) → (r : language.Number) → read_kind (literal g (number_as r)) ≡ kind_as (numbered f r)
 literal_as f g h (value n) = ap kind_is.Tok (sym (h n))
 literal_as f g h (wrong e) = refl
 
@@ -204,18 +203,18 @@ module _ (s : List ℕ) (at e : ℕ) (h : (at < length s) × (e ≡ run_end is_w
           let f = word_ends.1 in
           rw (part_cons s at e (omega arith) f, part_cons s (at + 1) e (omega arith) f, n)
 
-      pub hexadecimal : (o n : Number) → o ≡ number_as (read_digits 16 0 (between s (at + 2) e)) → o ≡ n → literal HexLiteral n ≡ kind_as (integer (between s at e))
+      pub hexadecimal : (n : Result Wide LexErrorKind) → n ≡ number_as (read_digits 16 0 (between s (at + 2) e)) → read_kind (literal HexLiteral n) ≡ kind_as (integer (between s at e))
       unfolding integer
-      hexadecimal o n r m = rw (hex_same, t, after_two, ← m, r) (literal_as hex_literal HexLiteral (λ n. refl) (read_digits 16 0 (between s (at + 2) e)))
+      hexadecimal n r = rw (hex_same, t, after_two, r) (literal_as hex_literal HexLiteral (λ n. refl) (read_digits 16 0 (between s (at + 2) e)))
 
     module _ (f : x ≡ false) (z : Bool) (z-said : z ≡ starts_zero (drop at s)) where
       zero_same : starts_zero (between s at e) ≡ z
       zero_same = zero_between is_word digit_is_word s at e h.1 ∙ sym z-said
 
-      pub leading_zero : z ≡ true → kind_is.Error IntLeadingZero ≡ kind_as (integer (between s at e))
+      pub leading_zero : z ≡ true → read_kind (Err IntLeadingZero) ≡ kind_as (integer (between s at e))
       unfolding integer
       leading_zero t = rw (hex_same, f, zero_same, t)
 
-      pub decimal : z ≡ false → (o n : Number) → o ≡ number_as (read_digits 10 0 (between s at e)) → o ≡ n → literal DecLiteral n ≡ kind_as (integer (between s at e))
+      pub decimal : z ≡ false → (n : Result Wide LexErrorKind) → n ≡ number_as (read_digits 10 0 (between s at e)) → read_kind (literal DecLiteral n) ≡ kind_as (integer (between s at e))
       unfolding integer
-      decimal g o n r m = rw (hex_same, f, zero_same, g, ← m, r) (literal_as dec_literal DecLiteral (λ n. refl) (read_digits 10 0 (between s at e)))
+      decimal g n r = rw (hex_same, f, zero_same, g, r) (literal_as dec_literal DecLiteral (λ n. refl) (read_digits 10 0 (between s at e)))

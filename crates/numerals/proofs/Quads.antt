@@ -3,7 +3,9 @@ use Prim.Native.Nat.{ℕ, zero, suc, ◌+◌, ◌-◌, ◌*◌, ◌<◌, ◌≤�
 use mathlib.Core.Path.{◌≡◌, refl, sym, ap, ◌∙◌}
 use mathlib.Core.Bool.{Bool, true, false, ◌&&◌, not}
 use mathlib.Core.List.{List}
-use mathlib.Core.Option.{Option, none, some}
+use mathlib.Core.Option.{none, some}
+use mathlib.Core.Option as math
+use Rattle.std.specs.Prelude.{Option, Some, None, Result, Ok, Err}
 use native.Mathlib.Decide.{dec_lt}
 use native.Mathlib.Omega.{arith}
 use borrow.Author.Tests.{le-leb, lt-leb, leb-true, eq-eqb, ne_eqb}
@@ -17,13 +19,9 @@ use Rattle.language.proofs.Tests.{never}
 use Rattle.wide.specs.declared.Wide.{Wide}
 use Rattle.wide.specs.Wide.{value_of, wide_of}
 use Rattle.lexemes.specs.declared.LexErrorKind.{LexErrorKind}
-use Rattle.numerals.specs.declared.Number.{Number}
-use Rattle.numerals.specs.declared.Number.TheVariants.{Value, Wrong}
-use Rattle.numerals.specs.declared.Octet.{Octet}
-use Rattle.numerals.specs.declared.Octet.TheVariants.{Good, Bad}
-use Rattle.numerals.specs.declared.Quad.TheVariants.{Dotted, Not}
+use Rattle.numerals.specs.declared.Quad.{Quad}
 use Rattle.language.specs.Tokens.{between}
-use Rattle.runs.specs.Runs.{run_end}
+use Rattle.classes.specs.Runs.{run_end}
 use Rattle.numerals.specs.Numerals.{number_as, octet_as, Below, joined_as, quad_as}
 use Rattle.numerals.proofs.Digits.{value_wide}
 use Rattle.language.proofs.Parts.{part_size}
@@ -33,15 +31,15 @@ use Rattle.numerals.proofs.Numerals.{zero_between}
 -- ---- a number of a quad
 
 -- what digits that are read come to
-abbrev up_to255 : language.Number → Option ℕ
+abbrev up_to255 : language.Number → math.Option ℕ
 up_to255 (value n) = if' (leb n 255) (some n) none
 up_to255 (wrong e) = none
 
-wrong_case : (r : language.Number) (x : LexErrorKind) → number_as r ≡ Wrong x → Bad ≡ octet_as (up_to255 r)
+wrong_case : (r : language.Number) (x : LexErrorKind) → number_as r ≡ Err x → None ≡ octet_as (up_to255 r)
 wrong_case (value n) x e = never (cc)
 wrong_case (wrong y) x e = refl
 
-value_case : (r : language.Number) (v : Wide) → number_as r ≡ Value v → up_to255 r ≡ if' (leb (value_of v) 255) (some (value_of v)) none
+value_case : (r : language.Number) (v : Wide) → number_as r ≡ Ok v → up_to255 r ≡ if' (leb (value_of v) 255) (some (value_of v)) none
 value_case (value n) v e =
     let w : v ≡ wide_of n = cc in
     let q : value_of v ≡ n = rw w (value_wide n) in
@@ -56,7 +54,7 @@ module _ (s : List ℕ) (at e : ℕ) (h : (at < e) × (e ≡ run_end is_digit s 
   size : length (between s at e) ≡ e - at
   size = part_size s at e part_ends.1
 
-  pub too_long : 3 < e - at → Bad ≡ octet_as (octet (between s at e))
+  pub too_long : 3 < e - at → None ≡ octet_as (octet (between s at e))
   unfolding octet
   too_long l = rw (size, lt-leb (e - at) 3)
 
@@ -65,46 +63,43 @@ module _ (s : List ℕ) (at e : ℕ) (h : (at < e) × (e ≡ run_end is_digit s 
     zero_same : starts_zero (between s at e) ≡ z
     zero_same = zero_between is_digit (λ b i. i) s at e h.1 ∙ sym z-said
 
-    pub zero_first : z ≡ true → Bad ≡ octet_as (octet (between s at e))
+    pub zero_first : z ≡ true → None ≡ octet_as (octet (between s at e))
     unfolding octet
     zero_first t = rw (size, le-leb (e - at) 3, zero_same, t)
 
     -- o is what reading them comes to
-    module _ (f : z ≡ false) (o : Number) (o-said : o ≡ number_as (read_digits 10 0 (between s at e))) where
+    module _ (f : z ≡ false) (o : Result Wide LexErrorKind) (o-said : o ≡ number_as (read_digits 10 0 (between s at e))) where
       read : octet (between s at e) ≡ up_to255 (read_digits 10 0 (between s at e))
       unfolding octet
       read = rw (size, le-leb (e - at) 3, zero_same, f)
 
-      pub not_number : (x : LexErrorKind) → o ≡ Wrong x → Bad ≡ octet_as (octet (between s at e))
+      pub not_number : (x : LexErrorKind) → o ≡ Err x → None ≡ octet_as (octet (between s at e))
       not_number x w = rw read (wrong_case (read_digits 10 0 (between s at e)) x (sym o-said ∙ w))
 
-      module _ (v : Wide) (w : o ≡ Value v) where
+      module _ (v : Wide) (w : o ≡ Ok v) where
         read_value_lem : octet (between s at e) ≡ if' (leb (value_of v) 255) (some (value_of v)) none
         read_value_lem = read ∙ value_case (read_digits 10 0 (between s at e)) v (sym o-said ∙ w)
 
-        pub byte : v.hi ≡ 0 → v.lo ≤ 255 → Good v.lo ≡ octet_as (octet (between s at e))
+        pub byte : v.hi ≡ 0 → v.lo ≤ 255 → Some v.lo ≡ octet_as (octet (between s at e))
         byte a b =
             let q : value_of v ≡ v.lo = omega arith in
             rw (read_value_lem, q, le-leb v.lo 255)
 
-        pub not_byte : 255 < value_of v → Bad ≡ octet_as (octet (between s at e))
+        pub not_byte : 255 < value_of v → None ≡ octet_as (octet (between s at e))
         not_byte l = rw (read_value_lem, lt-leb (value_of v) 255)
 
 -- ---- addresses
 
-pub below : (most : ℕ) (o : Octet) (n : ℕ) → Below most o → o ≡ Good n → n < most
-below most o n b e = rw e at b
+below_le : (m k : ℕ) (o : Option ℕ) → m ≤ k → Below m o → Below k o
+below_le m k (Some n) l b = omega arith
+below_le m k None l b = tt
 
-below_le : (m k : ℕ) (o : Octet) → m ≤ k → Below m o → Below k o
-below_le m k (Good n) l b = omega arith
-below_le m k Bad l b = tt
+below_joined : (m : ℕ) (a n : Option ℕ) → Below m a → Below 256 n → Below (m * 256) (joined_as a n)
+below_joined m (Some a) (Some n) x y = omega arith
+below_joined m (Some a) None x y = tt
+below_joined m None n x y = tt
 
-below_joined : (m : ℕ) (a n : Octet) → Below m a → Below 256 n → Below (m * 256) (joined_as a n)
-below_joined m (Good a) (Good n) x y = omega arith
-below_joined m (Good a) Bad x y = tt
-below_joined m Bad n x y = tt
-
-joined_as_lem : (a n : Option ℕ) → joined_as (octet_as a) (octet_as n) ≡ octet_as (joined a n)
+joined_as_lem : (a n : math.Option ℕ) → joined_as (octet_as a) (octet_as n) ≡ octet_as (joined a n)
 joined_as_lem none n = refl
 joined_as_lem (some a) none = refl
 joined_as_lem (some a) (some n) = refl
@@ -149,12 +144,12 @@ room_most (suc (suc (suc (suc d)))) = omega arith
 -- ---- dots
 
 module _ (t : List ℕ) where
-  no_run : (d : ℕ) (a : Option ℕ) → run is_digit t ≡ 0 → quad_from d a t ≡ not_quad
+  no_run : (d : ℕ) (a : math.Option ℕ) → run is_digit t ≡ 0 → quad_from d a t ≡ not_quad
   unfolding quad_from
   no_run zero a e = rw e
   no_run (suc d) a e = rw e
 
-  module _ (a : Option ℕ) (m : run is_digit t ≡ 0 → ⊥) where
+  module _ (a : math.Option ℕ) (m : run is_digit t ≡ 0 → ⊥) where
     last_run : quad_from 0 a t ≡ quad (run is_digit t) (joined a (octet (take (run is_digit t) t)))
     unfolding quad_from
     last_run = rw (ne_eqb (run is_digit t) 0 m)
@@ -170,10 +165,13 @@ module _ (t : List ℕ) where
       unfolding quad_from
       run_dot n = rw (ne_eqb (run is_digit t) 0 m, eq-eqb (get_or t (run is_digit t) 0) 46 n)
 
+abbrev quad_at : ℕ → Option ℕ → Option Quad
+quad_at e a = Some (record { end = e; address = a })
+
 further_as : (i n m : ℕ) → m ≡ i + suc n → (q : language.Quad) → quad_as i (further (suc n) q) ≡ quad_as m q
 further_as i n m e (quad k a) =
     let p : i + (suc n + k) ≡ m + k = omega arith in
-    ap (λ (x : ℕ). Dotted x (octet_as a)) p
+    ap (λ (x : ℕ). quad_at x (octet_as a)) p
 further_as i n m e not_quad = refl
 
 -- a byte that is not zero stands in the list
@@ -182,8 +180,8 @@ stands s e b h l =
     elim (dec_lt e (length s)) [ yes i ↦ i | no o ↦ absurd (omega (arith, get_or-eq_default s 0 {n = e} (omega arith))) ]
 
 -- i, dots and address of the loop: so many dots are to come from i on, after numbers that give the address
-pub record Dots (s : List ℕ) (at i dots : ℕ) (address : Octet) : Type 0 where
-  pub so_far : Option ℕ
+pub record Dots (s : List ℕ) (at i dots : ℕ) (address : Option ℕ) : Type 0 where
+  pub so_far : math.Option ℕ
   pub said : address ≡ octet_as so_far
   pub inside : i ≤ length s
   pub room : Below (room_of dots) address
@@ -192,12 +190,12 @@ pub record Dots (s : List ℕ) (at i dots : ℕ) (address : Octet) : Type 0 wher
 pub earlier : (n : ℕ) → (n ≡ 0 → ⊥) → n ≡ suc (n - 1)
 earlier n z = omega arith
 
-pub start : (s : List ℕ) (at : ℕ) → at < length s → Dots s at at 3 (Good 0)
+pub start : (s : List ℕ) (at : ℕ) → at < length s → Dots s at at 3 (Some 0)
 start s at h = record { so_far = some 0; said = refl; inside = omega arith; room = omega arith; same = refl }
 
 -- e is where the digits from i on end
-module _ {s : List ℕ} {at i dots : ℕ} {address : Octet} (q : Dots s at i dots address) (e : ℕ) (k : e ≡ run_end is_digit s i) where
-  pub no_digits : e ≡ i → Not ≡ quad_as at (quad_from 3 (some 0) (drop at s))
+module _ {s : List ℕ} {at i dots : ℕ} {address : Option ℕ} (q : Dots s at i dots address) (e : ℕ) (k : e ≡ run_end is_digit s i) where
+  pub no_digits : e ≡ i → None ≡ quad_as at (quad_from 3 (some 0) (drop at s))
   unfolding run_end
   no_digits z =
       let n : run is_digit (drop i s) ≡ 0 = omega arith in
@@ -224,19 +222,19 @@ module _ {s : List ℕ} {at i dots : ℕ} {address : Octet} (q : Dots s at i dot
       byte_after : get_or (drop i s) (run is_digit (drop i s)) 0 ≡ b
       byte_after = rw (get_or-drop, place) (sym b-said)
 
-      pub no_dot : (b ≡ 46 → ⊥) → Not ≡ quad_as at (quad_from 3 (some 0) (drop at s))
+      pub no_dot : (b ≡ 46 → ⊥) → None ≡ quad_as at (quad_from 3 (some 0) (drop at s))
       no_dot n = rw (← q.same, more, run_no_dot (drop i s) q.so_far some_run d (λ z. n (sym byte_after ∙ z)))
 
     -- n is their number, and a the address with it
-    module _ (n : Octet) (n-said : n ≡ octet_as (octet (between s i e))) where
+    module _ (n : Option ℕ) (n-said : n ≡ octet_as (octet (between s i e))) where
       pub fits : Below 16777216 address × Below 256 n
       fits = (below_le (room_of dots) 16777216 address (room_most dots) q.room, rw n-said (octet_below (between s i e)))
 
-      module _ (a : Octet) (a-said : a ≡ joined_as address n) where
+      module _ (a : Option ℕ) (a-said : a ≡ joined_as address n) where
         joined_now : octet_as (joined q.so_far (octet (take (run is_digit (drop i s)) (drop i s)))) ≡ a
         joined_now = rw (← run_between is_digit s i e k, a-said, q.said, n-said) (sym (joined_as_lem q.so_far (octet (between s i e))))
 
-        pub whole : dots ≡ 0 → Dotted e a ≡ quad_as at (quad_from 3 (some 0) (drop at s))
+        pub whole : dots ≡ 0 → quad_at e a ≡ quad_as at (quad_from 3 (some 0) (drop at s))
         whole z = rw (← q.same, z, last_run (drop i s) q.so_far some_run, joined_now, place)
 
         module _ (d : ℕ) (more : dots ≡ suc d) (b : ℕ) (b-said : b ≡ get_or s e 0) where

@@ -1,113 +1,74 @@
 -- What the code's answers mean: from an answer that meets an outcome to the outcome, and back; and how far the code went.
-use mathlib.Core.Path.{◌≡◌, refl}
+use mathlib.Core.Path.{◌≡◌}
 use mathlib.Core.List.{List}
-use Prim.Native.Nat.{ℕ, ◌+◌, ◌*◌, ◌≤◌, ◌<◌}
+use Prim.Native.Nat.{ℕ, ◌+◌, ◌*◌, ◌≤◌}
 use native.Mathlib.Omega.{arith}
 use lib.ListN.{length}
-use Rattle.language.specs.Tables.{token_width}
-use Rattle.language.specs.Sentences.{Expr, Args, Stmt, Out, ok, no, Node, nodes_from}
-use Rattle.language.proofs.Tests.{never}
-use Rattle.parse.specs.Parsing.{Holds, with_stmt, Stands, Lists, MetExpr, MetArgs, MetStmt, MetAll, Ahead, AheadList}
+use Rattle.std.specs.Prelude.{Option, Some, None, Result, Ok, Err, IsErrAnd}
+use Rattle.std.proofs.lemmas.Result.{err_from_is_err_and}
+use Rattle.language.specs.Sentences.{Expr, Args, Stmt, Out, ok, Node, nodes_from}
+use Rattle.parse.specs.Parsing.{row_plus, place_of, no_of, Holds, with_stmt, Stands, Lists, MetExpr, MetArgs, MetStmt, MetAll, Ahead}
+use Rattle.parse.specs.declared.ParseError.{ParseError}
 use Rattle.parse.specs.declared.Parsed.{Parsed}
-use Rattle.parse.specs.declared.Parsed.TheVariants.{Done, Refused}
 use Rattle.parse.specs.declared.Listed.{Listed}
-use Rattle.parse.specs.declared.Listed.TheVariants as listed
+
+-- what the exit of a `?` hands on
+pub handed : {A : Type 0} {r : Result A ParseError} {x : ParseError} → IsErrAnd r (λ y. y ≡ x) → r ≡ Err x
+handed {r = r} h = let p = err_from_is_err_and r h in cc (p.1, p.2)
 
 -- ---- expressions
 
-standing : {t : List ℕ} {ns : List Node} {e : Expr} {m n first : ℕ} → m ≡ n → Stands t ns e m first → Stands t ns e n first
-standing q h = rw q at h
+module _ {t : List ℕ} {ns : List Node} {first : ℕ} {o : Out Expr} where
+  pub met_ok : {p : Parsed} {e : Expr} → o ≡ ok e p.next p.steps → Stands t ns e p.nodes first → MetExpr (Ok p) t ns first o
+  met_ok {e = e} f h = record { met = (e, f, h) }
 
-module _ {r : Parsed} {t : List ℕ} {ns : List Node} {first : ℕ} where
-  pub done : {o : Out Expr} {next n s : ℕ} → r ≡ Done next n s → MetExpr r t ns first o → (e : Expr) × (o ≡ ok e next s) × Stands t ns e n first
-  done {o = ok e at x} {n = n} q h = let d = h.met in let p : r ≡ Done at d.0 x = d.1 in let same : d.0 ≡ n = cc in (e, (cc), standing same d.2)
-  done {o = no m k a} q h = let p = h.met in never (cc)
-
-  pub refused : {o : Out Expr} {n k a : ℕ} → r ≡ Refused n k a → MetExpr r t ns first o → o ≡ no n k a
-  refused {o = ok e at s} q h = let p = h.met.1 in never (cc)
-  refused {o = no m j b} q h = let p = h.met in cc
-
-  pub met_ok : {o : Out Expr} {e : Expr} {at n s : ℕ} → r ≡ Done at n s → o ≡ ok e at s → Stands t ns e n first → MetExpr r t ns first o
-  met_ok {n = n} p q h = record { met = rw q (n, p, h) }
-
-  pub met_no : {o : Out Expr} {n k a : ℕ} → r ≡ Refused n k a → o ≡ no n k a → MetExpr r t ns first o
-  met_no p q = record { met = rw q p }
+  pub met_no : {r : Result Parsed ParseError} {x : ParseError} → r ≡ Err x → o ≡ no_of x → MetExpr r t ns first o
+  met_no q f = record { met = rw q f }
 
   -- the definition gives the same
-  pub met_by : {o o' : Out Expr} → o ≡ o' → MetExpr r t ns first o' → MetExpr r t ns first o
+  pub met_by : {r : Result Parsed ParseError} {o' : Out Expr} → o ≡ o' → MetExpr r t ns first o' → MetExpr r t ns first o
   met_by e h = rw e h
 
 -- ---- arguments
 
-listing : {t : List ℕ} {ns : List Node} {g : Args} {m n first start : ℕ} → m ≡ n → first ≡ start → Lists t ns g m first → Lists t ns g n start
-listing p q h = rw (p, q) at h
+pub no_row : {first : Option ℕ} → first ≡ None → row_plus first ≡ 0
+no_row e = rw e
 
-module _ {r : Listed} {t : List ℕ} {ns : List Node} where
-  pub list_done : {o : Out Args} {next n first : ℕ} → r ≡ listed.Done next n first → MetArgs r t ns o → (g : Args) × (s : ℕ) × (o ≡ ok g next s) × Lists t ns g n first
-  list_done {o = ok g at x} {n = n} {first} q h =
-      let d = h.met in
-      let p : r ≡ listed.Done at d.0 d.1 = d.2 in
-      let same : d.0 ≡ n = cc in
-      let start : d.1 ≡ first = cc in
-      (g, x, (cc), listing same start d.3)
-  list_done {o = no m k a} q h = let p = h.met in never (cc)
+pub a_row : {first : Option ℕ} {row : ℕ} → first ≡ Some row → row_plus first ≡ row + 1
+a_row e = rw e
 
-  pub list_refused : {o : Out Args} {n k a : ℕ} → r ≡ listed.Refused n k a → MetArgs r t ns o → o ≡ no n k a
-  list_refused {o = ok e at s} q h = let p = h.met.2 in never (cc)
-  list_refused {o = no m j b} q h = let p = h.met in cc
+module _ {t : List ℕ} {ns : List Node} {o : Out Args} where
+  pub list_ok : {p : Listed} {g : Args} {s : ℕ} → o ≡ ok g p.next s → Lists t ns g p.nodes (row_plus p.first) → MetArgs (Ok p) t ns o
+  list_ok {g = g} {s} f h = record { met = (g, s, f, h) }
 
-pub list_ok : {t : List ℕ} {ns : List Node} {o : Out Args} {g : Args} {at n first s : ℕ} → o ≡ ok g at s → Lists t ns g n first → MetArgs (listed.Done at n first) t ns o
-list_ok {n = n} {first} q h = record { met = rw q (n, first, refl, h) }
-
-pub list_no : {t : List ℕ} {ns : List Node} {o : Out Args} {n k a : ℕ} → o ≡ no n k a → MetArgs (listed.Refused n k a) t ns o
-list_no q = record { met = rw q refl }
+  pub list_no : {r : Result Listed ParseError} {x : ParseError} → r ≡ Err x → o ≡ no_of x → MetArgs r t ns o
+  list_no q f = record { met = rw q f }
 
 -- ---- statements
 
-module _ {r : Parsed} {t : List ℕ} {ns : List Node} where
-  pub stmt_ok : {o : Out Stmt} {x : Stmt} {at n : ℕ} → r ≡ Done at n 0 → o ≡ ok x at 0 → length (with_stmt ns x) ≡ n → Holds t (with_stmt ns x) → MetStmt r t ns o
-  stmt_ok p q l h = record { met = rw q (rw l p, h) }
+module _ {t : List ℕ} {ns : List Node} {o : Out Stmt} where
+  pub stmt_ok : {p : Parsed} {s : Stmt} {x : ℕ} → p.steps ≡ 0 → o ≡ ok s p.next x → length (with_stmt ns s) ≡ p.nodes → Holds t (with_stmt ns s) → MetStmt (Ok p) t ns o
+  stmt_ok {s = s} {x} z f l h = record { met = (s, x, f, l, z, h) }
 
-  pub stmt_no : {o : Out Stmt} {n k a : ℕ} → r ≡ Refused n k a → o ≡ no n k a → MetStmt r t ns o
-  stmt_no p q = record { met = rw q p }
+  pub stmt_no : {r : Result Parsed ParseError} {x : ParseError} → r ≡ Err x → o ≡ no_of x → MetStmt r t ns o
+  stmt_no q f = record { met = rw q f }
 
-  pub stmt_by : {o o' : Out Stmt} → o ≡ o' → MetStmt r t ns o' → MetStmt r t ns o
+  pub stmt_by : {r : Result Parsed ParseError} {o' : Out Stmt} → o ≡ o' → MetStmt r t ns o' → MetStmt r t ns o
   stmt_by e h = rw e h
 
-  pub stmt_done : {o : Out Stmt} {next n s : ℕ} → r ≡ Done next n s → MetStmt r t ns o → (x : Stmt) × (y : ℕ) × (o ≡ ok x next y) × (length (with_stmt ns x) ≡ n) × Holds t (with_stmt ns x)
-  stmt_done {o = ok x at y} q h = let p = h.met.0 in (x, y, (cc), (cc), h.met.1)
-  stmt_done {o = no m k a} q h = let p = h.met in never (cc)
+module _ {t : List ℕ} {o : Out (List Stmt)} where
+  pub all_ok : {p : Parsed} {ss : List Stmt} {x : ℕ} → p.steps ≡ 0 → o ≡ ok ss p.next x → length (nodes_from 0 ss) ≡ p.nodes → Holds t (nodes_from 0 ss) → MetAll (Ok p) t o
+  all_ok {ss = ss} {x} z f l h = record { met = (ss, x, f, l, z, h) }
 
-  pub stmt_refused : {o : Out Stmt} {n k a : ℕ} → r ≡ Refused n k a → MetStmt r t ns o → o ≡ no n k a
-  stmt_refused {o = ok e at s} q h = let p = h.met.0 in never (cc)
-  stmt_refused {o = no m j b} q h = let p = h.met in cc
-
-pub all_ok : {t : List ℕ} {o : Out (List Stmt)} {ss : List Stmt} {at n s : ℕ} → o ≡ ok ss at s → length (nodes_from 0 ss) ≡ n → Holds t (nodes_from 0 ss) → MetAll (Done at n 0) t o
-all_ok q l h = record { met = rw q (rw l refl, h) }
-
-pub all_no : {t : List ℕ} {o : Out (List Stmt)} {n k a : ℕ} → o ≡ no n k a → MetAll (Refused n k a) t o
-all_no q = record { met = rw q refl }
+  pub all_no : {r : Result Parsed ParseError} {x : ParseError} → r ≡ Err x → o ≡ no_of x → MetAll r t o
+  all_no q f = record { met = rw q f }
 
 -- ---- how far the code went
 
-module _ {r : Parsed} {d len at count steps : ℕ} where
-  pub ahead : {next n s : ℕ} → r ≡ Done next n s → Ahead d len at count steps r → (at + d ≤ next) × (token_width * next ≤ len) × (count + d ≤ n) × (n + 2 * at ≤ count + 2 * next) × (s ≤ steps)
-  ahead e h = rw e at h.on
-
-  pub ahead_place : {n k a : ℕ} → r ≡ Refused n k a → Ahead d len at count steps r → a ≤ len + 3
-  ahead_place e h = rw e at h.on
-
-  pub ahead_no : {n k a : ℕ} → r ≡ Refused n k a → a ≤ len + 3 → Ahead d len at count steps r
-  ahead_no e h = record { on = rw e h }
+pub ahead_no : {r : Result Parsed ParseError} {x : ParseError} {d len at count steps : ℕ} → r ≡ Err x → place_of x ≤ len + 3 → Ahead d len at count steps r
+ahead_no e h = record { on = rw e h }
 
 -- a part and another after it
-pub ahead_more : {r : Parsed} {d x len at count steps next n s : ℕ} → at + d ≤ next → count + d ≤ n + x → n + 2 * at ≤ count + 2 * next → s ≤ steps → Ahead x len next n s r → Ahead d len at count steps r
-ahead_more {r = Done m k j} p q u v h = record { on = omega (arith, h.on) }
-ahead_more {r = Refused m k a} p q u v h = record { on = h.on }
-
-module _ {r : Listed} {d len at count : ℕ} where
-  pub ahead_list : {next n first : ℕ} → r ≡ listed.Done next n first → AheadList d len at count r → (at + d < next) × (token_width * next ≤ len) × (count ≤ n) × (n + 2 * at + d ≤ count + 2 * next) × (first ≤ n)
-  ahead_list e h = rw e at h.on
-
-  pub ahead_list_place : {n k a : ℕ} → r ≡ listed.Refused n k a → AheadList d len at count r → a ≤ len + 3
-  ahead_list_place e h = rw e at h.on
+pub ahead_more : {r : Result Parsed ParseError} {d x len at count steps next n s : ℕ} → at + d ≤ next → count + d ≤ n + x → n + 2 * at ≤ count + 2 * next → s ≤ steps → Ahead x len next n s r → Ahead d len at count steps r
+ahead_more {r = Ok p} a b u v h = record { on = omega (arith, h.on) }
+ahead_more {r = Err y} a b u v h = record { on = h.on }

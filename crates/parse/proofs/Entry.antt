@@ -5,36 +5,40 @@ use mathlib.Core.List.{List, []}
 use mathlib.Core.Logic.{◌⊎◌, inl, inr}
 use Prim.Native.Nat.{ℕ, ◌*◌, ◌/◌, ◌≤◌, ◌<◌}
 use native.Mathlib.Omega.{arith}
-use borrow.Author.Tests.{ne_eqb, lt-ltb, le-ltb}
+use borrow.Author.Tests.{lt-ltb, le-ltb}
 use lib.Dec.{eqb}
 use lib.ListN.{length, take}
-use Rattle.table.specs.Table.{pad_to, tabled}
+use Rattle.table.specs.Table.{pad_to}
 use Rattle.table.proofs.Laws.{length_pad, tabled_none, tabled_own}
 use Rattle.language.specs.Tables.{token_row, token_width}
 use Rattle.language.specs.Tokens.{contents, tokens}
-use Rattle.language.specs.Sentences.{Stmt, Out, ok, program, nodes, node_row, node_width}
-use Rattle.language.specs.Sentences as sentences
+use Rattle.language.specs.Sentences.{Stmt, Out, program, nodes, node_row, node_width}
 use Rattle.language.specs.Numbers as numbers
 use Rattle.language.specs.Numbers.{verdict, lex_answer, parsed, token_place, parse_answer, parse_tokens, parse_nodes}
-use Rattle.language.proofs.Tests.{never}
 use Rattle.rows.specs.declared.verdict.Verdict.{Verdict}
 use Rattle.rows.specs.Rows.{verdict_as}
 use Rattle.lex.specs.declared.Lexed.{Lexed}
 use Rattle.lex.specs.Entry.{LexSource}
 use Rattle.lex.proofs.Left.{verdict_is, not_done, no_tokens, table_size, lexes}
+use Rattle.std.specs.Prelude.{Result, Ok, Err}
+use Rattle.parse.specs.declared.ParseError.{ParseError}
+use Rattle.parse.specs.declared.ParseError.TheVariants.{UnexpectedToken, IntOutOfRange, TooDeep}
 use Rattle.parse.specs.declared.Parsed.{Parsed}
-use Rattle.parse.specs.declared.Parsed.TheVariants.{Done, Refused}
 use Rattle.parse.specs.declared.ParseAnswer.{ParseAnswer}
-use Rattle.parse.specs.Parsing.{Rep, Holds, MetAll, verdict_at}
-use Rattle.parse.specs.Entry.{refusal, GivesUp, Lexes, ParseSource}
+use Rattle.parse.specs.Parsing.{number_of, kind_of, place_of, no_of, Rep, Holds, MetAll, verdict_at}
+use Rattle.parse.specs.Entry.{refusal, GivesUp, Lexes, Trees, ParseSource}
 use Rattle.parse.proofs.TokenRows.{few_tokens, part_rep, place_at}
 use Rattle.language.proofs.TokensAt.{some_token}
-use Rattle.language.proofs.SentenceRefusals.{refused_number}
 
 -- the number of a refusal is not 0, which is "done"
 pub not_zero : {n : ℕ} → (n ≡ 5) ⊎ (n ≡ 7) → n ≡ 0 → ⊥
 not_zero (inl e) z = omega arith
 not_zero (inr e) z = omega arith
+
+some_number : (x : ParseError) → eqb (number_of x) 0 ≡ false
+some_number (UnexpectedToken at) = refl
+some_number (IntOutOfRange at) = refl
+some_number (TooDeep at) = refl
 
 -- ---- what lexing leaves where its number is 0
 
@@ -77,16 +81,6 @@ module _ (s : List ℕ) (t n : ℕ) where
 
 -- ---- tokens that were parsed
 
-module _ {r : Parsed} {t : List ℕ} where
-  all_refused : {o : Out (List Stmt)} {n k a : ℕ} → r ≡ Refused n k a → MetAll r t o → o ≡ sentences.no n k a
-  all_refused {o = ok ss at s} q h = let p = h.met.0 in never (cc)
-  all_refused {o = sentences.no m j b} q h = let p = h.met in cc
-
-  all_done : {o : Out (List Stmt)} {next n x : ℕ} → r ≡ Done next n x → MetAll r t o
-      → (ss : List Stmt) × (y : ℕ) × (o ≡ ok ss next y) × (length (nodes ss) ≡ n) × Holds t (nodes ss)
-  all_done {o = ok ss at y} q h = let p = h.met.0 in (ss, y, (cc), (cc), h.met.1)
-  all_done {o = sentences.no m k a} q h = let p = h.met in never (cc)
-
 module _ {s toks : List ℕ} {count : ℕ} (l : Lexes s toks count) where
   -- what the parser reads of them
   pub rep_of : token_width * count ≤ length toks → Rep (take (token_width * count) toks) (contents (tokens s))
@@ -96,40 +90,46 @@ module _ {s toks : List ℕ} {count : ℕ} (l : Lexes s toks count) where
   unfolding parse_answer
   answer_is n e = rw (l.answer, e)
 
-  accepted_as : (n : ℕ) {ss : List Stmt} {next k y : ℕ} {b : List ℕ} {w : Verdict} {r : ParseAnswer}
-      → program (contents (tokens s)) ≡ ok ss next y → length (nodes ss) ≡ k → k ≤ n / node_width → b ≡ tabled node_row node_width n (nodes ss)
-      → w ≡ verdict_as (verdict 0 0 0) → r ≡ record { verdict = w; tokens = count; nodes = k } → ParseSource s (length toks) n r toks b
-  unfolding parse_tokens parse_nodes
-  accepted_as n {k = k} e c h u d f =
-      let a : parse_answer s (length toks / token_width) (n / node_width) ≡ parsed (verdict 0 0 0) count k = answer_is (n / node_width) e ∙ rw (c, le-ltb _ _ h) in
-      record {
-        answer = f ∙ rw (a, d);
-        tokens = l.table ∙ rw a;
-        nodes = u ∙ rw (a, e);
-      }
-
-  module _ {n : ℕ} {p : Parsed} {b : List ℕ} (m : MetAll p b (program (contents (tokens s)))) (u : length b ≡ n) where
+  module _ (n : ℕ) {r : Result ℕ Verdict} {p : Result Parsed ParseError} {b : List ℕ} (m : MetAll p b (program (contents (tokens s)))) where
     -- 5 or 7, at a token
-    pub at_place : {number kind at : ℕ} {w : Verdict} {r : ParseAnswer} {x y : List ℕ} → token_width * count ≤ length toks → p ≡ Refused number kind at
-        → w ≡ verdict_at toks count number kind at → GivesUp w (length toks) (length b) r x y → ParseSource s (length toks) n r x y
-    at_place {number} {kind} {at} h q d g =
-        let e = all_refused q m in
-        let c = refused_number (contents (tokens s)) number kind at e in
-        gave_up s (length toks) n (record { number = number; kind = kind; line = (token_place s at).line; column = (token_place s at).column; character = 0 })
-        (answer_is (n / node_width) e) (ne_eqb _ _ (not_zero c))
-        (d ∙ place_at s (length toks) number kind (omega (arith, l.counted)) at l.table l.counted) (rw u at g)
+    pub at_place : {x : ParseError} {w : Verdict} → token_width * count ≤ length toks → p ≡ Err x
+        → w ≡ verdict_at toks count (number_of x) (kind_of x) (place_of x) → r ≡ Err w → Trees s (length toks) n r b
+    at_place {x} h q d g =
+        let e : program (contents (tokens s)) ≡ no_of x = rw q at m.met in
+        let at = place_of x in
+        record {
+          met = rw g (
+            record { number = number_of x; kind = kind_of x; line = (token_place s at).line; column = (token_place s at).column; character = 0 },
+            answer_is (n / node_width) e,
+            some_number x,
+            d ∙ place_at s (length toks) (number_of x) (kind_of x) (omega (arith, l.counted)) at l.table l.counted,
+          );
+        }
 
-    module _ {next k x : ℕ} (q : p ≡ Done next k x) where
+    module _ {y : Parsed} (q : p ≡ Ok y) where
       -- 6
-      pub too_many_lem : {w : Verdict} {r : ParseAnswer} {y z : List ℕ} → n / node_width < k → w ≡ verdict_as (verdict 6 0 0)
-          → GivesUp w (length toks) (length b) r y z → ParseSource s (length toks) n r y z
+      pub too_many_lem : {w : Verdict} → n / node_width < y.nodes → w ≡ verdict_as (verdict 6 0 0) → r ≡ Err w → Trees s (length toks) n r b
       too_many_lem h d g =
-          let e = all_done q m in
-          gave_up s (length toks) n (verdict 6 0 0) (answer_is (n / node_width) e.2 ∙ rw (e.3, lt-ltb _ _ h)) refl d (rw u at g)
+          let e = rw q at m.met in
+          record { met = rw g (verdict 6 0 0, answer_is (n / node_width) e.2 ∙ rw (e.3, lt-ltb _ _ h), refl, d) }
 
       -- done
-      pub accepted : {w : Verdict} {r : ParseAnswer} → k ≤ n / node_width → w ≡ verdict_as (verdict 0 0 0)
-          → r ≡ record { verdict = w; tokens = count; nodes = k } → ParseSource s (length toks) n r toks b
-      accepted h d f =
-          let e = all_done q m in
-          accepted_as n e.2 e.3 h (tabled_own node_row node_width (length b) n (nodes e.0) e.4.rows u) d f
+      pub accepted : y.nodes ≤ n / node_width → r ≡ Ok y.nodes → Trees s (length toks) n r b
+      accepted h g = let e = rw q at m.met in record { met = rw g (e.0, y.next, e.1, e.2, e.3, h, e.5) }
+
+  module _ {n : ℕ} {p : Result ℕ Verdict} {b : List ℕ} (m : Trees s (length toks) n p b) (u : length b ≡ n) where
+    pub refused_as : {w : Verdict} {r : ParseAnswer} {x y : List ℕ} → p ≡ Err w → GivesUp w (length toks) (length b) r x y
+        → ParseSource s (length toks) n r x y
+    refused_as q g = let e = rw q at m.met in gave_up s (length toks) n e.0 e.1 e.2 e.3 (rw u at g)
+
+    pub parsed_whole : {k : ℕ} {w : Verdict} {r : ParseAnswer} → p ≡ Ok k → w ≡ verdict_as (verdict 0 0 0)
+        → r ≡ record { verdict = w; tokens = count; nodes = k } → ParseSource s (length toks) n r toks b
+    unfolding parse_tokens parse_nodes
+    parsed_whole {k} q d f =
+        let e = rw q at m.met in
+        let a : parse_answer s (length toks / token_width) (n / node_width) ≡ parsed (verdict 0 0 0) count k = answer_is (n / node_width) e.3 ∙ rw (e.4, le-ltb _ _ e.5) in
+        record {
+          answer = f ∙ rw (a, d);
+          tokens = l.table ∙ rw a;
+          nodes = tabled_own node_row node_width (length b) n (nodes e.0) e.6.rows u ∙ rw (a, e.3);
+        }

@@ -2,6 +2,7 @@
 use mathlib.Core.Path.{◌≡◌, refl, sym, ap, ◌∙◌}
 use mathlib.Core.Bool.{Bool, true, false, not}
 use mathlib.Core.List.{List, [], ◌∷◌}
+use mathlib.Core.Logic.{◌⊎◌, inl, inr}
 use Prim.Native.Nat.{ℕ, suc, ◌+◌, ◌*◌, ◌≤◌, ◌<◌}
 use native.Mathlib.Omega.{arith}
 use native.Mathlib.Decide.{dec_le}
@@ -12,7 +13,7 @@ use Rattle.wide.specs.declared.Wide.{Wide}
 use Rattle.language.specs.Tables.{content_kind, token_width}
 use Rattle.language.specs.Tokens.{Content, eof}
 use Rattle.language.specs.Sentences.{Port, port, too_large, not_port}
-use Rattle.parse.specs.Parsing.{literal_kind, port_as, port_of_tok, port_at, is_named, arg_kind, value_from, Rep}
+use Rattle.parse.specs.Parsing.{literal_kind, port_as, place_of, port_of_tok, port_at, is_named, arg_kind, value_from, Rep}
 use Rattle.language.proofs.Tests.{never, of_each}
 use Rattle.rows.specs.declared.token.Tok.{Tok}
 use Rattle.rows.specs.declared.token.Tok.TheVariants.{DecLiteral}
@@ -22,7 +23,9 @@ use Rattle.rows.proofs.Toks.{kind_past, tok_past}
 use Rattle.rows.proofs.Plain.{number_tag}
 use types.Run.{OneOf}
 use denote.Enum.Declared.{tag_of}
-use Rattle.parse.specs.declared.PortIs.TheVariants.{Good, TooLarge, NotPort}
+use Rattle.std.specs.Prelude.{Ok, Err}
+use Rattle.parse.specs.declared.ParseError.{ParseError}
+use Rattle.parse.specs.declared.ParseError.TheVariants.{UnexpectedToken, IntOutOfRange}
 
 -- ---- kinds
 
@@ -40,6 +43,9 @@ module _ (toks : List ℕ) (at : ℕ) where
     | yes h ↦ h
     | no h ↦ let one = kind_past toks at (omega arith) in absurd (omega (arith, one, e))
   ]
+
+  pub eof_or_row : (kind_at toks at ≡ 1) ⊎ (token_width * at + token_width ≤ length toks)
+  eof_or_row = elim (dec_le (token_width * at + token_width) (length toks)) [ yes h ↦ inr h | no h ↦ inl (sym (kind_past toks at (omega arith))) ]
 
   pub row_of : (kind_at toks at ≡ 1 → ⊥) → token_width * at + token_width ≤ length toks
   row_of some = elim (dec_le (token_width * at + token_width) (length toks)) [ yes h ↦ h | no h ↦ absurd (some (sym (kind_past toks at (omega arith)))) ]
@@ -77,37 +83,32 @@ module _ {t : Tok} (toks : List ℕ) (at : ℕ) (e : t ≡ tok_at toks at) where
   unfolding port_at
   port_at_lem = rw e
 
-  pub port_not : OneOf others (tag_of tok.the_type t) → NotPort ≡ port_as (port_at toks at)
-  port_not h = ap port_as (sym (other_port t h) ∙ port_at_lem)
+  pub port_not : OneOf others (tag_of tok.the_type t) → Err (UnexpectedToken at) ≡ port_as at (port_at toks at)
+  port_not h = ap (port_as at) (sym (other_port t h) ∙ port_at_lem)
 
   module _ (v : Wide) (q : t ≡ DecLiteral v) where
-    pub port_good : v.hi ≡ 0 → v.lo ≤ 65535 → Good ≡ port_as (port_at toks at)
+    pub port_good : v.hi ≡ 0 → v.lo ≤ 65535 → Ok tt ≡ port_as at (port_at toks at)
     unfolding port_of_tok
     port_good z h = rw (← port_at_lem, q) (rw (eq-eqb _ _ z, le-leb _ _ h) refl)
 
-    pub port_large : v.hi ≡ 0 → 65535 < v.lo → TooLarge ≡ port_as (port_at toks at)
+    pub port_large : v.hi ≡ 0 → 65535 < v.lo → Err (IntOutOfRange at) ≡ port_as at (port_at toks at)
     unfolding port_of_tok
     port_large z h = rw (← port_at_lem, q) (rw (eq-eqb _ _ z, lt-leb _ _ h) refl)
 
-    pub port_huge : (v.hi ≡ 0 → ⊥) → TooLarge ≡ port_as (port_at toks at)
+    pub port_huge : (v.hi ≡ 0 → ⊥) → Err (IntOutOfRange at) ≡ port_as at (port_at toks at)
     unfolding port_of_tok
     port_huge z = rw (← port_at_lem, q) (rw (ne_eqb _ _ z) refl)
 
 -- what the code's answer says of the port
-pub is_good : (p : Port) → Good ≡ port_as p → p ≡ port
-is_good port e = refl
-is_good too_large e = never (cc)
-is_good not_port e = never (cc)
+pub is_good : (at : ℕ) (p : Port) → Ok tt ≡ port_as at p → p ≡ port
+is_good at port e = refl
+is_good at too_large e = never (cc)
+is_good at not_port e = never (cc)
 
-pub is_large : (p : Port) → TooLarge ≡ port_as p → p ≡ too_large
-is_large port e = never (cc)
-is_large too_large e = refl
-is_large not_port e = never (cc)
-
-pub is_not : (p : Port) → NotPort ≡ port_as p → p ≡ not_port
-is_not port e = never (cc)
-is_not too_large e = never (cc)
-is_not not_port e = refl
+pub port_place : (at : ℕ) (p : Port) (x : ParseError) → Err x ≡ port_as at p → place_of x ≡ at
+port_place at port x e = never (cc)
+port_place at too_large x e = let q : x ≡ IntOutOfRange at = cc in rw q
+port_place at not_port x e = let q : x ≡ UnexpectedToken at = cc in rw q
 
 -- a port has a row
 pub port_inside : (toks : List ℕ) (at : ℕ) → port_at toks at ≡ port → token_width * at + token_width ≤ length toks

@@ -10,9 +10,13 @@ use lib.ListN.{length, get_or}
 use Rattle.language.specs.Choice.{if'}
 use Rattle.language.specs.Tables.{content_kind, token_width}
 use Rattle.language.specs.Tokens.{Content, eof}
-use Rattle.language.specs.Sentences.{Expr, literal, sock4, local, path, member, call, slash', Args, none_given, given, named, Stmt, import', let', expr', port, too_large, not_port, Out, ok, no, and_then, most_steps, most_lists, names_from, address, named', primary, links, chain_of, slashes, expr_of, arg_of, args_of, list_at, expr_at, ended, import_at, let_at, stmt_at, stmts_from, program}
+use Rattle.language.specs.Sentences.{Expr, literal, sock4, local, path, member, call, slash', Args, none_given, given, named, Stmt, import', let', expr', Port, port, too_large, not_port, Out, ok, no, and_then, most_steps, most_lists, names_from, address, named', primary, links, chain_of, slashes, expr_of, arg_of, args_of, list_at, expr_at, ended, import_at, let_at, stmt_at, stmts_from, program}
 use Rattle.rows.specs.Tokens.{kind_at}
-use Rattle.parse.specs.Parsing.{literal_kind, port_at, is_named, value_from, with_arg, expr_stmt, Rep}
+use Rattle.parse.specs.Parsing.{no_of, literal_kind, port_as, port_at, is_named, value_from, with_arg, expr_stmt, Rep}
+use Rattle.std.specs.Prelude.{Err}
+use Rattle.language.proofs.Tests.{never}
+use Rattle.parse.specs.declared.ParseError.{ParseError}
+use Rattle.parse.specs.declared.ParseError.TheVariants.{UnexpectedToken, IntOutOfRange}
 use Rattle.parse.proofs.Looks.{inside, kind_is, is_true, is_false}
 
 -- a path whose names after the first are still to be read, n of them read
@@ -53,13 +57,21 @@ module _ {toks : List ℕ} {ts : List Content} (rep : Rep toks ts) where
       unfolding address
       address_port p = rw (is_true toks (at + 1) rep 6 is6, address) (rw (sym (rep.ports (at + 2)) ∙ p) refl)
 
-      pub address_large : port_at toks (at + 2) ≡ too_large → address ts at s ≡ no 5 2 (at + 2)
+      address_large : port_at toks (at + 2) ≡ too_large → address ts at s ≡ no 5 2 (at + 2)
       unfolding address
       address_large p = rw (is_true toks (at + 1) rep 6 is6, address) (rw (sym (rep.ports (at + 2)) ∙ p) refl)
 
-      pub address_bad : port_at toks (at + 2) ≡ not_port → address ts at s ≡ no 5 1 (at + 2)
+      address_bad : port_at toks (at + 2) ≡ not_port → address ts at s ≡ no 5 1 (at + 2)
       unfolding address
       address_bad p = rw (is_true toks (at + 1) rep 6 is6, address) (rw (sym (rep.ports (at + 2)) ∙ p) refl)
+
+      pub address_refused : (x : ParseError) → Err x ≡ port_as (at + 2) (port_at toks (at + 2)) → address ts at s ≡ no_of x
+      address_refused x e = go (port_at toks (at + 2)) refl
+        where
+          go : (p : Port) → port_at toks (at + 2) ≡ p → address ts at s ≡ no_of x
+          go port q = let f : Err x ≡ port_as (at + 2) port = rw q at e in never (cc)
+          go too_large q = let f : Err x ≡ port_as (at + 2) too_large = rw q at e in let g : x ≡ IntOutOfRange (at + 2) = cc in rw g (address_large q)
+          go not_port q = let f : Err x ≡ port_as (at + 2) not_port = rw q at e in let g : x ≡ UnexpectedToken (at + 2) = cc in rw g (address_bad q)
 
     -- ---- primaries
     pub primary_literal : literal_kind (kind_at toks at) ≡ true → primary ts at s ≡ ok (literal at) (at + 1) s

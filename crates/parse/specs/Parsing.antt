@@ -1,5 +1,5 @@
 -- How the parser's tables and answers stand for contents and trees.
-use Rattle.std.specs.Prelude.{ℕ, ◌+◌, ◌*◌, ◌≤◌, ◌<◌, ◌-◌, ◌≡◌, Bool, ◌&&◌, ◌||◌, List, [], ◌∷◌, ◌++◌, eqb, leb, ltb, length, get_or}
+use Rattle.std.specs.Prelude.{ℕ, ◌+◌, ◌*◌, ◌≤◌, ◌<◌, ◌-◌, ◌≡◌, Bool, ◌&&◌, ◌||◌, List, [], ◌∷◌, ◌++◌, eqb, leb, ltb, length, get_or, Option, Some, None, Result, Ok, Err}
 use Rattle.table.specs.Table.{tabled}
 use Rattle.language.specs.Choice.{if'}
 use Rattle.language.specs.Tables.{content_kind, token_width}
@@ -8,12 +8,32 @@ use Rattle.language.specs.Sentences.{Expr, Args, given, named, Stmt, expr', firs
 use Rattle.rows.specs.declared.verdict.Verdict.{Verdict}
 use Rattle.rows.specs.declared.token.Tok.{Tok}
 use Rattle.rows.specs.Tokens.{tok_number, tok_value, kind_at, tok_at}
+use Rattle.parse.specs.declared.ParseError.{ParseError}
+use Rattle.parse.specs.declared.ParseError.TheVariants.{UnexpectedToken, IntOutOfRange, TooDeep}
 use Rattle.parse.specs.declared.Parsed.{Parsed}
-use Rattle.parse.specs.declared.Parsed.TheVariants.{Done, Refused}
 use Rattle.parse.specs.declared.Listed.{Listed}
-use Rattle.parse.specs.declared.Listed.TheVariants as listed
-use Rattle.parse.specs.declared.PortIs.{PortIs}
-use Rattle.parse.specs.declared.PortIs.TheVariants.{Good, TooLarge, NotPort}
+
+-- ---- refusals
+
+-- the number that C gets, which kind of it, and the token
+abbrev pub number_of : ParseError → ℕ
+number_of (UnexpectedToken at) = 5
+number_of (IntOutOfRange at) = 5
+number_of (TooDeep at) = 7
+
+abbrev pub kind_of : ParseError → ℕ
+kind_of (UnexpectedToken at) = 1
+kind_of (IntOutOfRange at) = 2
+kind_of (TooDeep at) = 0
+
+abbrev pub place_of : ParseError → ℕ
+place_of (UnexpectedToken at) = at
+place_of (IntOutOfRange at) = at
+place_of (TooDeep at) = at
+
+-- as the definitions say it
+abbrev pub no_of : {A : Type 0} → ParseError → Out A
+no_of x = no (number_of x) (kind_of x) (place_of x)
 
 -- ---- tokens
 
@@ -21,10 +41,11 @@ use Rattle.parse.specs.declared.PortIs.TheVariants.{Good, TooLarge, NotPort}
 abbrev pub literal_kind : ℕ → Bool
 literal_kind n = eqb n 14 || (eqb n 16 || (eqb n 17 || eqb n 18))
 
-abbrev pub port_as : Port → PortIs
-port_as port = Good
-port_as too_large = TooLarge
-port_as not_port = NotPort
+-- what the code says of the token where a port must be
+abbrev pub port_as : ℕ → Port → Result (Unit {0}) ParseError
+port_as at port = Ok tt
+port_as at too_large = Err (IntOutOfRange at)
+port_as at not_port = Err (UnexpectedToken at)
 
 -- a decimal up to 65,535, one that is larger, or another token
 unfoldable pub port_of_tok : Tok → Port
@@ -87,6 +108,11 @@ pub record Stands (t : List ℕ) (ns : List Node) (e : Expr) (count first : ℕ)
   pub held : Holds t (with_expr ns e)
   pub starts : first_of e ≡ first
 
+-- the row of the first argument plus 1, 0 where there is none
+abbrev pub row_plus : Option ℕ → ℕ
+row_plus None = 0
+row_plus (Some row) = row + 1
+
 -- the same of arguments, with the row of the first one plus 1
 pub record Lists (t : List ℕ) (ns : List Node) (g : Args) (count first : ℕ) : Type 0 where
   pub long : length (with_args ns g) ≡ count
@@ -108,36 +134,36 @@ abbrev pub AfterArgs : List ℕ → List ℕ → ℕ → ℕ → (List Content �
 AfterArgs toks t count first P = (ts : List Content) (ns : List Node) (g : Args) → Rep toks ts → Lists t ns g count first → P ts ns g
 
 -- r is the code's answer and t its table, where the definition gives an outcome, after the nodes ns
-abbrev pub ExprOf : Parsed → List ℕ → List Node → ℕ → Out Expr → Type 0
-ExprOf r t ns first (ok e at s) = (n : ℕ) × (r ≡ Done at n s) × Stands t ns e n first
-ExprOf r t ns first (no n k at) = r ≡ Refused n k at
+abbrev pub ExprOf : Result Parsed ParseError → List ℕ → List Node → ℕ → Out Expr → Type 0
+ExprOf (Ok p) t ns first o = (e : Expr) × (o ≡ ok e p.next p.steps) × Stands t ns e p.nodes first
+ExprOf (Err x) t ns first o = o ≡ no_of x
 
-pub record MetExpr (r : Parsed) (t : List ℕ) (ns : List Node) (first : ℕ) (o : Out Expr) : Type 0 where
+pub record MetExpr (r : Result Parsed ParseError) (t : List ℕ) (ns : List Node) (first : ℕ) (o : Out Expr) : Type 0 where
   pub met : ExprOf r t ns first o
 
-abbrev pub ArgsOf : Listed → List ℕ → List Node → Out Args → Type 0
-ArgsOf r t ns (ok g at s) = (n : ℕ) × (first : ℕ) × (r ≡ listed.Done at n first) × Lists t ns g n first
-ArgsOf r t ns (no n k at) = r ≡ listed.Refused n k at
+abbrev pub ArgsOf : Result Listed ParseError → List ℕ → List Node → Out Args → Type 0
+ArgsOf (Ok p) t ns o = (g : Args) × (s : ℕ) × (o ≡ ok g p.next s) × Lists t ns g p.nodes (row_plus p.first)
+ArgsOf (Err x) t ns o = o ≡ no_of x
 
-pub record MetArgs (r : Listed) (t : List ℕ) (ns : List Node) (o : Out Args) : Type 0 where
+pub record MetArgs (r : Result Listed ParseError) (t : List ℕ) (ns : List Node) (o : Out Args) : Type 0 where
   pub met : ArgsOf r t ns o
 
-abbrev pub StmtOf : Parsed → List ℕ → List Node → Out Stmt → Type 0
-StmtOf r t ns (ok s at x) = (r ≡ Done at (length (with_stmt ns s)) 0) × Holds t (with_stmt ns s)
-StmtOf r t ns (no n k at) = r ≡ Refused n k at
+abbrev pub StmtOf : Result Parsed ParseError → List ℕ → List Node → Out Stmt → Type 0
+StmtOf (Ok p) t ns o = (s : Stmt) × (x : ℕ) × (o ≡ ok s p.next x) × (length (with_stmt ns s) ≡ p.nodes) × (p.steps ≡ 0) × Holds t (with_stmt ns s)
+StmtOf (Err x) t ns o = o ≡ no_of x
 
-pub record MetStmt (r : Parsed) (t : List ℕ) (ns : List Node) (o : Out Stmt) : Type 0 where
+pub record MetStmt (r : Result Parsed ParseError) (t : List ℕ) (ns : List Node) (o : Out Stmt) : Type 0 where
   pub met : StmtOf r t ns o
 
 -- an expression and its `;`, which `stmt_at` has no name for
 abbrev pub expr_stmt : List Content → ℕ → Out Stmt
 expr_stmt ts at = and_then (expr_at ts most_lists at) (λ e next x. ended ts (expr' e) next)
 
-abbrev pub AllOf : Parsed → List ℕ → Out (List Stmt) → Type 0
-AllOf r t (ok ss at x) = (r ≡ Done at (length (nodes ss)) 0) × Holds t (nodes ss)
-AllOf r t (no n k at) = r ≡ Refused n k at
+abbrev pub AllOf : Result Parsed ParseError → List ℕ → Out (List Stmt) → Type 0
+AllOf (Ok p) t o = (ss : List Stmt) × (x : ℕ) × (o ≡ ok ss p.next x) × (length (nodes ss) ≡ p.nodes) × (p.steps ≡ 0) × Holds t (nodes ss)
+AllOf (Err x) t o = o ≡ no_of x
 
-pub record MetAll (r : Parsed) (t : List ℕ) (o : Out (List Stmt)) : Type 0 where
+pub record MetAll (r : Result Parsed ParseError) (t : List ℕ) (o : Out (List Stmt)) : Type 0 where
   pub met : AllOf r t o
 
 -- ---- how far the code went: numbers alone, for safety
@@ -148,19 +174,19 @@ Room len at count = (token_width * at ≤ len) × (len ≤ token_width * most_to
 
 -- from the token `at` with `count` nodes and some steps it went on by d tokens and d nodes at least, and by at most two
 -- nodes for each token
-abbrev pub AheadOf : ℕ → ℕ → ℕ → ℕ → ℕ → Parsed → Type 0
-AheadOf d len at count steps (Done next n left) = (at + d ≤ next) × (token_width * next ≤ len) × (count + d ≤ n) × (n + 2 * at ≤ count + 2 * next) × (left ≤ steps)
-AheadOf d len at count steps (Refused n k a) = a ≤ len + 3
+abbrev pub AheadOf : ℕ → ℕ → ℕ → ℕ → ℕ → Result Parsed ParseError → Type 0
+AheadOf d len at count steps (Ok p) = (at + d ≤ p.next) × (token_width * p.next ≤ len) × (count + d ≤ p.nodes) × (p.nodes + 2 * at ≤ count + 2 * p.next) × (p.steps ≤ steps)
+AheadOf d len at count steps (Err x) = place_of x ≤ len + 3
 
-pub record Ahead (d len at count steps : ℕ) (r : Parsed) : Type 0 where
+pub record Ahead (d len at count steps : ℕ) (r : Result Parsed ParseError) : Type 0 where
   pub on : AheadOf d len at count steps r
 
 -- the same of arguments: by d + 1 tokens at least, and by d nodes less than two for each token
-abbrev pub AheadArgs : ℕ → ℕ → ℕ → ℕ → Listed → Type 0
-AheadArgs d len at count (listed.Done next n first) = (at + d < next) × (token_width * next ≤ len) × (count ≤ n) × (n + 2 * at + d ≤ count + 2 * next) × (first ≤ n)
-AheadArgs d len at count (listed.Refused n k a) = a ≤ len + 3
+abbrev pub AheadArgs : ℕ → ℕ → ℕ → ℕ → Result Listed ParseError → Type 0
+AheadArgs d len at count (Ok p) = (at + d < p.next) × (token_width * p.next ≤ len) × (count ≤ p.nodes) × (p.nodes + 2 * at + d ≤ count + 2 * p.next) × (row_plus p.first ≤ p.nodes)
+AheadArgs d len at count (Err x) = place_of x ≤ len + 3
 
-pub record AheadList (d len at count : ℕ) (r : Listed) : Type 0 where
+pub record AheadList (d len at count : ℕ) (r : Result Listed ParseError) : Type 0 where
   pub on : AheadArgs d len at count r
 
 -- ---- places

@@ -8,34 +8,36 @@ ghost use Rattle.std.specs.Prelude.{◌≡◌, List, [], ◌∷◌, ◌++◌, �
 ghost use Rattle.language.specs.Tables.{token_width};
 ghost use Rattle.language.specs.Tokens.{Content, most_tokens};
 ghost use Rattle.language.specs.Sentences.{Stmt, Node, node, most_steps, primary, address, named', links, chain_at, slashes, expr_at, arg_of, list_at, ended, import_at, let_at, stmt_at, program};
-ghost use Rattle.parse.specs.Entry.{GivesUp, Lexes, ParseSource};
+ghost use Rattle.parse.specs.Entry.{GivesUp, Lexes, Trees, ParseSource};
 ghost use Rattle.rows.specs.Tokens.{kind_at};
-ghost use Rattle.parse.specs.Parsing.{literal_kind, port_at, port_as, is_named, arg_kind, value_from, Room, Rep, Holds, Pushes, Links, with_stmt, expr_stmt, After, AfterExpr, AfterArgs, MetExpr, MetArgs, MetStmt, MetAll, Ahead, AheadList, row_verdict, verdict_at};
+ghost use Rattle.parse.specs.Parsing.{literal_kind, port_at, port_as, is_named, arg_kind, value_from, Room, Rep, Holds, Pushes, Links, with_stmt, number_of, kind_of, place_of, row_plus, expr_stmt, After, AfterExpr, AfterArgs, MetExpr, MetArgs, MetStmt, MetAll, Ahead, AheadList, row_verdict, verdict_at};
 
 use rows::{NodeKind, NodeRow, Tok, TokKind, TokenRow, Verdict};
 
-// What a part of the grammar came to.
-#[derive(Clone, Copy)]
-pub enum Parsed {
-    // the next token, how many nodes there are then, and the steps that are left
-    Done(usize, usize, usize),
-    // a refusal: its number, which kind of it, and its token
-    Refused(u64, u64, usize),
+// Why a source is refused, and at which token. Ports parse.rs `ParseErrorKind`.
+#[derive(Clone, Copy, PartialEq, Eq)]
+pub enum ParseError {
+    UnexpectedToken(usize),
+    // a port above 65,535
+    IntOutOfRange(usize),
+    // one step or one list more than there may be
+    TooDeep(usize),
 }
 
-// The same of arguments.
-#[derive(Clone, Copy)]
-pub enum Listed {
-    // the next token, how many nodes there are then, and the row of the first argument plus 1, 0 where there is none
-    Done(usize, usize, usize),
-    Refused(u64, u64, usize),
+// A part of the grammar that was read: the next token, how many nodes there are then, and the steps that are left.
+#[derive(Clone, Copy, PartialEq, Eq)]
+pub struct Parsed {
+    pub next: usize,
+    pub nodes: usize,
+    pub steps: usize,
 }
 
-#[derive(Clone, Copy)]
-pub enum PortIs {
-    Good,
-    TooLarge,
-    NotPort,
+// The same of arguments, with the row of the first one.
+#[derive(Clone, Copy, PartialEq, Eq)]
+pub struct Listed {
+    pub next: usize,
+    pub nodes: usize,
+    pub first: Option<usize>,
 }
 
 // How an argument begins: the kind of its node, and the token where its value starts.
@@ -67,25 +69,26 @@ impl Parser {
 
 // ---- tokens
 
-// What stands where a port must: a decimal up to 65,535, one that is larger, or no decimal at all.
-fn port(toks: &[u64], at: usize) -> PortIs
+// A port is a decimal up to 65,535.
+fn port(toks: &[u64], at: usize) -> Result<(), ParseError>
     requires { at ≤ 4294967296 }
-    ensures { result ≡ port_as (port_at toks.now at) }
+    ensures { result ≡ port_as at (port_at toks.now at) }
 {
     let Tok::DecLiteral(v) = rows::tok_at(toks, at) else {
-        return PortIs::NotPort;
+        return Err(ParseError::UnexpectedToken(at));
     };
     if v.hi == 0 {
         if v.lo <= Parser::LARGEST_PORT {
-            return PortIs::Good;
+            return Ok(());
         }
     }
-    PortIs::TooLarge
+    Err(ParseError::IntOutOfRange(at))
 }
 
-// ---- nodes and answers
+// ---- nodes
 
-// Writes a node after `count` others.
+// Writes a node after `count` others. A struct that held the table and the count would make each function here promise besides that
+// the table is still the one that was lent, so both are passed.
 fn push(
     nodes: &mut [u64],
     count: usize,
@@ -113,23 +116,28 @@ fn link(nodes: &mut [u64], row: usize, next: usize)
     }
 }
 
-fn unexpected(at: usize) -> Parsed
-    ensures { result ≡ Parsed.Refused 5 1 at }
+// The row of the first argument plus 1, 0 where there is none: so a call's node has it, which the C interface fixes.
+fn row_plus(first: Option<usize>) -> usize
+    requires { row_plus first ≤ 4294967296 }
+    ensures { result ≡ row_plus first }
 {
-    Parsed::Refused(Verdict::SYNTAX, Verdict::UNEXPECTED_TOKEN, at)
-}
-
-// One step or one list more than there may be.
-fn too_deep(at: usize) -> Parsed
-    ensures { result ≡ Parsed.Refused 7 0 at }
-{
-    Parsed::Refused(Verdict::TOO_DEEP, 0, at)
+    match first {
+        Some(row) => row + 1,
+        None => 0,
+    }
 }
 
 // ---- primaries
 
 // The names of a path from its first `::` on, and the path's node. The path's first name is the token `at`.
-fn module_path(toks: &[u64], nodes: &mut [u64], at: usize, count: usize, steps: usize) -> Parsed
+#[tactic(auto, using(crate::proofs::Looks::eof_or_row))]
+fn module_path(
+    toks: &[u64],
+    nodes: &mut [u64],
+    at: usize,
+    count: usize,
+    steps: usize,
+) -> Result<Parsed, ParseError>
     requires room { Room (length toks.now) at count }
     requires at_value { (kind_at toks.now at ≡ 13) × (kind_at toks.now (at + 1) ≡ 5) }
     ensures ahead { Ahead 1 (length toks.now) at count steps result }
@@ -140,7 +148,7 @@ fn module_path(toks: &[u64], nodes: &mut [u64], at: usize, count: usize, steps: 
     let mut names: usize = 0;
     while rows::kind_at(toks, next) == TokKind::DOUBLE_COLON {
         if rows::kind_at(toks, next + 1) != TokKind::IDENTIFIER {
-            return unexpected(next + 1);
+            return Err(ParseError::UnexpectedToken(next + 1));
         }
         push(nodes, have, NodeKind::NAME, next + 1, 0, 0, 0);
         have += 1;
@@ -148,11 +156,21 @@ fn module_path(toks: &[u64], nodes: &mut [u64], at: usize, count: usize, steps: 
         next += 2;
     }
     push(nodes, have, NodeKind::PATH, at, names, 0, 0);
-    Parsed::Done(next, have + 1, steps)
+    Ok(Parsed {
+        next,
+        nodes: have + 1,
+        steps,
+    })
 }
 
 // An address, and its port where a `:` follows.
-fn address(toks: &[u64], nodes: &mut [u64], at: usize, count: usize, steps: usize) -> Parsed
+fn address(
+    toks: &[u64],
+    nodes: &mut [u64],
+    at: usize,
+    count: usize,
+    steps: usize,
+) -> Result<Parsed, ParseError>
     requires room { Room (length toks.now) at count }
     requires at_value { kind_at toks.now at ≡ 15 }
     ensures ahead { Ahead 1 (length toks.now) at count steps result }
@@ -160,16 +178,19 @@ fn address(toks: &[u64], nodes: &mut [u64], at: usize, count: usize, steps: usiz
 {
     if rows::kind_at(toks, at + 1) != TokKind::COLON {
         push(nodes, count, NodeKind::LITERAL, at, 0, 0, 0);
-        return Parsed::Done(at + 1, count + 1, steps);
+        return Ok(Parsed {
+            next: at + 1,
+            nodes: count + 1,
+            steps,
+        });
     }
-    match port(toks, at + 2) {
-        PortIs::Good => {
-            push(nodes, count, NodeKind::SOCK4, at, 0, 0, 0);
-            Parsed::Done(at + 3, count + 1, steps)
-        }
-        PortIs::TooLarge => Parsed::Refused(Verdict::SYNTAX, Verdict::INT_OUT_OF_RANGE, at + 2),
-        PortIs::NotPort => unexpected(at + 2),
-    }
+    port(toks, at + 2)?;
+    push(nodes, count, NodeKind::SOCK4, at, 0, 0, 0);
+    Ok(Parsed {
+        next: at + 3,
+        nodes: count + 1,
+        steps,
+    })
 }
 
 // A bool, a string or an integer.
@@ -182,7 +203,13 @@ fn is_literal(kind: u64) -> bool
 }
 
 // A literal, an address, a name or a path.
-fn primary(toks: &[u64], nodes: &mut [u64], at: usize, count: usize, steps: usize) -> Parsed
+fn primary(
+    toks: &[u64],
+    nodes: &mut [u64],
+    at: usize,
+    count: usize,
+    steps: usize,
+) -> Result<Parsed, ParseError>
     requires { Room (length toks.now) at count }
     ensures ahead { Ahead 1 (length toks.now) at count steps result }
     ensures after { After toks.now nodes.old count (λ ts ns. MetExpr result nodes.new ns at (primary ts at steps)) }
@@ -190,7 +217,11 @@ fn primary(toks: &[u64], nodes: &mut [u64], at: usize, count: usize, steps: usiz
     let kind = rows::kind_at(toks, at);
     if is_literal(kind) {
         push(nodes, count, NodeKind::LITERAL, at, 0, 0, 0);
-        return Parsed::Done(at + 1, count + 1, steps);
+        return Ok(Parsed {
+            next: at + 1,
+            nodes: count + 1,
+            steps,
+        });
     }
     match kind {
         TokKind::IPV4_LITERAL => address(toks, nodes, at, count, steps),
@@ -199,9 +230,13 @@ fn primary(toks: &[u64], nodes: &mut [u64], at: usize, count: usize, steps: usiz
                 return module_path(toks, nodes, at, count, steps);
             }
             push(nodes, count, NodeKind::LOCAL, at, 0, 0, 0);
-            Parsed::Done(at + 1, count + 1, steps)
+            Ok(Parsed {
+                next: at + 1,
+                nodes: count + 1,
+                steps,
+            })
         }
-        _ => unexpected(at),
+        _ => Err(ParseError::UnexpectedToken(at)),
     }
 }
 
@@ -209,28 +244,37 @@ fn primary(toks: &[u64], nodes: &mut [u64], at: usize, count: usize, steps: usiz
 
 // An expression, where `left` more lists may be opened.
 #[cycle(arg_chain_expr_links_list_slashes)]
-fn expr(toks: &[u64], nodes: &mut [u64], at: usize, count: usize, left: usize) -> Parsed
+fn expr(
+    toks: &[u64],
+    nodes: &mut [u64],
+    at: usize,
+    count: usize,
+    left: usize,
+) -> Result<Parsed, ParseError>
     requires { Room (length toks.now) at count }
     ensures ahead { Ahead 1 (length toks.now) at count most_steps result }
     ensures after { After toks.now nodes.old count (λ ts ns. MetExpr result nodes.new ns at (expr_at ts left at)) }
 {
-    match chain(toks, nodes, at, count, left, Parser::MOST_STEPS) {
-        Parsed::Done(next, n, steps) => {
-            let p = Parser {
-                first: at,
-                lists: left,
-                steps,
-            };
-            slashes(toks, nodes, p, next, n)
-        }
-        Parsed::Refused(number, kind, a) => Parsed::Refused(number, kind, a),
-    }
+    let operand = chain(toks, nodes, at, count, left, Parser::MOST_STEPS)?;
+    let p = Parser {
+        first: at,
+        lists: left,
+        steps: operand.steps,
+    };
+    slashes(toks, nodes, p, operand.next, operand.nodes)
 }
 
 // What follows the first operand: `/` and an operand, again and again. It groups to the left, so the last node so far is
 // the left operand of the next `/`.
 #[cycle(arg_chain_expr_links_list_slashes)]
-fn slashes(toks: &[u64], nodes: &mut [u64], p: Parser, start: usize, count: usize) -> Parsed
+#[tactic(auto, using(crate::proofs::Looks::eof_or_row))]
+fn slashes(
+    toks: &[u64],
+    nodes: &mut [u64],
+    p: Parser,
+    start: usize,
+    count: usize,
+) -> Result<Parsed, ParseError>
     requires { Room (length toks.now) start count × (1 ≤ count) }
     ensures ahead { Ahead 0 (length toks.now) start count p.steps result }
     ensures after_expr { AfterExpr toks.now nodes.old count p.first (λ ts ns e. (k : ℕ) → p.steps < k → MetExpr result nodes.new ns p.first (slashes ts (chain_at ts p.lists) k e start p.steps)) }
@@ -240,19 +284,20 @@ fn slashes(toks: &[u64], nodes: &mut [u64], p: Parser, start: usize, count: usiz
     let mut more = p.steps;
     while rows::kind_at(toks, at) == TokKind::SLASH {
         if more == 0 {
-            return too_deep(at);
+            return Err(ParseError::TooDeep(at));
         }
-        match chain(toks, nodes, at + 1, have, p.lists, more - 1) {
-            Parsed::Done(next, m, s) => {
-                push(nodes, m, NodeKind::SLASH, p.first, have - 1, m - 1, 0);
-                at = next;
-                have = m + 1;
-                more = s;
-            }
-            Parsed::Refused(number, kind, a) => return Parsed::Refused(number, kind, a),
-        }
+        let right = chain(toks, nodes, at + 1, have, p.lists, more - 1)?;
+        let m = right.nodes;
+        push(nodes, m, NodeKind::SLASH, p.first, have - 1, m - 1, 0);
+        at = right.next;
+        have = m + 1;
+        more = right.steps;
     }
-    Parsed::Done(at, have, more)
+    Ok(Parsed {
+        next: at,
+        nodes: have,
+        steps: more,
+    })
 }
 
 // One operand of `/`.
@@ -264,28 +309,30 @@ fn chain(
     count: usize,
     left: usize,
     steps: usize,
-) -> Parsed
+) -> Result<Parsed, ParseError>
     requires { Room (length toks.now) at count }
     ensures ahead { Ahead 1 (length toks.now) at count steps result }
     ensures after { After toks.now nodes.old count (λ ts ns. MetExpr result nodes.new ns at (chain_at ts left steps at)) }
 {
-    match primary(toks, nodes, at, count, steps) {
-        Parsed::Done(next, n, _) => {
-            let p = Parser {
-                first: at,
-                lists: left,
-                steps,
-            };
-            links(toks, nodes, p, next, n)
-        }
-        Parsed::Refused(number, kind, a) => Parsed::Refused(number, kind, a),
-    }
+    let operand = primary(toks, nodes, at, count, steps)?;
+    let p = Parser {
+        first: at,
+        lists: left,
+        steps,
+    };
+    links(toks, nodes, p, operand.next, operand.nodes)
 }
 
 // The calls and members after a primary, which bind tightest: each is a step, and has the last node so far as its callee
 // or its object.
 #[cycle(arg_chain_expr_links_list_slashes)]
-fn links(toks: &[u64], nodes: &mut [u64], p: Parser, start: usize, count: usize) -> Parsed
+fn links(
+    toks: &[u64],
+    nodes: &mut [u64],
+    p: Parser,
+    start: usize,
+    count: usize,
+) -> Result<Parsed, ParseError>
     requires { Room (length toks.now) start count × (1 ≤ count) }
     ensures ahead { Ahead 0 (length toks.now) start count p.steps result }
     ensures after_expr { AfterExpr toks.now nodes.old count p.first (λ ts ns e. MetExpr result nodes.new ns p.first (links ts (list_at ts p.lists) p.steps e start)) }
@@ -297,30 +344,32 @@ fn links(toks: &[u64], nodes: &mut [u64], p: Parser, start: usize, count: usize)
         let t = rows::kind_at(toks, at);
         if t == TokKind::LPAREN {
             if more == 0 {
-                return too_deep(at);
+                return Err(ParseError::TooDeep(at));
             }
-            match list(toks, nodes, at, have, p.lists) {
-                Listed::Done(next, m, first) => {
-                    push(nodes, m, NodeKind::CALL, p.first, have - 1, first, at);
-                    at = next;
-                    have = m + 1;
-                    more -= 1;
-                }
-                Listed::Refused(number, kind, a) => return Parsed::Refused(number, kind, a),
-            }
+            let inside = list(toks, nodes, at, have, p.lists)?;
+            let m = inside.nodes;
+            let first = row_plus(inside.first);
+            push(nodes, m, NodeKind::CALL, p.first, have - 1, first, at);
+            at = inside.next;
+            have = m + 1;
+            more -= 1;
         } else if t == TokKind::DOT {
             if more == 0 {
-                return too_deep(at);
+                return Err(ParseError::TooDeep(at));
             }
             if rows::kind_at(toks, at + 1) != TokKind::IDENTIFIER {
-                return unexpected(at + 1);
+                return Err(ParseError::UnexpectedToken(at + 1));
             }
             push(nodes, have, NodeKind::MEMBER, p.first, have - 1, at + 1, 0);
             at += 2;
             have += 1;
             more -= 1;
         } else {
-            return Parsed::Done(at, have, more);
+            return Ok(Parsed {
+                next: at,
+                nodes: have,
+                steps: more,
+            });
         }
     }
 }
@@ -347,8 +396,7 @@ fn arg_head(toks: &[u64], at: usize) -> ArgHead
     }
 }
 
-// One argument, after others of which `first` is the first one's row plus 1, 0 where there is none. The one before it stands in
-// the last row so far. Its own node comes on top of the value's, so the bound on nodes starts from one more; the `,` or `)` that
+// One argument, after others of which the first has the row `first`. The one before it stands in the last row so far. Its own node comes on top of the value's, so the bound on nodes starts from one more; the `,` or `)` that
 // follows makes up for it.
 #[cycle(arg_chain_expr_links_list_slashes)]
 fn arg(
@@ -357,62 +405,83 @@ fn arg(
     at: usize,
     count: usize,
     left: usize,
-    first: usize,
-) -> Listed
-    requires { Room (length toks.now) at count × (first ≤ count) }
+    first: Option<usize>,
+) -> Result<Listed, ParseError>
+    requires { Room (length toks.now) at count × (row_plus first ≤ count) }
     ensures ahead_list { AheadList 0 (length toks.now) at (count + 1) result }
-    ensures after_args { AfterArgs toks.now nodes.old count first (λ ts ns g. MetArgs result nodes.new ns (arg_of ts (expr_at ts left) g at)) }
+    ensures after_args { AfterArgs toks.now nodes.old count (row_plus first) (λ ts ns g. MetArgs result nodes.new ns (arg_of ts (expr_at ts left) g at)) }
 {
     let head = arg_head(toks, at);
-    match expr(toks, nodes, head.value, count, left) {
-        Parsed::Done(next, m, _) => {
-            push(nodes, m, head.kind, at, m - 1, 0, 0);
-            if first == 0 {
-                return Listed::Done(next, m + 1, m + 1);
-            }
+    let value = expr(toks, nodes, head.value, count, left)?;
+    let next = value.next;
+    let m = value.nodes;
+    push(nodes, m, head.kind, at, m - 1, 0, 0);
+    match first {
+        None => Ok(Listed {
+            next,
+            nodes: m + 1,
+            first: Some(m),
+        }),
+        Some(_) => {
             link(nodes, count - 1, m + 1);
-            Listed::Done(next, m + 1, first)
+            Ok(Listed {
+                next,
+                nodes: m + 1,
+                first,
+            })
         }
-        Parsed::Refused(number, kind, a) => Listed::Refused(number, kind, a),
     }
 }
 
 // The arguments from the `(` at `start` to its `)`.
 #[cycle(arg_chain_expr_links_list_slashes)]
-fn list(toks: &[u64], nodes: &mut [u64], start: usize, count: usize, left: usize) -> Listed
+#[tactic(auto, using(crate::proofs::Looks::eof_or_row))]
+fn list(
+    toks: &[u64],
+    nodes: &mut [u64],
+    start: usize,
+    count: usize,
+    left: usize,
+) -> Result<Listed, ParseError>
     requires { Room (length toks.now) start count × (kind_at toks.now start ≡ 2) }
     ensures ahead_list { AheadList 1 (length toks.now) start count result }
     ensures after { After toks.now nodes.old count (λ ts ns. MetArgs result nodes.new ns (list_at ts left start)) }
 {
     if left == 0 {
-        return Listed::Refused(Verdict::TOO_DEEP, 0, start);
+        return Err(ParseError::TooDeep(start));
     }
     let mut at = start + 1;
     let mut have = count;
-    let mut first: usize = 0;
+    let mut first: Option<usize> = None;
     while rows::kind_at(toks, at) != TokKind::RPAREN {
-        match arg(toks, nodes, at, have, left - 1, first) {
-            Listed::Done(next, m, f) => {
-                have = m;
-                first = f;
-                let t = rows::kind_at(toks, next);
-                if t == TokKind::COMMA {
-                    at = next + 1;
-                } else if t == TokKind::RPAREN {
-                    return Listed::Done(next + 1, have, first);
-                } else {
-                    return Listed::Refused(Verdict::SYNTAX, Verdict::UNEXPECTED_TOKEN, next);
-                }
-            }
-            Listed::Refused(number, kind, a) => return Listed::Refused(number, kind, a),
+        let so_far = arg(toks, nodes, at, have, left - 1, first)?;
+        let next = so_far.next;
+        have = so_far.nodes;
+        first = so_far.first;
+        let t = rows::kind_at(toks, next);
+        if t == TokKind::COMMA {
+            at = next + 1;
+        } else if t == TokKind::RPAREN {
+            return Ok(Listed {
+                next: next + 1,
+                nodes: have,
+                first,
+            });
+        } else {
+            return Err(ParseError::UnexpectedToken(next));
         }
     }
-    Listed::Done(at + 1, have, first)
+    Ok(Listed {
+        next: at + 1,
+        nodes: have,
+        first,
+    })
 }
 
 // ---- statements
 
 // The `;` after a statement, and the statement's node.
+#[tactic(auto, using(crate::proofs::Looks::eof_or_row))]
 fn end_stmt(
     toks: &[u64],
     nodes: &mut [u64],
@@ -421,61 +490,70 @@ fn end_stmt(
     kind: u64,
     tok: usize,
     first: usize,
-) -> Parsed
+) -> Result<Parsed, ParseError>
     requires { Room (length toks.now) at count }
     ensures ahead { Ahead 1 (length toks.now) at count 0 result }
     ensures after { After toks.now nodes.old count (λ ts ms. (ns : List Node) (s : Stmt) → ms ++ node kind tok first 0 0 ∷ [] ≡ with_stmt ns s → MetStmt result nodes.new ns (ended ts s at)) }
 {
     if rows::kind_at(toks, at) != TokKind::SEMI_COLON {
-        return unexpected(at);
+        return Err(ParseError::UnexpectedToken(at));
     }
     push(nodes, count, kind, tok, first, 0, 0);
-    Parsed::Done(at + 1, count + 1, 0)
+    Ok(Parsed {
+        next: at + 1,
+        nodes: count + 1,
+        steps: 0,
+    })
 }
 
 // `import` name `;`
-fn import_stmt(toks: &[u64], nodes: &mut [u64], at: usize, count: usize) -> Parsed
+#[tactic(auto, using(crate::proofs::Looks::eof_or_row))]
+fn import_stmt(
+    toks: &[u64],
+    nodes: &mut [u64],
+    at: usize,
+    count: usize,
+) -> Result<Parsed, ParseError>
     requires { Room (length toks.now) at count × (kind_at toks.now at ≡ 11) }
     ensures ahead { Ahead 1 (length toks.now) at count 0 result }
     ensures after { After toks.now nodes.old count (λ ts ns. MetStmt result nodes.new ns (import_at ts at)) }
 {
     if rows::kind_at(toks, at + 1) != TokKind::IDENTIFIER {
-        return unexpected(at + 1);
+        return Err(ParseError::UnexpectedToken(at + 1));
     }
     end_stmt(toks, nodes, at + 2, count, NodeKind::IMPORT, at + 1, 0)
 }
 
 // `let` name `=` expression `;`
-fn let_stmt(toks: &[u64], nodes: &mut [u64], at: usize, count: usize) -> Parsed
+#[tactic(auto, using(crate::proofs::Looks::eof_or_row))]
+fn let_stmt(toks: &[u64], nodes: &mut [u64], at: usize, count: usize) -> Result<Parsed, ParseError>
     requires { Room (length toks.now) at count × (kind_at toks.now at ≡ 12) }
     ensures ahead { Ahead 1 (length toks.now) at count 0 result }
     ensures after { After toks.now nodes.old count (λ ts ns. MetStmt result nodes.new ns (let_at ts at)) }
 {
     if rows::kind_at(toks, at + 1) != TokKind::IDENTIFIER {
-        return unexpected(at + 1);
+        return Err(ParseError::UnexpectedToken(at + 1));
     }
     if rows::kind_at(toks, at + 2) != TokKind::EQUALS {
-        return unexpected(at + 2);
+        return Err(ParseError::UnexpectedToken(at + 2));
     }
-    match expr(toks, nodes, at + 3, count, Parser::MOST_LISTS) {
-        Parsed::Done(next, n, _) => end_stmt(toks, nodes, next, n, NodeKind::LET, at + 1, n - 1),
-        Parsed::Refused(number, kind, a) => Parsed::Refused(number, kind, a),
-    }
+    let value = expr(toks, nodes, at + 3, count, Parser::MOST_LISTS)?;
+    let n = value.nodes;
+    end_stmt(toks, nodes, value.next, n, NodeKind::LET, at + 1, n - 1)
 }
 
 // expression `;`
-fn expr_stmt(toks: &[u64], nodes: &mut [u64], at: usize, count: usize) -> Parsed
+fn expr_stmt(toks: &[u64], nodes: &mut [u64], at: usize, count: usize) -> Result<Parsed, ParseError>
     requires { Room (length toks.now) at count }
     ensures ahead { Ahead 1 (length toks.now) at count 0 result }
     ensures after { After toks.now nodes.old count (λ ts ns. MetStmt result nodes.new ns (expr_stmt ts at)) }
 {
-    match expr(toks, nodes, at, count, Parser::MOST_LISTS) {
-        Parsed::Done(next, n, _) => end_stmt(toks, nodes, next, n, NodeKind::EXPRESSION, at, n - 1),
-        Parsed::Refused(number, kind, a) => Parsed::Refused(number, kind, a),
-    }
+    let value = expr(toks, nodes, at, count, Parser::MOST_LISTS)?;
+    let n = value.nodes;
+    end_stmt(toks, nodes, value.next, n, NodeKind::EXPRESSION, at, n - 1)
 }
 
-fn stmt(toks: &[u64], nodes: &mut [u64], at: usize, count: usize) -> Parsed
+fn stmt(toks: &[u64], nodes: &mut [u64], at: usize, count: usize) -> Result<Parsed, ParseError>
     requires { Room (length toks.now) at count }
     ensures ahead { Ahead 1 (length toks.now) at count 0 result }
     ensures after { After toks.now nodes.old count (λ ts ns. MetStmt result nodes.new ns (stmt_at ts at)) }
@@ -488,7 +566,7 @@ fn stmt(toks: &[u64], nodes: &mut [u64], at: usize, count: usize) -> Parsed
 }
 
 // The statements of a whole program. The node table starts out as zeros.
-pub fn program(toks: &[u64], nodes: &mut [u64]) -> Parsed
+pub fn program(toks: &[u64], nodes: &mut [u64]) -> Result<Parsed, ParseError>
     requires { length toks.now ≤ token_width * most_tokens }
     ensures ahead { Ahead 0 (length toks.now) 0 0 0 result }
     ensures met_all { (ts : List Content) → Rep toks.now ts → Holds nodes.old [] → MetAll result nodes.new (program ts) }
@@ -496,15 +574,15 @@ pub fn program(toks: &[u64], nodes: &mut [u64]) -> Parsed
     let mut at: usize = 0;
     let mut have: usize = 0;
     while rows::kind_at(toks, at) != TokKind::EOF {
-        match stmt(toks, nodes, at, have) {
-            Parsed::Done(next, n, _) => {
-                at = next;
-                have = n;
-            }
-            Parsed::Refused(number, kind, a) => return Parsed::Refused(number, kind, a),
-        }
+        let read = stmt(toks, nodes, at, have)?;
+        at = read.next;
+        have = read.nodes;
     }
-    Parsed::Done(at, have, 0)
+    Ok(Parsed {
+        next: at,
+        nodes: have,
+        steps: 0,
+    })
 }
 
 // ---- the entry
@@ -563,29 +641,51 @@ fn at_token(toks: &[u64], count: usize, number: u64, kind: u64, at: usize) -> Ve
     at_row(toks, count - 1, number, kind)
 }
 
+impl ParseError {
+    // The refusal that C gets, at its token of `count`. Its numbers are the C interface.
+    fn verdict(self, toks: &[u64], count: usize) -> Verdict
+        requires { (1 ≤ count) × (token_width * count ≤ length toks.now) × (count ≤ most_tokens) }
+        ensures { result ≡ verdict_at toks.now count (number_of self) (kind_of self) (place_of self) }
+    {
+        let (number, kind, at) = match self {
+            ParseError::UnexpectedToken(at) => (Verdict::SYNTAX, Verdict::UNEXPECTED_TOKEN, at),
+            ParseError::IntOutOfRange(at) => (Verdict::SYNTAX, Verdict::INT_OUT_OF_RANGE, at),
+            ParseError::TooDeep(at) => (Verdict::TOO_DEEP, 0, at),
+        };
+        at_token(toks, count, number, kind, at)
+    }
+}
+
+// The trees of `count` tokens: how many nodes they are. The node table starts out as zeros.
+fn trees(toks: &[u64], nodes: &mut [u64], count: usize) -> Result<usize, Verdict>
+    requires { (1 ≤ count) × (token_width * count ≤ length toks.now) × (count ≤ most_tokens) }
+    ensures { (s : List ℕ) → Lexes s toks.now count → Holds nodes.old [] → Trees s (length toks.now) (length nodes.old) result nodes.new }
+{
+    let room = nodes.len() / NodeRow::WORDS;
+    let rows = TokenRow::WORDS * count;
+    // `map_err` and `?` were tried: what it says of its closure is longer to prove than these two arms
+    let parsed = match program(&toks[..rows], nodes) {
+        Ok(parsed) => parsed,
+        Err(e) => return Err(e.verdict(toks, count)),
+    };
+    if room < parsed.nodes {
+        return Err(Verdict::new(Verdict::NODE_ROOM, 0, 0));
+    }
+    Ok(parsed.nodes)
+}
+
 // Parses `count` tokens. The node table starts out as zeros.
 fn parse_tokens(toks: &mut [u64], nodes: &mut [u64], count: usize) -> ParseAnswer
     requires { (1 ≤ count) × (token_width * count ≤ length toks.old) × (count ≤ most_tokens) }
     ensures { (s : List ℕ) → Lexes s toks.old count → Holds nodes.old [] → ParseSource s (length toks.old) (length nodes.old) result toks.new nodes.new }
 {
-    let room = nodes.len() / NodeRow::WORDS;
-    let rows = TokenRow::WORDS * count;
-    let parsed = program(&toks[..rows], nodes);
-    match parsed {
-        Parsed::Refused(number, kind, at) => {
-            let found = at_token(toks, count, number, kind, at);
-            give_up(found, toks, nodes)
-        }
-        Parsed::Done(_, n, _) => {
-            if room < n {
-                return give_up(Verdict::new(Verdict::NODE_ROOM, 0, 0), toks, nodes);
-            }
-            ParseAnswer {
-                verdict: Verdict::new(Verdict::DONE, 0, 0),
-                tokens: count as u64,
-                nodes: n as u64,
-            }
-        }
+    match trees(toks, nodes, count) {
+        Ok(n) => ParseAnswer {
+            verdict: Verdict::new(Verdict::DONE, 0, 0),
+            tokens: count as u64,
+            nodes: n as u64,
+        },
+        Err(verdict) => give_up(verdict, toks, nodes),
     }
 }
 

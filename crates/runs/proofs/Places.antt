@@ -10,7 +10,7 @@ use lib.Seq.{drop-cons}
 use Rattle.language.specs.Lexemes.{run}
 use Rattle.language.specs.Tokens.{between}
 use Rattle.language.proofs.LexemeSizes.{run_fits}
-use Rattle.runs.specs.Runs.{run_end}
+use Rattle.classes.specs.Runs.{run_end}
 
 module _ (line : List ℕ) (at : ℕ) where
   -- where the line has a byte here, the rest begins with it

@@ -1,12 +1,9 @@
 -- What the code says of places in a line: where a run ends, and whether a key stands there.
 use Rattle.std.specs.Prelude.{ℕ, ◌+◌, Bool, List, drop}
-use Rattle.language.specs.Lexemes.{run, blank_run, same}
+use Rattle.language.specs.Lexemes.{blank_run, same}
 use Rattle.language.specs.Tokens.{between}
 
--- where a run of bytes with p that starts at `at` ends
-unfoldable pub run_end : (ℕ → Bool) → List ℕ → ℕ → ℕ
-run_end p s at = at + run p (drop at s)
-
+-- where a run of blank characters that starts at `at` ends
 unfoldable pub blank_end : List ℕ → ℕ → ℕ
 blank_end s at = at + blank_run 0 (drop at s)
 

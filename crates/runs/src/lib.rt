@@ -1,16 +1,18 @@
 #![tactic(auto)]
 // Characters, and runs of them: where the longest run of one kind ends. These are the tests of characters and the loops of
 // lex.rs `Scanner`; the definitions are `Lexemes` of the crate `language`.
-ghost use Rattle.std.specs.Prelude.{◌≡◌, ◌+◌, ◌≤◌, length, get_or};
+ghost use Rattle.std.specs.Prelude.{◌≡◌, ◌==◌, ◌+◌, ◌≤◌, length, get_or};
+ghost use Rattle.std.specs.List.{list_all, zip};
 ghost use Rattle.language.specs.Lexemes.{is_blank, is_digit, is_word_start, is_word, is_body, not_newline};
-ghost use Rattle.utf8.specs.Blocks.{all_from};
-ghost use Rattle.runs.specs.Runs.{run_end, blank_end, spelled};
+ghost use Rattle.classes.specs.Runs.{run_end};
+ghost use Rattle.runs.specs.Runs.{blank_end, spelled};
 
-use utf8::Decoded;
+use classes::Class;
 
 // ---- characters
 
 // White space, but not byte 10.
+#[tactic(auto, unfolding(language::specs::Lexemes::is_blank))]
 pub fn is_space(c: u32) -> bool
     ensures { result ≡ is_blank c }
 {
@@ -21,144 +23,91 @@ pub fn is_space(c: u32) -> bool
     }
 }
 
+#[tactic(auto, unfolding(language::specs::Lexemes::is_digit))]
 pub fn is_digit(b: u8) -> bool
     ensures { result ≡ is_digit b }
 {
-    (b'0' <= b) & (b <= b'9')
+    b.is_ascii_digit()
 }
 
+#[tactic(auto, unfolding(language::specs::Lexemes::is_word_start))]
 pub fn is_word_start(b: u8) -> bool
     ensures { result ≡ is_word_start b }
 {
-    (b'a' <= b) & (b <= b'z') | (b'A' <= b) & (b <= b'Z') | (b == b'_')
-}
-
-fn is_word(b: u8) -> bool
-    ensures { result ≡ is_word b }
-{
-    is_word_start(b) | is_digit(b)
+    b.is_ascii_alphabetic() | (b == b'_')
 }
 
 // The byte at a place, 0 past the end.
 pub fn peek(line: &[u8], at: usize) -> u8
     ensures { result ≡ get_or line.now at 0 }
 {
-    if at < line.len() {
-        return line[at];
-    }
-    0
+    line.get(at).copied().unwrap_or(0)
 }
 
 // ---- runs: the end of the longest run of bytes of one kind
+
+struct Digit {}
+
+impl Class for Digit {
+    ghost member = { is_digit };
+
+    fn has(b: u8) -> bool {
+        is_digit(b)
+    }
+}
+
+struct WordByte {}
+
+impl Class for WordByte {
+    ghost member = { is_word };
+
+    #[tactic(auto, unfolding(language::specs::Lexemes::is_word))]
+    fn has(b: u8) -> bool {
+        is_word_start(b) | is_digit(b)
+    }
+}
+
+struct BodyByte {}
+
+impl Class for BodyByte {
+    ghost member = { is_body };
+
+    #[tactic(auto, unfolding(language::specs::Lexemes::is_body))]
+    fn has(b: u8) -> bool {
+        (b != b'"') & (b != b'\n')
+    }
+}
+
+struct CommentByte {}
+
+impl Class for CommentByte {
+    ghost member = { not_newline };
+
+    #[tactic(auto, unfolding(language::specs::Lexemes::not_newline))]
+    fn has(b: u8) -> bool {
+        b != b'\n'
+    }
+}
 
 pub fn eat_digits(line: &[u8], at: usize) -> usize
     requires { at ≤ length line.now }
     ensures { result ≡ run_end is_digit line.now at }
 {
-    let mut i = at;
-    while i < line.len() {
-        let b = line[i];
-        if !is_digit(b) {
-            return i;
-        }
-        i += 1;
-    }
-    i
+    classes::run_end::<Digit>(line, at)
 }
 
 pub fn eat_word(line: &[u8], at: usize) -> usize
     requires { at ≤ length line.now }
     ensures { result ≡ run_end is_word line.now at }
 {
-    let mut i = at;
-    while i < line.len() {
-        let b = line[i];
-        if !is_word(b) {
-            return i;
-        }
-        i += 1;
-    }
-    i
-}
-
-// Bytes are looked at by blocks first: tests of eight bytes with `&` in place of branches become one comparison.
-fn body8(line: &[u8], at: usize) -> bool
-    requires { at + 8 ≤ length line.now }
-    ensures { result ≡ all_from is_body 8 line.now at }
-{
-    let a = line[at];
-    let b = line[at + 1];
-    let c = line[at + 2];
-    let d = line[at + 3];
-    let e = line[at + 4];
-    let f = line[at + 5];
-    let g = line[at + 6];
-    let h = line[at + 7];
-    ((a != b'"') & (a != b'\n'))
-        & ((b != b'"') & (b != b'\n'))
-        & ((c != b'"') & (c != b'\n'))
-        & ((d != b'"') & (d != b'\n'))
-        & ((e != b'"') & (e != b'\n'))
-        & ((f != b'"') & (f != b'\n'))
-        & ((g != b'"') & (g != b'\n'))
-        & ((h != b'"') & (h != b'\n'))
-}
-
-fn body_blocks(line: &[u8], at: usize) -> usize
-    requires { at ≤ length line.now }
-    ensures { (result ≤ length line.now) × (run_end is_body line.now result ≡ run_end is_body line.now at) }
-{
-    let mut i = at;
-    while i + 8 <= line.len() {
-        if !body8(line, i) {
-            return i;
-        }
-        i += 8;
-    }
-    i
+    classes::run_end::<WordByte>(line, at)
 }
 
 pub fn eat_body(line: &[u8], at: usize) -> usize
     requires { at ≤ length line.now }
     ensures { result ≡ run_end is_body line.now at }
 {
-    let mut i = body_blocks(line, at);
-    while i < line.len() {
-        let b = line[i];
-        if (b == b'"') | (b == b'\n') {
-            return i;
-        }
-        i += 1;
-    }
-    i
-}
-
-fn comment8(line: &[u8], at: usize) -> bool
-    requires { at + 8 ≤ length line.now }
-    ensures { result ≡ all_from not_newline 8 line.now at }
-{
-    (line[at] != b'\n')
-        & (line[at + 1] != b'\n')
-        & (line[at + 2] != b'\n')
-        & (line[at + 3] != b'\n')
-        & (line[at + 4] != b'\n')
-        & (line[at + 5] != b'\n')
-        & (line[at + 6] != b'\n')
-        & (line[at + 7] != b'\n')
-}
-
-fn comment_blocks(line: &[u8], at: usize) -> usize
-    requires { at ≤ length line.now }
-    ensures { (result ≤ length line.now) × (run_end not_newline line.now result ≡ run_end not_newline line.now at) }
-{
-    let mut i = at;
-    while i + 16 <= line.len() {
-        if !(comment8(line, i) & comment8(line, i + 8)) {
-            return i;
-        }
-        i += 16;
-    }
-    i
+    classes::long_run_end::<BodyByte, 8>(line, at)
 }
 
 // The end of a comment, and of a line: before byte 10 or where the bytes end.
@@ -166,14 +115,7 @@ pub fn eat_comment(line: &[u8], at: usize) -> usize
     requires { at ≤ length line.now }
     ensures { result ≡ run_end not_newline line.now at }
 {
-    let mut i = comment_blocks(line, at);
-    while i < line.len() {
-        if line[i] == b'\n' {
-            return i;
-        }
-        i += 1;
-    }
-    i
+    classes::long_run_end::<CommentByte, 16>(line, at)
 }
 
 // The end of the longest run of blank characters.
@@ -188,40 +130,31 @@ pub fn eat_spaces(line: &[u8], at: usize) -> usize
             i += 1;
             continue;
         }
-        let d = utf8::decode(line, i);
-        match d {
-            Decoded::Read(c, next) => {
-                if !is_space(c) {
-                    return i;
-                }
-                i = next;
-            }
-            Decoded::Nothing => {
-                return i;
-            }
+        let Some(here) = utf8::decode(line, i) else {
+            return i;
+        };
+        if !is_space(here.number) {
+            return i;
         }
+        i = here.next;
     }
     i
 }
 
 // ---- words
 
-// Whether a word is `key`.
+// Whether two slices have the same bytes, as far as the shorter one goes.
+fn all_same(word: &[u8], key: &[u8]) -> bool
+    ensures { result ≡ list_all (λ pair. pair.0 == pair.1) (zip word.now key.now) }
+{
+    word.iter().zip(key).all(|(b, k)| b == k)
+}
+
+// Whether a word is `key`. Here `==` of the two slices is a call, and slower.
 pub fn is_key(line: &[u8], at: usize, end: usize, key: &[u8]) -> bool
     requires { (at ≤ end) × (end ≤ length line.now) }
     ensures { result ≡ spelled line.now at end key.now }
 {
-    let size = end - at;
-    if size != key.len() {
-        return false;
-    }
-    let mut i = 0;
-    while i < key.len() {
-        let p = at + i;
-        if line[p] != key[i] {
-            return false;
-        }
-        i += 1;
-    }
-    true
+    let word = &line[at..end];
+    word.len() == key.len() && all_same(word, key)
 }

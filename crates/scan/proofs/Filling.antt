@@ -11,10 +11,9 @@ use Rattle.language.specs.Tables.{lexeme_row, lexeme_width}
 use Rattle.lexemes.specs.declared.Lexeme.{Lexeme}
 use Rattle.lexemes.specs.Kinds.{row_of}
 use Rattle.lexemes.proofs.Rows.{row_is, row_width}
-use Rattle.scan.specs.declared.Scanner.{Scanner}
-use Rattle.scan.specs.declared.Step.TheVariants.{Found, Done}
+use Rattle.std.specs.Prelude.{None}
 use Rattle.scan.specs.Scanning.{step_at}
-use Rattle.scan.proofs.Turns.{turn, at_end}
+use Rattle.scan.proofs.Turns.{Steps, turn, at_end}
 
 -- `count` lexemes are done, their rows are in the table of n words, and the scanner stands at `pos`
 pub record Filling (line : List ℕ) (n : ℕ) (table : List ℕ) (count pos : ℕ) : Type 0 where
@@ -31,16 +30,16 @@ module _ (line : List ℕ) (n : ℕ) (table : List ℕ) where
       record { done = []; whole = rw z; rows = e ∙ sym (tabled_none lexeme_row lexeme_width n); counted = refl; within = omega arith; few = omega arith }
 
   module _ (count pos : ℕ) (f : Filling line n table count pos) where
-    module _ (l : Lexeme) (next : Scanner) (e : Found l next ≡ step_at line pos) where
-      more : Filling line n (put_row table count (row_of l)) (count + 1) next.pos
+    module _ (l : Lexeme) (to : ℕ) (e : Steps line pos l to) where
+      more : Filling line n (put_row table count (row_of l)) (count + 1) to
       more =
-          let s = turn line pos l next e in
+          let s = turn line pos l to e in
           let x = lexeme (drop pos line) in
           let p = placed pos x in
           let r : row_of l ≡ lexeme_row p = ap row_of s.is ∙ row_is pos x in
           record {
             done = f.done ++ p ∷ [];
-            whole = append_assoc f.done (p ∷ []) (scan_from 0 next.pos (drop next.pos line)) ∙ ap (λ (s : List Placed). f.done ++ s) (sym s.rest) ∙ f.whole;
+            whole = append_assoc f.done (p ∷ []) (scan_from 0 to (drop to line)) ∙ ap (λ (s : List Placed). f.done ++ s) (sym s.rest) ∙ f.whole;
             rows = rw (f.rows, f.counted, r) (put_next lexeme_row lexeme_width row_width (omega arith) n f.done p);
             counted = let c = f.counted in simp length-append (omega arith);
             within = s.within;
@@ -48,11 +47,11 @@ module _ (line : List ℕ) (n : ℕ) (table : List ℕ) where
           }
 
       -- the same from what the calls say of their results
-      pub more_is : {r t : List ℕ} → r ≡ row_of l → t ≡ put_row table count r → Filling line n t (count + 1) next.pos
+      pub more_is : {r t : List ℕ} → r ≡ row_of l → t ≡ put_row table count r → Filling line n t (count + 1) to
       more_is e d = let z = d ∙ ap (put_row table count) e in rw z more
 
     -- at the end of the line all lexemes are done
-    module _ (e : Done ≡ step_at line pos) where
+    module _ (e : None ≡ step_at line pos) where
       all_done : f.done ≡ scan line
       all_done = sym (append-nil f.done) ∙ ap (λ (s : List Placed). f.done ++ s) (sym (at_end line pos e)) ∙ f.whole
 

@@ -17,18 +17,19 @@ use Rattle.language.specs.Lexemes.{slash, double_colon, colon, tok, error, unexp
 use Rattle.language.proofs.Tests.{inside, either, never}
 use Rattle.runs.proofs.Places.{here}
 use Rattle.utf8.specs.Decoding.{placed}
-use Rattle.utf8.specs.declared.Decoded.TheVariants.{Read, Nothing}
+use Rattle.utf8.proofs.Places.{some_place}
+use Rattle.utf8.specs.declared.Decoded.{Decoded}
 use Rattle.rows.specs.declared.token.Tok.{Tok}
 use Rattle.lexemes.specs.declared.Lexeme.{Lexeme}
 use Rattle.lexemes.specs.declared.LexemeKind.{LexemeKind}
 use Rattle.lexemes.specs.declared.LexemeKind.TheVariants as kind_is
 use Rattle.lexemes.specs.declared.LexErrorKind.TheVariants as error_is
-use Rattle.scan.specs.declared.Mark.TheVariants.{Is, Not}
+use Rattle.std.specs.Prelude.{Some, None}
 use Rattle.lexemes.specs.Kinds.{lexeme_as}
 use Rattle.rows.specs.Tokens.{tok_as}
-use Rattle.runs.specs.Runs.{run_end, blank_end}
+use Rattle.classes.specs.Runs.{run_end}
+use Rattle.runs.specs.Runs.{blank_end}
 use Rattle.scan.specs.Scanning.{mark_as, word_at, sign_of, step_at}
-use Rattle.scan.specs.declared.Step.TheVariants.{Found, Done}
 
 -- a lexeme of the code, from its parts
 abbrev pub made : ℕ → ℕ → LexemeKind → Lexeme
@@ -78,15 +79,15 @@ ascii_of_digit : (b : ℕ) (s : List ℕ) → is_word_start b ≡ false → is_d
 unfolding is_digit
 ascii_of_digit b s w d = let h = inside 48 57 b d in not_sign b (omega arith) (λ x. omega arith) s ∙ rw (w, d)
 
-ascii_of_mark : (b : ℕ) (s : List ℕ) (at : ℕ) (t : Tok) → Is t ≡ mark_as (punctuation b) → made at (at + 1) (kind_is.Tok t) ≡ lexeme_as at (ascii b s)
+ascii_of_mark : (b : ℕ) (s : List ℕ) (at : ℕ) (t : Tok) → Some t ≡ mark_as (punctuation b) → made at (at + 1) (kind_is.Tok t) ≡ lexeme_as at (ascii b s)
 unfolding ascii
 ascii_of_mark b s at t m = go (punctuation b) refl m
   where
-    go : (o : Option language.Tok) → punctuation b ≡ o → Is t ≡ mark_as o → made at (at + 1) (kind_is.Tok t) ≡ lexeme_as at (ascii b s)
+    go : (o : Option language.Tok) → punctuation b ≡ o → Some t ≡ mark_as o → made at (at + 1) (kind_is.Tok t) ≡ lexeme_as at (ascii b s)
     go (some u) e k = let z : t ≡ tok_as u = cc in rw (z, e, ascii)
     go none e k = never (cc)
 
-mark_none : (o : Option language.Tok) → Not ≡ mark_as o → o ≡ none
+mark_none : (o : Option language.Tok) → None ≡ mark_as o → o ≡ none
 mark_none (some u) k = never (cc)
 mark_none none k = refl
 
@@ -165,10 +166,10 @@ module _ (line : List ℕ) (at : ℕ) where
       → number (drop at line) ≡ ascii (get_or line at 0) (drop (at + 1) line)
   ascii_digit h w d = rw (ascii_of_digit (get_or line at 0) (drop (at + 1) line) w d, ← here line at h)
 
-  pub ascii_mark : (t : Tok) → Is t ≡ mark_as (punctuation (get_or line at 0)) → made at (at + 1) (kind_is.Tok t) ≡ lexeme_as at (ascii (get_or line at 0) (drop (at + 1) line))
+  pub ascii_mark : (t : Tok) → Some t ≡ mark_as (punctuation (get_or line at 0)) → made at (at + 1) (kind_is.Tok t) ≡ lexeme_as at (ascii (get_or line at 0) (drop (at + 1) line))
   ascii_mark t m = ascii_of_mark (get_or line at 0) (drop (at + 1) line) at t m
 
-  pub ascii_sign : is_word_start (get_or line at 0) ≡ false → is_digit (get_or line at 0) ≡ false → Not ≡ mark_as (punctuation (get_or line at 0))
+  pub ascii_sign : is_word_start (get_or line at 0) ≡ false → is_digit (get_or line at 0) ≡ false → None ≡ mark_as (punctuation (get_or line at 0))
       → sign_of line at ≡ ascii (get_or line at 0) (drop (at + 1) line)
   unfolding sign_of ascii
   ascii_sign w d m = let z : get_or (drop (at + 1) line) 0 0 ≡ get_or line (at + 1) 0 = get_or-drop (at + 1) line 0 0 ∙ rw add-zero in rw (mark_none (punctuation (get_or line at 0)) m, ascii, w, d, z)
@@ -177,49 +178,49 @@ module _ (line : List ℕ) (at : ℕ) where
 
   module _ (h : at < length line) where
     -- what the character that starts here says
-    read : (c next : ℕ) → Read c next ≡ placed at (char_at (drop at line)) → (size : ℕ) × (char_at (get_or line at 0 ∷ drop (at + 1) line) ≡ char c size) × (next ≡ at + size)
-    read c next r = go (char_at (drop at line)) refl r
-      where
-        go : (x : Char) → char_at (drop at line) ≡ x → Read c next ≡ placed at x → (size : ℕ) × (char_at (get_or line at 0 ∷ drop (at + 1) line) ≡ char c size) × (next ≡ at + size)
-        go (char n size) e k = let z : n ≡ c = cc in let y : next ≡ at + size = cc in (size, rw (← here line at h, ← z) e, y)
-        go no_char e k = never (cc)
+    read : (d : Decoded) → Some d ≡ placed at (char_at (drop at line))
+        → (size : ℕ) × (char_at (get_or line at 0 ∷ drop (at + 1) line) ≡ char d.number size) × (d.next ≡ at + size)
+    read d r =
+        let k = some_place at (char_at (drop at line)) d r in
+        (k.0, rw (← here line at h) k.1, k.2)
 
-    pub lexeme_blank : (c next e : ℕ) → Read c next ≡ placed at (char_at (drop at line)) → is_blank c ≡ true → e ≡ blank_end line at
+    pub lexeme_blank : (d : Decoded) (e : ℕ) → Some d ≡ placed at (char_at (drop at line)) → is_blank d.number ≡ true → e ≡ blank_end line at
         → made at e kind_is.Trivia ≡ lexeme_as at (lexeme (drop at line))
     unfolding lexeme blank_end
-    lexeme_blank c next e r k b =
-        let x = read c next r in
+    lexeme_blank d e r k b =
+        let x = read d r in
         rw (here line at h, x.1, k, ← here line at h, b)
 
-    pub lexeme_ascii : (c next : ℕ) → Read c next ≡ placed at (char_at (drop at line)) → is_blank c ≡ false → c < 128
+    pub lexeme_ascii : (d : Decoded) → Some d ≡ placed at (char_at (drop at line)) → is_blank d.number ≡ false → d.number < 128
         → ascii (get_or line at 0) (drop (at + 1) line) ≡ lexeme (drop at line)
     unfolding lexeme
-    lexeme_ascii c next r k l = let x = read c next r in rw (here line at h, x.1, k, lt-ltb _ _ l)
+    lexeme_ascii d r k l = let x = read d r in rw (here line at h, x.1, k, lt-ltb _ _ l)
 
-    pub lexeme_other : (c next : ℕ) → Read c next ≡ placed at (char_at (drop at line)) → is_blank c ≡ false → 128 ≤ c
-        → made at next (kind_is.Error (error_is.UnexpectedChar c)) ≡ lexeme_as at (lexeme (drop at line))
+    pub lexeme_other : (d : Decoded) → Some d ≡ placed at (char_at (drop at line)) → is_blank d.number ≡ false → 128 ≤ d.number
+        → made at d.next (kind_is.Error (error_is.UnexpectedChar d.number)) ≡ lexeme_as at (lexeme (drop at line))
     unfolding lexeme
-    lexeme_other c next r k l =
-        let x = read c next r in
+    lexeme_other d r k l =
+        let c = d.number in
+        let x = read d r in
         let z : lexeme (drop at line) ≡ lexeme_of (error (unexpected_char c)) x.0 = rw (here line at h, x.1, k, le-ltb _ _ l) in
         ap (λ (e : ℕ). made at e (kind_is.Error (error_is.UnexpectedChar c))) x.2 ∙ ap (lexeme_as at) (sym z)
 
-    pub lexeme_none : Nothing ≡ placed at (char_at (drop at line))
+    pub lexeme_none : None ≡ placed at (char_at (drop at line))
         → made at (at + 1) (kind_is.Error (error_is.UnexpectedChar (get_or line at 0))) ≡ lexeme_as at (lexeme (drop at line))
     unfolding lexeme
     lexeme_none r = go (char_at (drop at line)) refl r
       where
-        go : (x : Char) → char_at (drop at line) ≡ x → Nothing ≡ placed at x → made at (at + 1) (kind_is.Error (error_is.UnexpectedChar (get_or line at 0))) ≡ lexeme_as at (lexeme (drop at line))
+        go : (x : Char) → char_at (drop at line) ≡ x → None ≡ placed at x → made at (at + 1) (kind_is.Error (error_is.UnexpectedChar (get_or line at 0))) ≡ lexeme_as at (lexeme (drop at line))
         go (char n size) e k = never (cc)
         go no_char e k = let z : char_at (get_or line at 0 ∷ drop (at + 1) line) ≡ no_char = rw (← here line at h) e in rw (here line at h, z)
 
 -- ---- the scanner
 
 module _ (line : List ℕ) (at : ℕ) where
-  pub step_found : (l : Lexeme) → at < length line → l ≡ lexeme_as at (lexeme (drop at line)) → Found l (record { pos = l.end }) ≡ step_at line at
+  pub step_found : (l : Lexeme) → at < length line → l ≡ lexeme_as at (lexeme (drop at line)) → Some l ≡ step_at line at
   unfolding step_at
   step_found l h e = rw (e, lt-ltb _ _ h)
 
-  pub step_done : length line ≤ at → Done ≡ step_at line at
+  pub step_done : length line ≤ at → None ≡ step_at line at
   unfolding step_at
   step_done h = rw (le-ltb _ _ h)

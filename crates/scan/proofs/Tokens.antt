@@ -7,7 +7,7 @@ use borrow.Author.Tests.{ne_eqb}
 use Rattle.language.specs.Lexemes.{same, import_word, let_word, true_word, false_word, word, punctuation}
 use Rattle.rows.specs.declared.token.Tok.TheVariants as tok_is
 use Rattle.rows.specs.Tokens.{tok_as}
-use Rattle.scan.specs.declared.Mark.TheVariants as mark_is
+use Rattle.std.specs.Prelude.{None}
 use Rattle.scan.specs.Scanning.{mark_as}
 
 -- what a test came to is so of what it tests
@@ -40,7 +40,7 @@ module _ (w : List ℕ) where
 
 pub no_mark : (b : ℕ) →
     (((((Unit {0} × (b ≡ 40 → ⊥)) × (b ≡ 41 → ⊥)) × (b ≡ 46 → ⊥)) × (b ≡ 59 → ⊥)) × (b ≡ 61 → ⊥)) × (b ≡ 44 → ⊥)
-    → mark_is.Not ≡ mark_as (punctuation b)
+    → None ≡ mark_as (punctuation b)
 unfolding punctuation
 no_mark b r =
     rw (

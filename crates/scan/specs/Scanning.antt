@@ -1,27 +1,28 @@
 -- How the scanner's answers stand for the language's.
-use Rattle.std.specs.Prelude.{ℕ, ◌+◌, ◌-◌, List, [], ltb, leb, eqb, length, get_or, drop}
+use Rattle.std.specs.Prelude as code
+use Rattle.std.specs.Prelude.{◌≡◌, ℕ, ◌+◌, ◌-◌, List, [], ltb, leb, eqb, length, get_or, drop, Some, None}
 use Rattle.std.proofs.Math.Option.{Option, none, some}
 use Rattle.language.specs.Choice.{if'}
 use Rattle.language.specs.Lexemes as language
 use Rattle.language.specs.Numbers as numbers
 use Rattle.language.specs.Lexemes.{double_colon, colon, slash, unexpected_char, tok, error, word, lexeme_of, comment, string, lexeme}
 use Rattle.rows.specs.declared.token.Tok.{Tok}
+use Rattle.lexemes.specs.declared.Lexeme.{Lexeme}
 use Rattle.lexemes.specs.Kinds.{lexeme_as}
 use Rattle.rows.specs.Tokens.{tok_as}
 use Rattle.language.specs.Tokens.{between}
-use Rattle.scan.specs.declared.Mark.{Mark}
-use Rattle.scan.specs.declared.Mark.TheVariants as mark_is
-use Rattle.scan.specs.declared.Step.{Step}
-use Rattle.scan.specs.declared.Step.TheVariants.{Found, Done}
+use Rattle.scan.specs.declared.Scanner.{Scanner}
+use Rattle.scan.specs.declared.ScanError.{ScanError}
+use Rattle.scan.specs.declared.ScanError.TheVariants as error_is
 use Rattle.rows.specs.Rows.{verdict_as}
 use Rattle.scan.specs.declared.Scanned.{Scanned}
 
 abbrev pub word_at : List ℕ → ℕ → ℕ → Tok
 word_at s at e = tok_as (word (between s at e))
 
-abbrev pub mark_as : Option language.Tok → Mark
-mark_as (some t) = mark_is.Is (tok_as t)
-mark_as none = mark_is.Not
+abbrev pub mark_as : Option language.Tok → code.Option Tok
+mark_as (some t) = Some (tok_as t)
+mark_as none = None
 
 -- ---- the scanner
 
@@ -37,11 +38,20 @@ sign_of s at =
     (if' (eqb b 34) (string rest)
     (lexeme_of (error (unexpected_char b)) 1))))
 
-abbrev pub found : language.Lexeme → ℕ → Step
-found l at = Found (lexeme_as at l) (record { pos = at + l.size })
+-- the lexeme that stands at a place, or none at the end of the line
+unfoldable pub step_at : List ℕ → ℕ → code.Option Lexeme
+step_at s at = if' (ltb at (length s)) (Some (lexeme_as at (lexeme (drop at s)))) None
 
-unfoldable pub step_at : List ℕ → ℕ → Step
-step_at s at = if' (ltb at (length s)) (found (lexeme (drop at s)) at) Done
+-- where a scanner goes on from `at`: past the lexeme that it gave
+abbrev pub after : ℕ → code.Option Lexeme → ℕ
+after at (Some l) = l.end
+after at None = at
+
+-- a call of `next` at x gave r, and left y
+pub record GivesLexeme (x : Scanner) (r : code.Option Lexeme) (y : Scanner) : Type 0 where
+  pub found : r ≡ step_at x.line.now x.pos
+  pub line : y.line.now ≡ x.line.now
+  pub goes : y.pos ≡ after x.pos r
 
 -- the body of a string literal that starts at `at` and ends at e: between its quotes; nothing where no literal fits
 unfoldable pub body_of : List ℕ → ℕ → ℕ → List ℕ
@@ -51,3 +61,9 @@ body_of s at e = if' (leb (at + 2) e) (if' (leb e (length s)) (between s (at + 1
 
 abbrev pub scanned_as : numbers.Scanned → Scanned
 scanned_as a = record { verdict = verdict_as a.verdict; lexemes = a.count }
+
+-- what a refusal is for the language
+abbrev pub refusal_of : ScanError → numbers.Verdict
+refusal_of error_is.TooLong = numbers.verdict 1 0 0
+refusal_of (error_is.NotUtf8 column) = numbers.verdict 2 1 column
+refusal_of error_is.TableRoom = numbers.verdict 4 0 0

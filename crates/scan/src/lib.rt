@@ -1,19 +1,19 @@
 #![tactic(auto)]
 // The scanner: what stands at each place of a line. Ports lex.rs `Scanner`: which lexeme starts with a character, and the
 // step from one to the next; the definitions are `Lexemes` of the crate `language`.
-ghost use Rattle.std.specs.Prelude.{◌≡◌, true, [], ◌+◌, ◌≤◌, ◌<◌, length, drop, get_or};
+ghost use Rattle.std.specs.Prelude.{◌≡◌, true, [], ◌+◌, ◌-◌, ◌≤◌, ◌<◌, length, drop, get_or};
+ghost use Rattle.std.specs.Iterator.{at_most};
 ghost use Rattle.language.specs.Tokens.{most_bytes};
 ghost use Rattle.language.specs.Lexemes.{is_digit, number, comment, string, punctuation, ascii, lexeme, scan};
 ghost use Rattle.language.specs.Tables.{lexeme_row, lexeme_width};
 ghost use Rattle.table.specs.Table.{pad_to, tabled};
 ghost use Rattle.lexemes.specs.Kinds.{lexeme_as};
-ghost use Rattle.scan.specs.Entry.{ScanLine};
-ghost use Rattle.scan.specs.Scanning.{word_at, mark_as, sign_of, step_at, body_of};
+ghost use Rattle.rows.specs.Rows.{verdict_as};
+ghost use Rattle.scan.specs.Entry.{ScanLine, Scans};
+ghost use Rattle.scan.specs.Scanning.{word_at, mark_as, sign_of, GivesLexeme, body_of, refusal_of};
 
 use lexemes::{LexErrorKind, Lexeme, LexemeKind};
-use numerals::{Octet, Quad};
 use rows::{LexemeRow, Source, Tok, Verdict};
-use utf8::{Bad, Decoded};
 
 // ---- words
 
@@ -59,25 +59,18 @@ fn string(line: &[u8], at: usize) -> Lexeme
     }
 }
 
-// A token, or none.
-#[derive(Clone, Copy)]
-pub enum Mark {
-    Is(Tok),
-    Not,
-}
-
 // The punctuation that is one byte long wherever it stands.
-fn punctuation(b: u8) -> Mark
+fn punctuation(b: u8) -> Option<Tok>
     ensures { result ≡ mark_as (punctuation b) }
 {
     match b {
-        b'(' => Mark::Is(Tok::LParen),
-        b')' => Mark::Is(Tok::RParen),
-        b'.' => Mark::Is(Tok::Dot),
-        b';' => Mark::Is(Tok::SemiColon),
-        b'=' => Mark::Is(Tok::Equals),
-        b',' => Mark::Is(Tok::Comma),
-        _ => Mark::Not,
+        b'(' => Some(Tok::LParen),
+        b')' => Some(Tok::RParen),
+        b'.' => Some(Tok::Dot),
+        b';' => Some(Tok::SemiColon),
+        b'=' => Some(Tok::Equals),
+        b',' => Some(Tok::Comma),
+        _ => None,
     }
 }
 
@@ -114,35 +107,25 @@ fn unexpected(at: usize, end: usize, c: u32) -> Lexeme
 
 // ---- the scanner
 
-// How far a line has been scanned: `pos` is where the next lexeme starts.
-#[derive(Clone, Copy)]
-pub struct Scanner {
+// What is left to scan of a line: the lexemes from `pos` on. Past its end there are none.
+#[derive(Clone, Drop)]
+pub struct Scanner<'a> {
+    pub line: &'a [u8],
     pub pos: usize,
 }
 
-// What the scanner finds next.
-#[derive(Clone, Copy)]
-pub enum Step {
-    Found(Lexeme, Scanner),
-    Done,
-}
-
-impl Scanner {
-    pub fn new() -> Self
-        ensures { result.pos ≡ 0 }
+impl<'a> Scanner<'a> {
+    pub fn new(line: &'a [u8]) -> Scanner<'a>
+        ensures { (result.line.now ≡ line.now) × (result.pos ≡ 0) }
     {
-        Self { pos: 0 }
+        Scanner::at(line, 0)
     }
 
-    pub fn next(self, line: &[u8]) -> Step
-        ensures { result ≡ step_at line.now self.pos }
+    // The lexemes of the line from a place on, where a lexeme starts.
+    pub fn at(line: &'a [u8], pos: usize) -> Scanner<'a>
+        ensures { (result.line.now ≡ line.now) × (result.pos ≡ pos) }
     {
-        let at = self.pos;
-        if at < line.len() {
-            let found = Scanner::lexeme(line, at);
-            return Step::Found(found, Scanner { pos: found.end });
-        }
-        Step::Done
+        Scanner { line, pos }
     }
 
     // Whatever starts at `at`.
@@ -150,26 +133,20 @@ impl Scanner {
         requires { at < length line.now }
         ensures { result ≡ lexeme_as at (lexeme (drop at line.now)) }
     {
-        let d = utf8::decode(line, at);
-        match d {
-            Decoded::Read(c, next) => {
-                if runs::is_space(c) {
-                    return Lexeme {
-                        start: at,
-                        end: runs::eat_spaces(line, at),
-                        kind: LexemeKind::Trivia,
-                    };
-                }
-                if c < 128 {
-                    return Scanner::ascii(line, at);
-                }
-                unexpected(at, next, c)
-            }
-            Decoded::Nothing => {
-                let b = line[at];
-                unexpected(at, at + 1, b as u32)
-            }
+        let Some(here) = utf8::decode(line, at) else {
+            return unexpected(at, at + 1, u32::from(line[at]));
+        };
+        if runs::is_space(here.number) {
+            return Lexeme {
+                start: at,
+                end: runs::eat_spaces(line, at),
+                kind: LexemeKind::Trivia,
+            };
         }
+        if here.number < 128 {
+            return Scanner::ascii(line, at);
+        }
+        unexpected(at, here.next, here.number)
     }
 
     // What starts with an ASCII character that is not blank.
@@ -185,8 +162,7 @@ impl Scanner {
         if runs::is_digit(b) {
             return Scanner::number(line, at);
         }
-        let mark = punctuation(b);
-        if let Mark::Is(t) = mark {
+        if let Some(t) = punctuation(b) {
             return token(at, at + 1, t);
         }
         Scanner::sign(line, at)
@@ -226,34 +202,48 @@ impl Scanner {
         requires { (at < length line.now) × (is_digit (get_or line.now at 0) ≡ true) }
         ensures { result ≡ lexeme_as at (number (drop at line.now)) }
     {
-        let q = numerals::dotted_quad(line, at);
-        match q {
-            Quad::Dotted(dotted, address) => {
-                let end = runs::eat_word(line, dotted);
-                if let Octet::Good(a) = address {
-                    if end == dotted {
-                        return Lexeme {
-                            start: at,
-                            end: end,
-                            kind: LexemeKind::Tok(Tok::IPv4Literal(a)),
-                        };
-                    }
-                }
-                Lexeme {
+        let Some(quad) = numerals::dotted_quad(line, at) else {
+            let end = runs::eat_word(line, at);
+            return Lexeme {
+                start: at,
+                end,
+                kind: numerals::integer(line, at, end),
+            };
+        };
+        let end = runs::eat_word(line, quad.end);
+        if let Some(a) = quad.address {
+            if end == quad.end {
+                return Lexeme {
                     start: at,
-                    end: end,
-                    kind: LexemeKind::Error(LexErrorKind::IPv4Literal),
-                }
-            }
-            Quad::Not => {
-                let end = runs::eat_word(line, at);
-                Lexeme {
-                    start: at,
-                    end: end,
-                    kind: numerals::integer(line, at, end),
-                }
+                    end,
+                    kind: LexemeKind::Tok(Tok::IPv4Literal(a)),
+                };
             }
         }
+        Lexeme {
+            start: at,
+            end,
+            kind: LexemeKind::Error(LexErrorKind::IPv4Literal),
+        }
+    }
+}
+
+impl<'a> Iterator for Scanner<'a> {
+    type Item = Lexeme;
+
+    ghost next_gives = { GivesLexeme };
+
+    ghost remaining = { λ s. at_most (length s.line.now - s.pos) };
+
+    // Without this a `next` that is called has the line and the place in memory, which costs two instructions a lexeme.
+    #[inline(always)]
+    fn next(&mut self) -> Option<Lexeme> {
+        if self.pos < self.line.len() {
+            let found = Scanner::lexeme(self.line, self.pos);
+            self.pos = found.end;
+            return Some(found);
+        }
+        None
     }
 }
 
@@ -288,49 +278,69 @@ fn fill(line: &[u8], table: &mut [u64]) -> u64
     ensures value { result ≡ length (scan line.now) }
     ensures table_after { table.new ≡ tabled lexeme_row lexeme_width (length table.old) (scan line.now) }
 {
-    let mut scanner = Scanner::new();
     let mut count: usize = 0;
-    loop {
-        let step = scanner.next(line);
-        let Step::Found(found, next) = step else {
-            return count as u64;
-        };
-        let row = lexemes::row_of(found);
-        table::put_row(table, count, &row);
+    for found in Scanner::new(line) {
+        table::put_row(table, count, &lexemes::row_of(found));
         count += 1;
-        scanner = next;
+    }
+    count as u64
+}
+
+// Why a line is refused: it is too long, its text is no UTF-8 at a column, from 1, or the table has no room for its lexemes.
+#[derive(Clone, Copy)]
+pub enum ScanError {
+    TooLong,
+    NotUtf8(u64),
+    TableRoom,
+}
+
+// The numbers, which C reads.
+impl From<ScanError> for Verdict {
+    ghost from_gives = { λ e v. v ≡ verdict_as (refusal_of e) };
+
+    fn from(error: ScanError) -> Verdict {
+        match error {
+            ScanError::TooLong => Verdict::new(Verdict::TOO_LONG, 0, 0),
+            ScanError::NotUtf8(column) => Verdict::new(Verdict::NOT_UTF8, 1, column),
+            ScanError::TableRoom => Verdict::new(Verdict::TOKEN_ROOM, 0, 0),
+        }
     }
 }
 
-// Scans a line, which may hold byte 10, into a lent table of lexemes.
+// Scans a line into a lent table, and answers how many lexemes it has. Only a line that is not refused clears the table first.
+fn scan_into(line: &[u8], table: &mut [u64]) -> Result<u64, ScanError>
+    ensures { Scans line.now (length table.old) result table.new }
+{
+    let room = (table.len() / LexemeRow::WORDS) as u64;
+    if Source::MOST_BYTES < line.len() {
+        return Err(ScanError::TooLong);
+    }
+    if let Some(at) = utf8::first_bad(line) {
+        return Err(ScanError::NotUtf8(at as u64 + 1));
+    }
+    table::clear(table);
+    let count = fill(line, table);
+    if room < count {
+        return Err(ScanError::TableRoom);
+    }
+    Ok(count)
+}
+
+// Scans a line, which may hold byte 10, into a lent table of lexemes. `Scanned` is what C reads.
 pub fn scan_line(line: &[u8], table: &mut [u64]) -> Scanned
     ensures { ScanLine line.now (length table.old) result table.new }
 {
-    let room = (table.len() / LexemeRow::WORDS) as u64;
-    table::clear(table);
-    if Source::MOST_BYTES < line.len() {
-        return Scanned {
-            verdict: Verdict::new(Verdict::TOO_LONG, 0, 0),
-            lexemes: 0,
-        };
-    }
-    let bad = utf8::first_bad(line);
-    if let Bad::At(at) = bad {
-        return Scanned {
-            verdict: Verdict::new(Verdict::NOT_UTF8, 1, at as u64 + 1),
-            lexemes: 0,
-        };
-    }
-    let count = fill(line, table);
-    if room < count {
-        table::clear(table);
-        return Scanned {
-            verdict: Verdict::new(Verdict::TOKEN_ROOM, 0, 0),
-            lexemes: 0,
-        };
-    }
-    Scanned {
-        verdict: Verdict::new(Verdict::DONE, 0, 0),
-        lexemes: count,
+    match scan_into(line, table) {
+        Ok(count) => Scanned {
+            verdict: Verdict::new(Verdict::DONE, 0, 0),
+            lexemes: count,
+        },
+        Err(error) => {
+            table::clear(table);
+            Scanned {
+                verdict: Verdict::from(error),
+                lexemes: 0,
+            }
+        }
     }
 }

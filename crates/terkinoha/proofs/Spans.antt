@@ -33,7 +33,7 @@ module _ (text : List ℕ) (at : ℕ) where
   -- the lexeme at a place: the scanner's step there
   here : at < length text → Turn text at (lexeme_as at (lexeme (drop at text))) after
   unfolding step_at
-  here h = turn text at (lexeme_as at (lexeme (drop at text))) (record { pos = after }) (rw (lt-ltb at (length text) h))
+  here h = turn text at (lexeme_as at (lexeme (drop at text))) after (rw (lt-ltb at (length text) h), refl)
 
   pub spans_end : length text ≤ at → spans_from text at ≡ []
   unfolding spans_from

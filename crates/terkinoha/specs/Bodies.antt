@@ -1,13 +1,12 @@
 -- Where the bodies of a string token lie in the source: what a host asks by number, or walks over one after the other.
-use Rattle.std.specs.Prelude.{ℕ, ◌+◌, ◌-◌, ◌<◌, ◌≤◌, ◌≡◌, leb, length, take, drop}
+use Rattle.std.specs.Prelude.{Option, Some, None, ℕ, ◌+◌, ◌-◌, ◌<◌, ◌≤◌, ◌≡◌, leb, length, take, drop}
 use mathlib.Core.List.{List, [], ◌∷◌, ◌++◌, map, Memᴰ}
 use Rattle.language.specs.Choice.{if'}
 use Rattle.language.specs.Lexemes.{Kind, trivia, str, tok, error, Placed, scan_from}
 use Rattle.language.specs.Tokens.{Token, string, tokens, between}
 use Rattle.language.specs.Determined.{Determined}
 use Rattle.terkinoha.specs.declared.Body.{Body}
-use Rattle.terkinoha.specs.declared.Literal.{Literal}
-use Rattle.terkinoha.specs.declared.Literal.TheVariants.{At, Nowhere}
+use Rattle.lexemes.specs.declared.Lexeme.{Lexeme}
 
 -- ---- the spans
 
@@ -45,13 +44,13 @@ first [] = none
 first (x ∷ xs) = record { found = 1; start = x.start; end = x.end; next = x.end + 1 }
 
 -- the first literal of a text from `at` on, from its first quote past its last
-abbrev pub LiteralIs : List ℕ → ℕ → Literal → Type 0
-LiteralIs text at (At from past) =
-    (at ≤ from) × (from < past) × (past ≤ length text)
-    × (spans_from text at ≡ record { start = from + 1; end = past - 1 } ∷ spans_from text past)
-LiteralIs text at Nowhere = spans_from text at ≡ []
+abbrev pub LiteralIs : List ℕ → ℕ → Option Lexeme → Type 0
+LiteralIs text at (Some l) =
+    (at ≤ l.start) × (l.start < l.end) × (l.end ≤ length text)
+    × (spans_from text at ≡ record { start = l.start + 1; end = l.end - 1 } ∷ spans_from text l.end)
+LiteralIs text at None = spans_from text at ≡ []
 
-pub record FirstOf (text : List ℕ) (at : ℕ) (r : Literal) : Type 0 where
+pub record FirstOf (text : List ℕ) (at : ℕ) (r : Option Lexeme) : Type 0 where
   pub is : LiteralIs text at r
 
 -- of `terkinoha_next_body`: the first body that a source has from `at` up to e

@@ -8,15 +8,15 @@ ghost use Rattle.lex.specs.Entry.{LexSource};
 ghost use Rattle.parse.specs.Entry.{ParseSource};
 ghost use Rattle.canon.specs.Entry.{CanonSource};
 ghost use Rattle.checker.specs.Entry.{CheckSource};
-ghost use Rattle.terkinoha.specs.Bodies.{none, FirstOf, NextBody, BodyAt};
+ghost use Rattle.terkinoha.specs.Bodies.{FirstOf, NextBody, BodyAt};
 ghost use Rattle.terkinoha.specs.Version.{version};
 
 use canon::Canonised;
 use checker::CheckAnswer;
 use lex::Lexed;
-use lexemes::LexemeKind;
+use lexemes::{Lexeme, LexemeKind};
 use parse::ParseAnswer;
-use scan::{Scanned, Scanner, Step};
+use scan::{Scanned, Scanner};
 
 // The version of the header that this code goes with.
 #[unsafe(no_mangle)]
@@ -84,9 +84,9 @@ pub extern "C" fn terkinoha_check_words(
 // ---- the bodies of a string
 
 // Where the body of a string literal lies in the source, and where the walk over a string's bodies goes on. All zero: there
-// is none.
+// is none. C reads it, so `found` is a word.
 #[repr(C)]
-#[derive(Clone, Copy)]
+#[derive(Clone, Copy, Default)]
 pub struct Body {
     pub found: u64,
     pub start: u64,
@@ -94,40 +94,16 @@ pub struct Body {
     pub next: u64,
 }
 
-// A string literal by the offsets of its quotes: the first, and past the last.
-#[derive(Clone, Copy)]
-pub enum Literal {
-    At(usize, usize),
-    Nowhere,
-}
-
-fn no_body() -> Body
-    ensures { result ≡ none }
-{
-    Body {
-        found: 0,
-        start: 0,
-        end: 0,
-        next: 0,
-    }
-}
-
 // The first literal among the lexemes of a text from `at` on.
-fn literal_from(text: &[u8], at: usize) -> Literal
+fn literal_from(text: &[u8], at: usize) -> Option<Lexeme>
     ensures { FirstOf text.now at result }
 {
-    let mut scanner = Scanner { pos: at };
-    loop {
-        let step = scanner.next(text);
-        let Step::Found(found, next) = step else {
-            return Literal::Nowhere;
-        };
-        let kind = found.kind;
-        if let LexemeKind::Str = kind {
-            return Literal::At(found.start, found.end);
+    for found in Scanner::at(text, at) {
+        if let LexemeKind::Str = found.kind {
+            return Some(found);
         }
-        scanner = next;
     }
+    None
 }
 
 // The first body that a part of the source has, from `at` up to `end`.
@@ -137,16 +113,16 @@ pub extern "C" fn terkinoha_next_body(source: &[u8], at: u64, end: u64) -> Body
 {
     let to = end as usize;
     if source.len() < to {
-        return no_body();
+        return Body::default();
     }
     match literal_from(&source[..to], at as usize) {
-        Literal::At(from, past) => Body {
+        Some(literal) => Body {
             found: 1,
-            start: from as u64 + 1,
-            end: past as u64 - 1,
-            next: past as u64,
+            start: literal.start as u64 + 1,
+            end: literal.end as u64 - 1,
+            next: literal.end as u64,
         },
-        Literal::Nowhere => no_body(),
+        None => Body::default(),
     }
 }
 
@@ -155,14 +131,12 @@ pub extern "C" fn terkinoha_next_body(source: &[u8], at: u64, end: u64) -> Body
 pub extern "C" fn terkinoha_body_at(source: &[u8], start: u64, end: u64, i: u64) -> Body
     ensures { BodyAt source.now start end i result }
 {
-    let mut left = i;
     let mut body = terkinoha_next_body(source, start, end);
-    while 0 < left {
+    for n in 0..i {
         if body.found == 0 {
             return body;
         }
         body = terkinoha_next_body(source, body.next, end);
-        left -= 1;
     }
     body
 }

@@ -3,23 +3,27 @@
 --     bad_char   a character is passed: it ends within the source
 --     bad_here   no character starts
 --     bad_end    the source is at its end
---     pass_..    within a run of ASCII: a byte, and a block of bytes
+--     ascii_passed  a run of ASCII is passed
 use mathlib.Core.Path.{◌≡◌, refl, sym, ap, ◌∙◌}
-use mathlib.Core.Bool.{Bool, true, false, not, ◌&&◌}
+use mathlib.Core.Bool.{Bool, true, false, ◌&&◌}
 use mathlib.Core.List.{List, [], ◌∷◌}
 use mathlib.Core.Option.{Option, none, some}
+use Rattle.std.specs.Prelude.{Some, None}
 use Prim.Native.Nat.{ℕ, zero, suc, ◌+◌, ◌-◌, ◌*◌, ◌≤◌, ◌<◌}
 use native.Mathlib.Nat.{add-zero}
 use native.Mathlib.Omega.{arith}
-use borrow.Author.Tests.{ltb-true, not-false}
+use borrow.Author.Tests.{ltb-true}
 use lib.ListN.{length, get_or, drop, drop_of_length-le, length-drop}
 use lib.Seq.{drop-cons, drop-drop}
 use Rattle.language.specs.Choice.{if', within}
 use Rattle.language.specs.Utf8.{Lead, Char, char, no_char, lead_of, follow, begun, char_at, bad_from, first_bad}
-use Rattle.utf8.specs.declared.Decoded.TheVariants.{Read, Nothing}
-use Rattle.utf8.specs.declared.Bad.TheVariants.{At, Nowhere}
+use Rattle.utf8.specs.declared.Decoded.{Decoded}
 use Rattle.utf8.specs.Decoding.{placed, bad_of, Passed}
-use Rattle.utf8.specs.Blocks.{all_from, is_ascii}
+use Rattle.utf8.specs.Ascii.{is_ascii}
+use Rattle.language.specs.Lexemes.{run}
+use Rattle.language.proofs.LexemeSizes.{run_fits}
+use Rattle.classes.specs.Runs.{run_end}
+use native.Mathlib.Numerals.{add-one}
 use Rattle.language.proofs.Tests.{both, inside, inside_test, never}
 use Rattle.language.proofs.Utf8Rows.{here, later}
 use Rattle.utf8.proofs.Leads.{row_in}
@@ -68,15 +72,15 @@ one_good : (at b : ℕ) (s : List ℕ) (n m : ℕ) → char_at (b ∷ s) ≡ cha
 unfolding bad_from
 one_good at b s n m e = rw (e, bad_from)
 
-no_place : (at : ℕ) (c : Char) → Nothing ≡ placed at c → c ≡ no_char
+no_place : (at : ℕ) (c : Char) → None ≡ placed at c → c ≡ no_char
 no_place at (char n m) e = never (cc)
 no_place at no_char e = refl
 
-some_place : (at : ℕ) (c : Char) (n next : ℕ) → Read n next ≡ placed at c → (m : ℕ) × (c ≡ char n m) × (next ≡ at + m)
-some_place at (char k m) n next e =
-    let p : n ≡ k = cc in
-    (m, rw p, cc)
-some_place at no_char n next e = never (cc)
+pub some_place : (at : ℕ) (c : Char) (d : Decoded) → Some d ≡ placed at c → (m : ℕ) × (c ≡ char d.number m) × (d.next ≡ at + m)
+some_place at (char k m) d e =
+    let p : d ≡ record { number = k; next = at + m } = cc in
+    (m, rw p, rw p)
+some_place at no_char d e = never (cc)
 
 -- a place further on, from which the answer is the same
 pub record Onward (s : List ℕ) (i next : ℕ) : Type 0 where
@@ -85,12 +89,12 @@ pub record Onward (s : List ℕ) (i next : ℕ) : Type 0 where
   pub same : bad_from 0 next (drop next s) ≡ bad_from 0 i (drop i s)
 
 module _ (s : List ℕ) (i : ℕ) where
-  pub bad_end : length s ≤ i → Nowhere ≡ bad_of (bad_from 0 i (drop i s))
+  pub bad_end : length s ≤ i → None ≡ bad_of (bad_from 0 i (drop i s))
   unfolding bad_from
   bad_end h = rw drop_of_length-le
 
   module _ (in_source : i < length s) where
-    pub bad_here : Nothing ≡ placed i (char_at (drop i s)) → At i ≡ bad_of (bad_from 0 i (drop i s))
+    pub bad_here : None ≡ placed i (char_at (drop i s)) → Some i ≡ bad_of (bad_from 0 i (drop i s))
     bad_here e =
         let c = rw (drop-cons s i 0 in_source) at (no_place i (char_at (drop i s)) e) in
         rw (drop-cons s i 0 in_source, one_bad i (get_or s i 0) (drop (suc i) s) c)
@@ -113,10 +117,10 @@ module _ (s : List ℕ) (i : ℕ) where
               ∙ rw (drop-drop, p));
         }
 
-    pub bad_char : (n next : ℕ) → Read n next ≡ placed i (char_at (drop i s)) → Onward s i next
-    bad_char n next e =
-        let k = some_place i (char_at (drop i s)) n next e in
-        rw k.2 (over_char n k.0 k.1)
+    pub bad_char : (d : Decoded) → Some d ≡ placed i (char_at (drop i s)) → Onward s i d.next
+    bad_char d e =
+        let k = some_place i (char_at (drop i s)) d e in
+        rw k.2 (over_char d.number k.0 k.1)
 
     pub bad_ascii : get_or s i 0 < 0x80 → Onward s i (i + 1)
     bad_ascii h = over_char (get_or s i 0) 1 (ascii_char s i in_source h)
@@ -137,7 +141,7 @@ two_passed s i h e =
     let a = inside 0xC2 0xDF (get_or s i 0) q.0 in
     let b = inside 0x80 0xBF (get_or s (i + 1) 0) q.1 in
     let l : i < length s = omega arith in
-    let d = longer_char s i l 1 0x80 0xBF (get_or s i 0 - 0xC0) (row_in (get_or s i 0) (get_or s i 0) refl (later here) a.0 (omega (arith, a.1))) in
+    let d = longer_char s i l (record { tails = 1; low = 0x80; high = 0xBF; bits = get_or s i 0 - 0xC0 }) (row_in (get_or s i 0) (get_or s i 0) refl (later here) a.0 (omega (arith, a.1))) in
     let t = one_tail (get_or s (i + 1) 0) (drop (suc (i + 1)) s) (get_or s i 0 - 0xC0) b.0 b.1 in
     let o = over_char s i l t.0 2 (d ∙ ap (follow 2 1 0x80 0xBF (get_or s i 0 - 0xC0)) (drop-cons s (i + 1) 0 h) ∙ t.1) in
     record { further = omega (arith, o.further); in_source = o.in_source; same = o.same }
@@ -150,46 +154,26 @@ stay s at h = record { further = omega arith; in_source = h; same = refl }
 pub pass_on : {s : List ℕ} {at i next : ℕ} → Passed s at i → Passed s i next → Passed s at next
 pass_on o p = record { further = omega (arith, o.further, p.further); in_source = p.in_source; same = p.same ∙ o.same }
 
-module _ {s : List ℕ} {at i : ℕ} (o : Passed s at i) where
-  pub pass_byte : i < length s → get_or s i 0 < 0x80 → Passed s at (i + 1)
-  pass_byte h a =
-      let k = bad_ascii s i h a in
-      record { further = omega (arith, o.further); in_source = k.in_source; same = k.same ∙ o.same }
+first_in : (t : Bool) (m n : ℕ) → if' t (suc m) 0 ≡ suc n → (t ≡ true) × (m ≡ n)
+first_in true m n e = (refl, omega arith)
+first_in false m n e = absurd (omega arith)
 
--- n bytes that are all ASCII are passed
-pub pass_block : {s : List ℕ} {at i : ℕ} (n : ℕ) → Passed s at i → i + n ≤ length s → all_from is_ascii n s i ≡ true → Passed s at (i + n)
-unfolding all_from is_ascii
-pass_block {s} {at} {i} zero o h e = let p : i ≡ i + zero = omega arith in rw p at o
-pass_block {s} {at} {i} (suc n) o h e =
-    let q = both (all_from is_ascii n s i) (is_ascii (get_or s (i + n) 0)) e in
-    let p : i + n + 1 ≡ i + suc n = omega arith in
-    rw (← p) (pass_byte (pass_block n o (omega arith) q.0) (omega arith) (ltb-true (get_or s (i + n) 0) 0x80 q.1))
+-- a run of n bytes that are ASCII is passed
+ascii_run : (s : List ℕ) (at n : ℕ) → at ≤ length s → run is_ascii (drop at s) ≡ n → Passed s at (at + n)
+unfolding is_ascii
+ascii_run s at zero h e = let p : at ≡ at + zero = omega arith in rw (← p) (stay s at h)
+ascii_run s at (suc n) h e =
+    let l : at < length s = omega (arith, run_fits is_ascii (drop at s), length-drop at s) in
+    let b = get_or s at 0 in
+    let k = first_in (is_ascii b) (run is_ascii (drop (suc at) s)) n (rw (drop-cons s at 0 l) at e) in
+    let o = bad_ascii s at l (ltb-true b 0x80 k.0) in
+    let p : suc at + n ≡ at + suc n = omega arith in
+    let r = rw p at (ascii_run s (suc at) n (omega arith) k.1) in
+    pass_on (record { further = omega arith; in_source = omega arith; same = rw add-one at o.same }) r
 
--- a block of eight, by what its test came to
-pub pass_eight : {s : List ℕ} {at i : ℕ} {a : Bool} → Passed s at i → i + 8 ≤ length s → a ≡ all_from is_ascii 8 s i → not a ≡ false → Passed s at (i + 8)
-pass_eight o h ea e = pass_block 8 o h (sym ea ∙ not-false _ e)
-
--- four blocks of eight, by what their tests came to
-pub pass_four : {s : List ℕ} {at i : ℕ} {a b c d : Bool}
-    → Passed s at i
-    → i + 32 ≤ length s
-    → a ≡ all_from is_ascii 8 s i
-    → b ≡ all_from is_ascii 8 s (i + 8)
-    → c ≡ all_from is_ascii 8 s (i + 16)
-    → d ≡ all_from is_ascii 8 s (i + 24)
-    → not ((a && b) && (c && d)) ≡ false
-    → Passed s at (i + 32)
-pass_four {s} {at} {i} {a} {b} {c} {d} o h ea eb ec ed e =
-    let q = both (a && b) (c && d) (not-false _ e) in
-    let l = both a b q.0 in
-    let r = both c d q.1 in
-    let p1 : i + 8 + 8 ≡ i + 16 = omega arith in
-    let p2 : i + 16 + 8 ≡ i + 24 = omega arith in
-    let p3 : i + 24 + 8 ≡ i + 32 = omega arith in
-    let o1 = pass_block 8 o (omega arith) (sym ea ∙ l.0) in
-    let o2 = rw p1 at (pass_block 8 o1 (omega arith) (sym eb ∙ l.1)) in
-    let o3 = rw p2 at (pass_block 8 o2 (omega arith) (sym ec ∙ r.0)) in
-    rw p3 at (pass_block 8 o3 (omega arith) (sym ed ∙ r.1))
+pub ascii_passed : (s : List ℕ) (at : ℕ) → at ≤ length s → Passed s at (run_end is_ascii s at)
+unfolding run_end
+ascii_passed s at h = ascii_run s at _ h refl
 
 -- ---- a bad byte is one of the source's
 
@@ -208,13 +192,13 @@ from_within zero at (b ∷ s) p e = go (char_at (b ∷ s)) (λ k. from_within k 
     go no_char f h = let k : at ≡ p = cc in omega arith
 
 -- the place that is answered, and no place
-pub bad_at : (o : Option ℕ) (i : ℕ) → At i ≡ bad_of o → o ≡ some i
+pub bad_at : (o : Option ℕ) (i : ℕ) → Some i ≡ bad_of o → o ≡ some i
 bad_at none i e = never (cc)
 bad_at (some k) i e = cc
 
-pub bad_nowhere : (o : Option ℕ) → Nowhere ≡ bad_of o → o ≡ none
+pub bad_nowhere : (o : Option ℕ) → None ≡ bad_of o → o ≡ none
 bad_nowhere none e = refl
 bad_nowhere (some k) e = never (cc)
 
-pub bad_within : (s : List ℕ) (i : ℕ) → At i ≡ bad_of (first_bad s) → i < length s
+pub bad_within : (s : List ℕ) (i : ℕ) → Some i ≡ bad_of (first_bad s) → i < length s
 bad_within s i e = let k = from_within 0 0 s i (bad_at (first_bad s) i e) in omega arith

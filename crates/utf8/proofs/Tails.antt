@@ -15,7 +15,7 @@ use lib.ListN.{length, get_or, drop, drop_of_length-le}
 use lib.Seq.{drop-cons}
 use Rattle.language.specs.Choice.{within}
 use Rattle.language.specs.Utf8.{Char, char, no_char, follow}
-use Rattle.utf8.specs.declared.Decoded.TheVariants.{Read, Nothing}
+use Rattle.std.specs.Prelude.{Some, None}
 use Rattle.utf8.specs.Decoding.{placed, Small}
 use Rattle.language.proofs.Tests.{inside_test, outside_test}
 
@@ -96,7 +96,7 @@ start s at tails low high bits h =
     }
 
 module _ (s : List ℕ) (at size : ℕ) (promised : Char) (low high bits left i : ℕ) (here : Tails s at size promised low high bits left i) where
-  pub done : left ≤ 0 → Read bits i ≡ placed at promised
+  pub done : left ≤ 0 → Some (record { number = bits; next = i }) ≡ placed at promised
   done h =
       let p : i ≡ at + size = omega (arith, here.place) in
       rw (← here.rest, follow_done size left low high bits (drop i s) h, p)
@@ -105,14 +105,14 @@ module _ (s : List ℕ) (at size : ℕ) (promised : Char) (low high bits left i 
     pub fits : bits < 0x20000
     fits = omega (arith, room_most left some_left, here.small)
 
-    pub ended : length s ≤ i → Nothing ≡ placed at promised
+    pub ended : length s ≤ i → None ≡ placed at promised
     ended h = rw (← here.rest, drop_of_length-le s h, follow_none size left low high bits some_left)
 
     module _ (in_source : i < length s) where
-      pub too_low : get_or s i 0 < low → Nothing ≡ placed at promised
+      pub too_low : get_or s i 0 < low → None ≡ placed at promised
       too_low h = rw (← here.rest, drop-cons s i 0 in_source, follow_out size left low high bits _ _ some_left (outside_test low high (get_or s i 0) (omega arith)))
 
-      pub too_high : high < get_or s i 0 → Nothing ≡ placed at promised
+      pub too_high : high < get_or s i 0 → None ≡ placed at promised
       too_high h = rw (← here.rest, drop-cons s i 0 in_source, follow_out size left low high bits _ _ some_left (outside_test low high (get_or s i 0) (omega arith)))
 
       pub more :

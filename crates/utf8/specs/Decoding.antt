@@ -1,27 +1,25 @@
 -- How the code's answers stand for the language's.
-use Rattle.std.specs.Prelude.{ℕ, ◌+◌, ◌≤◌, ◌<◌, ◌≡◌, List, length, drop}
+use Rattle.std.specs.Prelude as code
+use Rattle.std.specs.Prelude.{ℕ, ◌+◌, ◌≤◌, ◌<◌, ◌≡◌, List, length, drop, Some, None}
 use Rattle.std.proofs.Math.Option.{Option, none, some}
-use Rattle.language.specs.Utf8.{Char, char, no_char, Lead, bad_from}
+use Rattle.language.specs.Utf8 as language
+use Rattle.language.specs.Utf8.{Char, char, no_char, bad_from}
 use Rattle.utf8.specs.declared.Decoded.{Decoded}
-use Rattle.utf8.specs.declared.Decoded.TheVariants.{Read, Nothing}
-use Rattle.utf8.specs.declared.Bad.{Bad}
-use Rattle.utf8.specs.declared.Bad.TheVariants.{At, Nowhere}
-use Rattle.utf8.specs.declared.Lead as code
-use Rattle.utf8.specs.declared.Lead.TheVariants.{Starts, Not}
+use Rattle.utf8.specs.declared.Lead.{Lead}
 
 -- a character that starts at `at`
-abbrev pub placed : ℕ → Char → Decoded
-placed at (char n size) = Read n (at + size)
-placed at no_char = Nothing
+abbrev pub placed : ℕ → Char → code.Option Decoded
+placed at (char n size) = Some (record { number = n; next = at + size })
+placed at no_char = None
 
-abbrev pub bad_of : Option ℕ → Bad
-bad_of (some at) = At at
-bad_of none = Nowhere
+abbrev pub bad_of : Option ℕ → code.Option ℕ
+bad_of (some at) = Some at
+bad_of none = None
 
 -- what a first octet says
-abbrev pub leading : Option Lead → code.Lead
-leading (some l) = Starts l.tails l.low l.high l.bits
-leading none = Not
+abbrev pub leading : Option language.Lead → code.Option Lead
+leading (some l) = Some (record { tails = l.tails; low = l.low; high = l.high; bits = l.bits })
+leading none = None
 
 -- what a first octet that is not ASCII says is small: with at most three more, the number has at most 23 bits
 pub record Small (tails low high bits : ℕ) : Type 0 where

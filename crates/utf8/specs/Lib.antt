@@ -1,2 +1,2 @@
-pub mod Blocks
+pub mod Ascii
 pub mod Decoding

@@ -10,24 +10,23 @@
 // of each range, and one past them.
 //
 // `stdout` is what Rust's `std::str::from_utf8` says of the same input: oracle/utf8/main.rs made it.
-ghost use Rattle.std.specs.Prelude.{◌<◌, ◌≤◌};
+ghost use Rattle.std.specs.Prelude.{◌<◌, ◌≤◌, IfSome};
 
-use printing::streams::Read;
-use printing::{input, output, streams};
-use utf8::{Bad, Decoded};
+use printing::output::Output;
+use printing::{input, streams};
 
 fn wide(x: u32) -> u64 {
     x as u64
 }
 
-// A hex digit's value, or 16 for any other byte.
-fn digit(b: u8) -> u8
-    ensures { result ≤ 16 }
+// A hex digit's value. Small letters are none here, unlike in `input::digit`.
+fn digit(b: u8) -> Option<u8>
+    ensures { IfSome result (λ d. d < 16) }
 {
     match b {
-        b'0'..=b'9' => b - b'0',
-        b'A'..=b'F' => b - b'A' + 10,
-        _ => 16,
+        b'0'..=b'9' => Some(b - b'0'),
+        b'A'..=b'F' => Some(b - b'A' + 10),
+        _ => None,
     }
 }
 
@@ -35,110 +34,78 @@ fn digit(b: u8) -> u8
 fn unhex(line: &[u8], out: &mut [u8; 256]) -> usize
     ensures { result ≤ 256 }
 {
-    let mut n = 0;
-    while n < 256 {
+    for n in 0usize..256 {
         let i = 3 * n;
         if line.len() <= i + 1 {
             return n;
         }
-        let high = digit(line[i]);
-        let low = digit(line[i + 1]);
-        if 15 < high {
+        let Some(high) = digit(line[i]) else {
             return n;
-        }
-        if 15 < low {
+        };
+        let Some(low) = digit(line[i + 1]) else {
             return n;
-        }
+        };
         out[n] = high * 16 + low;
-        n += 1;
     }
-    n
+    256
 }
 
 // A blank, unless the line has just begun.
-fn gap(rt: &(impl Print + Eprint), place: usize, out: &mut [u8], at: usize) -> usize {
+fn gap(out: &mut Output<impl Print + Eprint>, place: usize) {
     if 0 < place {
-        return output::byte(rt, out, at, b' ');
+        out.byte(b' ');
     }
-    at
 }
 
-fn show_character(
-    rt: &(impl Print + Eprint),
-    n: u32,
-    place: usize,
-    out: &mut [u8],
-    at: usize,
-) -> usize {
-    let p = gap(rt, place, out, at);
-    output::number(rt, out, p, wide(n))
+fn show_character(out: &mut Output<impl Print + Eprint>, n: u32, place: usize) {
+    gap(out, place);
+    out.number(wide(n));
 }
 
 // The numbers of the characters, up to the first place where none starts.
-fn show_characters(rt: &(impl Print + Eprint), s: &[u8], out: &mut [u8], at: usize) -> usize {
-    let mut p = at;
+fn show_characters(out: &mut Output<impl Print + Eprint>, s: &[u8]) {
     let mut place = 0;
+    // no `for`: a character says where the next one begins
     while place < s.len() {
-        let here = utf8::decode(s, place);
-        match here {
-            Decoded::Read(n, next) => {
-                p = show_character(rt, n, place, out, p);
-                place = next;
-            }
-            Decoded::Nothing => {
-                return p;
-            }
-        }
-    }
-    p
-}
-
-fn show_bad(rt: &(impl Print + Eprint), s: &[u8], out: &mut [u8], at: usize) -> usize {
-    let bad = utf8::first_bad(s);
-    match bad {
-        Bad::At(place) => {
-            let p = gap(rt, place, out, at);
-            show_number(rt, b"bad ", place as u64, out, p)
-        }
-        Bad::Nowhere => at,
+        let Some(here) = utf8::decode(s, place) else {
+            return;
+        };
+        show_character(out, here.number, place);
+        place = here.next;
     }
 }
 
-fn show_first(
-    rt: &(impl Print + Eprint),
-    bytes: [u8; 256],
-    n: usize,
-    out: &mut [u8],
-    at: usize,
-) -> usize
+fn show_bad(out: &mut Output<impl Print + Eprint>, s: &[u8]) {
+    let Some(place) = utf8::first_bad(s) else {
+        return;
+    };
+    gap(out, place);
+    show_number(out, b"bad ", place as u64);
+}
+
+fn show_first(out: &mut Output<impl Print + Eprint>, bytes: [u8; 256], n: usize)
     requires { n ≤ 256 }
 {
     let s = &bytes[..n];
-    let p = show_characters(rt, s, out, at);
-    show_bad(rt, s, out, p)
+    show_characters(out, s);
+    show_bad(out, s);
 }
 
-fn show_line(rt: &(impl Print + Eprint), line: &[u8], out: &mut [u8], at: usize) -> usize {
+fn show_line(out: &mut Output<impl Print + Eprint>, line: &[u8]) {
     let mut bytes = [0u8; 256];
     let n = unhex(line, &mut bytes);
-    let p = show_first(rt, bytes, n, out, at);
-    output::byte(rt, out, p, b'\n')
+    show_first(out, bytes, n);
+    out.byte(b'\n');
 }
 
-fn show_lines(rt: &(impl Print + Eprint), text: &[u8], out: &mut [u8], at: usize) -> usize {
-    let mut p = at;
+fn show_lines(out: &mut Output<impl Print + Eprint>, text: &[u8]) {
     let mut from = 0;
-    let mut i = 0;
-    while i < text.len() {
+    for i in 0..text.len() {
         if text[i] == b'\n' {
-            p = show_line(rt, &text[from..i], out, p);
+            show_line(out, &text[from..i]);
             from = i + 1;
-            i += 1;
-        } else {
-            i += 1;
         }
     }
-    p
 }
 
 // 0 where the first `len` bytes are good throughout, else one more than the place of the first bad byte.
@@ -146,10 +113,9 @@ fn verdict(bytes: [u8; 5], len: usize) -> u64
     requires { len ≤ 5 }
     ensures { result ≤ 5 }
 {
-    let bad = utf8::first_bad(&bytes[..len]);
-    match bad {
-        Bad::At(at) => at as u64 + 1,
-        Bad::Nowhere => 0,
+    match utf8::first_bad(&bytes[..len]) {
+        Some(at) => at as u64 + 1,
+        None => 0,
     }
 }
 
@@ -165,9 +131,7 @@ fn fold(h: u64, x: u64) -> u64
 fn advance(alphabet: &[u8; 256], last: u8, len: usize, places: &mut [u8; 5], bytes: &mut [u8; 5])
     requires { len ≤ 5 }
 {
-    let mut i = len;
-    while 0 < i {
-        i -= 1;
+    for i in (0..len).rev() {
         let p = places[i];
         if p < last {
             places[i] = p + 1;
@@ -200,49 +164,39 @@ fn digest_of(alphabet: &[u8; 256], last: u8, len: usize, count: u64) -> Digest
     let mut bytes = [alphabet[0]; 5];
     let mut good = 0;
     let mut digest = 7;
-    let mut k = 0;
-    while k < count {
+    for k in 0..count {
         let x = verdict(bytes, len);
         if x == 0 {
             good += 1;
         }
         digest = fold(digest, x);
         advance(alphabet, last, len, &mut places, &mut bytes);
-        k += 1;
     }
     Digest {
-        len: len,
-        count: count,
-        good: good,
-        digest: digest,
+        len,
+        count,
+        good,
+        digest,
     }
 }
 
-fn show_digest(rt: &(impl Print + Eprint), d: Digest, out: &mut [u8], at: usize) -> usize {
-    let p = show_number(rt, b"length ", d.len as u64, out, at);
-    let q = show_number(rt, b" count ", d.count, out, p);
-    let r = show_number(rt, b" good ", d.good, out, q);
-    let t = show_number(rt, b" digest ", d.digest, out, r);
-    output::byte(rt, out, t, b'\n')
+fn show_digest(out: &mut Output<impl Print + Eprint>, d: Digest) {
+    show_number(out, b"length ", d.len as u64);
+    show_number(out, b" count ", d.count);
+    show_number(out, b" good ", d.good);
+    show_number(out, b" digest ", d.digest);
+    out.byte(b'\n');
 }
 
-fn show_number(
-    rt: &(impl Print + Eprint),
-    name: &[u8],
-    n: u64,
-    out: &mut [u8],
-    at: usize,
-) -> usize {
-    let p = output::text(rt, out, at, name);
-    output::number(rt, out, p, n)
+fn show_number(out: &mut Output<impl Print + Eprint>, name: &[u8], n: u64) {
+    out.text(name);
+    out.number(n);
 }
 
 // Every byte.
 fn all_bytes() -> [u8; 256] {
     let mut a = [0u8; 256];
-    let mut b: u8 = 0;
-    while b < 255 {
-        b += 1;
+    for b in 0..=u8::MAX {
         a[b as usize] = b;
     }
     a
@@ -263,55 +217,54 @@ fn boundary_bytes() -> [u8; 256] {
 
 // Makes a digest and shows it.
 fn show_tried(
-    rt: &(impl Print + Eprint),
+    out: &mut Output<impl Print + Eprint>,
     alphabet: &[u8; 256],
     last: u8,
     len: usize,
     count: u64,
-    out: &mut [u8],
-    at: usize,
-) -> usize
+)
     requires { len ≤ 5 }
 {
     let d = digest_of(alphabet, last, len, count);
-    show_digest(rt, d, out, at)
+    show_digest(out, d);
 }
 
-fn show_all(rt: &(impl Print + Eprint), out: &mut [u8], at: usize) -> usize {
+fn show_all(out: &mut Output<impl Print + Eprint>) {
     let every = all_bytes();
-    let p = show_tried(rt, &every, 255, 1, 256, out, at);
-    let q = show_tried(rt, &every, 255, 2, 256 * 256, out, p);
-    show_tried(rt, &every, 255, 3, 256 * 256 * 256, out, q)
+    show_tried(out, &every, 255, 1, 256);
+    show_tried(out, &every, 255, 2, 256 * 256);
+    show_tried(out, &every, 255, 3, 256 * 256 * 256);
 }
 
-fn show_bounds(rt: &(impl Print + Eprint), out: &mut [u8], at: usize) -> usize {
+fn show_bounds(out: &mut Output<impl Print + Eprint>) {
     let bounds = boundary_bytes();
-    let p = show_tried(rt, &bounds, 23, 4, 24 * 24 * 24 * 24, out, at);
-    show_tried(rt, &bounds, 23, 5, 24 * 24 * 24 * 24 * 24, out, p)
+    show_tried(out, &bounds, 23, 4, 24 * 24 * 24 * 24);
+    show_tried(out, &bounds, 23, 5, 24 * 24 * 24 * 24 * 24);
 }
 
 // The answer to a text, which is one that fills the buffer where there may be more of it.
-fn answer(rt: &(impl Print + Eprint), text: &[u8], size: usize, out: &mut [u8]) -> usize {
+fn answer(out: &mut Output<impl Print + Eprint>, text: &[u8], size: usize) {
     if size == text.len() {
-        return output::text(rt, out, 0, b"too long\n");
+        out.text(b"too long\n");
+        return;
     }
-    let p = show_lines(rt, input::first(text, size), out, 0);
-    let q = show_all(rt, out, p);
-    show_bounds(rt, out, q)
+    show_lines(out, input::first(text, size));
+    show_all(out);
+    show_bounds(out);
 }
 
-fn run(rt: &(impl Input + Print + Eprint), text: &mut [u8], out: &mut [u8]) {
-    let read = streams::read_full(rt, text, 0);
-    if let Read::Whole(size) = read {
-        let at = answer(rt, text, size, out);
-        output::flush(rt, out, at);
+fn run(rt: &(impl Input + Print + Eprint), text: &mut [u8], buffer: &mut [u8]) {
+    if let Some(size) = streams::read_full(rt, text, 0) {
+        let mut out = Output::new(rt, buffer);
+        answer(&mut out, text, size);
+        out.flush();
     }
 }
 
 fn main(rt: HostRuntime) {
     if streams::no_arguments(&rt) {
         let mut text = [0u8; 65536];
-        let mut out = [0u8; 65536];
-        run(&rt, &mut text, &mut out);
+        let mut buffer = [0u8; 65536];
+        run(&rt, &mut text, &mut buffer);
     }
 }

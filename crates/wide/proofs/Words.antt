@@ -1,11 +1,9 @@
 -- What two words say of their number. 2^127 has 39 digits, one more than omega takes, so two laws carry it.
-use Rattle.std.proofs.Common.{◌≡◌, ℕ, ◌+◌, ◌*◌, ◌/◌, ◌%◌, ◌^◌, ◌<◌, ◌≤◌, true, false, ◌&&◌, eqb, ltb, sym, refl, le_trans, lt_of_lt_of_le, mul-le-mul_right, mul_right_comm, arith, ltb-true, le-ltb, lt-ltb, ne_eqb, eqb-true}
+use Rattle.std.proofs.Common.{◌≡◌, ℕ, ◌+◌, ◌*◌, ◌/◌, ◌%◌, ◌^◌, ◌<◌, ◌≤◌, true, ◌&&◌, eqb, ltb, refl, le_trans, lt_of_lt_of_le, mul-le-mul_right, mul_right_comm, arith, ltb-true, le-ltb, lt-ltb, eqb-true, Some, None}
 use mathlib.Core.Option.{some}
 use Rattle.language.specs.Integers.{limit, IntType, bits, smallest}
 use Rattle.language.proofs.Integers.{from, chosen, none_chosen}
 use Rattle.language.proofs.Tests.{both}
-use Rattle.wide.specs.declared.Scaled.TheVariants.{Fits, Over}
-use Rattle.wide.specs.declared.Size.TheVariants.{TooLarge}
 use Rattle.language.specs.Tables.{word_limit}
 use Rattle.wide.specs.Wide.{fitted, scaled, size_of}
 
@@ -25,19 +23,19 @@ below n h a b = lt_of_lt_of_le a (mul-le-mul_right {m = h + 1} {n = half} word_l
 above : (n h : ℕ) → h * word_limit ≤ n → half ≤ h → limit ≤ n
 above n h a b = le_trans (mul-le-mul_right {m = half} {n = h} word_limit b) a
 
-pub fits_case : (n h l : ℕ) → n ≡ h * word_limit + l → l < word_limit → h < half → Fits (record { hi = h; lo = l }) ≡ fitted n
+pub fits_case : (n h l : ℕ) → n ≡ h * word_limit + l → l < word_limit → h < half → Some (record { hi = h; lo = l }) ≡ fitted n
 unfolding fitted
 fits_case n h l e a b =
     let q : n / word_limit ≡ h = omega arith in
     let r : n % word_limit ≡ l = omega arith in
     simp (q, r, lt-ltb n limit (below n h (omega arith) b))
 
-pub over_case : (n h : ℕ) → h * word_limit ≤ n → half ≤ h → Over ≡ fitted n
+pub over_case : (n h : ℕ) → h * word_limit ≤ n → half ≤ h → None ≡ fitted n
 unfolding fitted
 over_case n h a b = simp (le-ltb n limit (above n h a b))
 
 -- the upper word alone may say so before anything is multiplied
-pub over_early : (base hi lo d : ℕ) → half ≤ hi * base → Over ≡ scaled base (hi * word_limit + lo) d
+pub over_early : (base hi lo d : ℕ) → half ≤ hi * base → None ≡ scaled base (hi * word_limit + lo) d
 over_early base hi lo d h =
     let m : hi * word_limit * base ≤ (hi * word_limit + lo) * base = mul-le-mul_right base (omega arith) in
     over_case ((hi * word_limit + lo) * base + d) (hi * base) (rw mul_right_comm (omega arith)) h
@@ -50,16 +48,8 @@ lower hi lo z = omega arith
 pub size_case : (t : IntType) (hi lo : ℕ) → hi ≤ 0 → from t ≤ lo → lo < 2 ^ bits t → size_of (some t) ≡ size_of (smallest (hi * word_limit + lo))
 size_case t hi lo z a b = rw (lower hi lo z, chosen t lo a b)
 
-pub too_large_lem : (n : ℕ) → 2 ^ 64 ≤ n → TooLarge ≡ size_of (smallest n)
+pub too_large_lem : (n : ℕ) → 2 ^ 64 ≤ n → None ≡ size_of (smallest n)
 too_large_lem n a = rw (none_chosen n a)
-
--- ---- zero
-
-pub zero_word : (hi lo : ℕ) → hi ≡ 0 → eqb lo 0 ≡ eqb (hi * word_limit + lo) 0
-zero_word hi lo e = rw (lower hi lo (omega arith))
-
-pub no_zero : (hi lo : ℕ) → (hi ≡ 0 → ⊥) → false ≡ eqb (hi * word_limit + lo) 0
-no_zero hi lo e = sym (ne_eqb (hi * word_limit + lo) 0 (λ z. e (omega arith)))
 
 -- ---- ten times
 
@@ -78,7 +68,7 @@ module _ (hi lo d w t : ℕ) (test : eqb hi 0 && (ltb lo eighth && ltb t eighth)
   pub small_fits : (lo * 8 < word_limit) × (lo * 8 + t < word_limit)
   small_fits = omega (arith, bounds.0, bounds.1)
 
-  pub small_tenfold : Fits (record { hi = 0; lo = lo * 8 + t }) ≡ scaled 10 (hi * word_limit + lo) d
+  pub small_tenfold : Some (record { hi = 0; lo = lo * 8 + t }) ≡ scaled 10 (hi * word_limit + lo) d
   small_tenfold = fits_case ((hi * word_limit + lo) * 10 + d) 0 (lo * 8 + t) (omega (arith, upper, bounds.0)) small_fits.1 (omega arith)
 
 le_add : (h l : ℕ) → h * word_limit ≤ h * word_limit + l
@@ -99,10 +89,10 @@ module _ (v d two eight more h l : ℕ) (p : two ≡ v * 2) (q : eight ≡ v * 8
   copies : v * 10 + d ≡ h * word_limit + l
   copies = omega arith
 
-  pub copies_fit : l < word_limit → h < half → Fits (record { hi = h; lo = l }) ≡ scaled 10 v d
+  pub copies_fit : l < word_limit → h < half → Some (record { hi = h; lo = l }) ≡ scaled 10 v d
   copies_fit a b = fits_case (v * 10 + d) h l copies a b
 
-  pub copies_over : half ≤ h → Over ≡ scaled 10 v d
+  pub copies_over : half ≤ h → None ≡ scaled 10 v d
   copies_over a = over_case (v * 10 + d) h (rw copies (le_add h l)) a
 
 -- ---- a tenth

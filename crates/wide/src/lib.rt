@@ -1,38 +1,40 @@
 #![tactic(auto)]
 // Numbers from 0 to 2^127 - 1 in two 64-bit words: what `i128` is in the Rust.
-ghost use Rattle.std.specs.Prelude.{◌≡◌, ◌+◌, ◌-◌, ◌*◌, ◌/◌, ◌%◌, ◌<◌, ◌≤◌, ◌++◌, length, replicate, ◌==◌};
-ghost use Rattle.language.specs.Integers.{smallest, most_digits, decimal, most_hex_digits, hexadecimal, ascii};
+ghost use Rattle.std.specs.Prelude.{◌≡◌, ℕ, ◌+◌, ◌-◌, ◌*◌, ◌/◌, ◌%◌, ◌^◌, ◌<◌, ◌≤◌, ◌++◌, length, replicate, ◌==◌};
+ghost use Rattle.std.proofs.Common.{lit≤};
+ghost use Rattle.language.specs.Integers.{smallest, digits_in, most_digits, decimal, most_hex_digits, hexadecimal, ascii};
 ghost use Rattle.language.specs.Canonical.{spell_digit, spell_digits};
-ghost use Rattle.wide.specs.Wide.{value_of, scaled, size_of};
+ghost use Rattle.wide.specs.Wide.{value_of, word, scaled, size_of};
 
-#[derive(Clone, Copy)]
+#[derive(Clone, Copy, Default)]
 pub struct Wide {
     pub hi: u64,
     pub lo: u64,
 }
 
-// A number with a digit more.
-#[derive(Clone, Copy)]
-pub enum Scaled {
-    Fits(Wide),
-    // 2^127 or more
-    Over,
+impl From<u64> for Wide {
+    ghost from_gives = { λ n w. w ≡ word n };
+
+    #[inline]
+    fn from(lo: u64) -> Wide {
+        Wide { hi: 0, lo }
+    }
 }
 
-// The smallest type that holds a number.
+// A type that holds numbers of one word.
 #[derive(Clone, Copy)]
 pub enum Size {
     U8,
     U16,
     U32,
     U64,
-    TooLarge,
 }
+
 // A number divided by a base, and the digit that is left.
 #[derive(Clone, Copy)]
-struct Quotient {
-    rest: Wide,
-    digit: u64,
+pub struct Quotient {
+    pub rest: Wide,
+    pub digit: u64,
 }
 
 impl Wide {
@@ -41,12 +43,6 @@ impl Wide {
 
     // How many hexadecimal digits: `most_hex_digits`.
     pub const MOST_HEX_DIGITS: usize = 32;
-
-    pub fn zero() -> Wide
-        ensures { value_of result ≡ 0 }
-    {
-        Wide { hi: 0, lo: 0 }
-    }
 
     // Twice the number. The highest bit of the lower word goes to the upper word.
     fn times2(self) -> Wide
@@ -90,7 +86,7 @@ impl Wide {
     // Ten times the number, plus a digit: two shifted copies, eight times the number and twice the number, and no product. Of a
     // plain sum of both a compiler makes a product again, for which a machine without one of 64 bits calls a helper. So the lesser
     // copy is compared too, here with a bound and in `plus` with the sum: the copies stay apart (`tests/c/multiply`).
-    pub fn times10_plus(self, d: u64) -> Scaled
+    pub fn times10_plus(self, d: u64) -> Option<Wide>
         requires { d < 10 }
         ensures { result ≡ scaled 10 (value_of self) d }
     {
@@ -99,26 +95,23 @@ impl Wide {
         // most numbers are small: the lower word is enough
         let twice = std::num::wrapping_add_u64(std::num::wrapping_add_u64(lo, lo), d);
         if (hi == 0) & ((lo < 2305843009213693952) & (twice < 2305843009213693952)) {
-            return Scaled::Fits(Wide {
-                hi: 0,
-                lo: lo * 8 + twice,
-            });
+            return Some(Wide::from(lo * 8 + twice));
         }
         // from 2^60 in the upper word on the answer is known; below it both copies and their sum fit two words
         if 1152921504606846975 < hi {
-            return Scaled::Over;
+            return None;
         }
-        let lesser = self.times2().plus(Wide { hi: 0, lo: d });
+        let lesser = self.times2().plus(Wide::from(d));
         let all = self.times8().plus(lesser);
         // 2^63 in the upper word is 2^127
         if all.hi < 9223372036854775808 {
-            return Scaled::Fits(all);
+            return Some(all);
         }
-        Scaled::Over
+        None
     }
 
     // Sixteen times the number, plus a digit.
-    pub fn times16_plus(self, d: u64) -> Scaled
+    pub fn times16_plus(self, d: u64) -> Option<Wide>
         requires { d < 16 }
         ensures { result ≡ scaled 16 (value_of self) d }
     {
@@ -126,34 +119,34 @@ impl Wide {
         let lo = self.lo;
         // from 2^63 / 16 on the answer is known; below it a digit more always fits
         if 576460752303423487 < hi {
-            return Scaled::Over;
+            return None;
         }
         // the upper four bits of `lo` go to the upper word
-        Scaled::Fits(Wide {
+        Some(Wide {
             hi: hi * 16 + lo / 1152921504606846976,
             lo: (lo % 1152921504606846976) * 16 + d,
         })
     }
 
-    // The smallest type that holds the number.
-    pub fn smallest(self) -> Size
+    // The smallest type that holds the number, if one does.
+    pub fn smallest(self) -> Option<Size>
         ensures { result ≡ size_of (smallest (value_of self)) }
     {
         let hi = self.hi;
         let lo = self.lo;
         if 0 < hi {
-            return Size::TooLarge;
+            return None;
         }
         if lo < 256 {
-            return Size::U8;
+            return Some(Size::U8);
         }
         if lo < 65536 {
-            return Size::U16;
+            return Some(Size::U16);
         }
         if lo < 4294967296 {
-            return Size::U32;
+            return Some(Size::U32);
         }
-        Size::U64
+        Some(Size::U64)
     }
 
     // A long division: the upper word, then the halves of the lower, each with what is left of the part before it,
@@ -167,7 +160,7 @@ impl Wide {
         if hi == 0 {
             let tenth = lo / 10;
             return Quotient {
-                rest: Wide { hi: 0, lo: tenth },
+                rest: Wide::from(tenth),
                 digit: last_digit(lo, tenth),
             };
         }
@@ -205,46 +198,112 @@ impl Wide {
     fn is_zero(self) -> bool
         ensures { result ≡ (value_of self == 0) }
     {
-        if self.hi == 0 { self.lo == 0 } else { false }
+        (self.hi == 0) & (self.lo == 0)
     }
 
-    // The decimal digits, at the end of the lent buffer; answers where they start. What is before them is zero.
+    // The digits in a base, at the end of the lent buffer; answers where they start. What is before them is zero.
+    pub fn digits<B: Base, const N: usize>(self, text: &mut [u8; N]) -> usize
+        requires { (0 < N) × (value_of self < B.BASE ^ N) }
+        ensures value { result ≡ N - length (digits_in B.BASE N (value_of self)) }
+        ensures text_after { text.new ≡ replicate result 0 ++ spell_digits (digits_in B.BASE N (value_of self)) }
+    {
+        text.fill(0);
+        let mut rest = self;
+        let mut at = N;
+        // the last digit first; 0 has one too, so the test stands at the end
+        loop {
+            let q = B::divide(rest);
+            at -= 1;
+            text[at] = B::spell(q.digit);
+            rest = q.rest;
+            if rest.is_zero() {
+                return at;
+            }
+        }
+    }
+
+    // The decimal digits, as `digits` writes them.
     pub fn decimal(self, text: &mut [u8; Wide::MOST_DIGITS]) -> usize
         ensures value { result ≡ most_digits - length (decimal (value_of self)) }
         ensures text_after { text.new ≡ replicate result 0 ++ ascii (decimal (value_of self)) }
     {
-        *text = [0u8; Wide::MOST_DIGITS];
-        let mut rest = self;
-        let mut at = Wide::MOST_DIGITS;
-        // the last digit first; 0 has one too, so the test stands at the end
-        loop {
-            let q = rest.div10();
-            at -= 1;
-            text[at] = ((48 + q.digit) % 256) as u8;
-            rest = q.rest;
-            if rest.is_zero() {
-                return at;
-            }
-        }
+        self.digits::<Decimal, { Wide::MOST_DIGITS }>(text)
     }
 
-    // The hexadecimal digits, in lower case, as `decimal` writes its digits.
+    // The hexadecimal digits, in lower case.
     pub fn hexadecimal(self, text: &mut [u8; Wide::MOST_HEX_DIGITS]) -> usize
         ensures value { result ≡ most_hex_digits - length (hexadecimal (value_of self)) }
         ensures text_after { text.new ≡ replicate result 0 ++ spell_digits (hexadecimal (value_of self)) }
     {
-        *text = [0u8; Wide::MOST_HEX_DIGITS];
-        let mut rest = self;
-        let mut at = Wide::MOST_HEX_DIGITS;
-        loop {
-            let q = rest.div16();
-            at -= 1;
-            text[at] = spell_digit(q.digit);
-            rest = q.rest;
-            if rest.is_zero() {
-                return at;
-            }
-        }
+        self.digits::<Hexadecimal, { Wide::MOST_HEX_DIGITS }>(text)
+    }
+}
+
+// A base that numbers are read and written in.
+pub trait Base {
+    const BASE: u64;
+
+    ghost BASE: { ℕ };
+
+    // A number with a digit more, where that is below 2^127.
+    fn push(v: Wide, d: u64) -> Option<Wide>
+        requires { d < BASE }
+        ensures { result ≡ scaled BASE (value_of v) d };
+
+    // A number divided by the base, and the digit that is left.
+    fn divide(v: Wide) -> Quotient
+        ensures { (value_of result.rest ≡ value_of v / BASE) × (result.digit ≡ value_of v % BASE) };
+
+    // A digit as ASCII.
+    fn spell(d: u64) -> u8
+        requires { d < BASE }
+        ensures { result ≡ spell_digit d };
+
+    ghost two: { 1 < BASE };
+}
+
+pub struct Decimal {}
+
+impl Base for Decimal {
+    const BASE: u64 = 10;
+
+    ghost BASE = { 10 };
+
+    ghost two = { lit≤ tt };
+
+    fn push(v: Wide, d: u64) -> Option<Wide> {
+        v.times10_plus(d)
+    }
+
+    fn divide(v: Wide) -> Quotient {
+        v.div10()
+    }
+
+    // no test, which `spell_digit` has for hexadecimal digits
+    fn spell(d: u64) -> u8 {
+        ((48 + d) % 256) as u8
+    }
+}
+
+pub struct Hexadecimal {}
+
+impl Base for Hexadecimal {
+    const BASE: u64 = 16;
+
+    ghost BASE = { 16 };
+
+    ghost two = { lit≤ tt };
+
+    fn push(v: Wide, d: u64) -> Option<Wide> {
+        v.times16_plus(d)
+    }
+
+    fn divide(v: Wide) -> Quotient {
+        v.div16()
+    }
+
+    fn spell(d: u64) -> u8 {
+        spell_digit(d)
     }
 }
 

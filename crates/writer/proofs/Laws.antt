@@ -63,5 +63,7 @@ module _ (t : List ℕ) (at : ℕ) (bytes : List ℕ) where
               };
         }
 
-    pub copy_all : length bytes ≤ i → Writes t at bytes (at + i) u
-    copy_all h = bytes_are bytes (take_all i bytes h) c.writes
+    pub copy_all : length bytes ≤ i → Writes t at bytes (at + length bytes) u
+    copy_all h =
+        let w = bytes_are bytes (take_all i bytes h) c.writes in
+        record { answer = refl; text = w.text }

@@ -1,4 +1,4 @@
-use Rattle.runs.specs.Runs.{run_end}
+use Rattle.classes.specs.Runs.{run_end}
 use Rattle.lex.proofs.Lines.{end_within}
 use borrow.Author.Rules.{rules}
 use Rattle.lex.proofs.line_end.Goals as goal

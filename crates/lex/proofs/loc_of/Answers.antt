@@ -1,16 +1,20 @@
-use Rattle.lex.proofs.Places.{start, next_line, next_column, arrived}
+use mathlib.Core.Path.{sym, ◌∙◌}
+use lib.Seq.{get_or-take, length-take-le}
+use native.Mathlib.Omega.{arith}
+use Rattle.lex.proofs.Places.{next_line, next_column, arrived}
 use Rattle.lex.proofs.loc_of.Goals as goal
-use Rattle.lex.proofs.loc_of.Goals.{then-source-i-eq10, else-source-i-eq10}
+use Rattle.lex.proofs.loc_of.Goals.{then-b-eq10, else-b-eq10}
 
-pub loop-i-init : goal.loop-i-init
-loop-i-init c = start _ _
-
-pub loop-i-preserved : goal.loop-i-preserved
-loop-i-preserved c =
-    elim c.if-source-i-eq10.branch [
-      | then-source-i-eq10 w ↦ rw (w.line-is, w.column-is) (next_line _ _ _ _ _ c.loop-i.invariant c.loop-i-test.true c.requires.0 w.if-source-i-eq10.true)
-      | else-source-i-eq10 w ↦ rw (w.line-is, w.column-is) (next_column _ _ _ _ _ c.loop-i.invariant c.loop-i-test.true c.requires.0 w.if-source-i-eq10.false)
+pub loop-b-preserved : goal.loop-b-preserved
+loop-b-preserved c =
+    let n = length-take-le c.args.at c.args.source.now c.requires.0 in
+    let b = get_or-take c.args.at c.args.source.now c.loop-b.b-index 0 (omega arith) in
+    elim c.if-b-eq10.branch [
+      | then-b-eq10 w ↦ rw (w.line-is, w.column-is) (next_line _ _ _ _ _ c.loop-b.invariant (omega arith) c.requires.0 (sym b ∙ w.if-b-eq10.true))
+      | else-b-eq10 w ↦ rw (w.line-is, w.column-is) (next_column _ _ _ _ _ c.loop-b.invariant (omega arith) c.requires.0 (λ z. w.if-b-eq10.false (b ∙ z)))
     ]
 
 pub returns : goal.returns
-returns c = arrived _ _ _ _ _ c.loop-i.invariant c.loop-i-test.false
+returns c =
+    let n = length-take-le c.args.at c.args.source.now c.requires.0 in
+    arrived _ _ _ _ _ c.loop-b.invariant (omega arith)

@@ -1,25 +1,30 @@
-use borrow.Enum.Refused.{opened}
-use Rattle.scan.proofs.Turns.{shrinks}
+use Rattle.scan.proofs.Turns.{starts, steps, ended}
 use Rattle.lex.proofs.Bodies.{start, none_left, is_it, not_it, passed}
 use Rattle.lex.proofs.nth_body.Goals as goal
 
 pub loop-found-init : goal.loop-found-init
-loop-found-init c = start _ _ _ c.new-scanner.ensures
-
-pub returns-in_default : goal.returns-in_default
-returns-in_default c = none_left _ _ _ _ c.loop-found.invariant (c.in_default.ensures)
+loop-found-init c =
+    let b = starts c.into_iter-found-iterator.ensures.into_iter_gives c.new-found-items.ensures in
+    (b.0, start _ _ _ b.1)
 
 pub returns-then-left-eq0 : goal.returns-then-left-eq0
-returns-then-left-eq0 c = is_it _ _ _ _ c.loop-found.invariant _ _ (c.in-Found.ensures) c.in-Str.is c.if-left-eq0.true c.body.ensures
+returns-then-left-eq0 c =
+    let i = c.loop-found.invariant in
+    is_it _ _ _ _ i.1 _ _ (steps c.in-Some.ensures.steps i.0).1 c.in-Str.is c.if-left-eq0.true c.body.ensures
 
-pub loop-found-smaller-else-left-eq0 : goal.loop-found-smaller-else-left-eq0
-loop-found-smaller-else-left-eq0 c = shrinks _ _ _ _ (c.in-Found.ensures)
-
-pub loop-found-preserved-else-left-eq0 : goal.loop-found-preserved-else-left-eq0
-loop-found-preserved-else-left-eq0 c = not_it _ _ _ _ c.loop-found.invariant _ _ (c.in-Found.ensures) c.in-Str.is c.if-left-eq0.false
-
-pub loop-found-smaller : goal.loop-found-smaller
-loop-found-smaller c = shrinks _ _ _ _ (c.in-Found.ensures)
+pub loop-found-preserved-in-Str : goal.loop-found-preserved-in-Str
+loop-found-preserved-in-Str c =
+    let i = c.loop-found.invariant in
+    let s = steps c.in-Some.ensures.steps i.0 in
+    (s.0, not_it _ _ _ _ i.1 _ _ s.1 c.in-Str.is c.if-left-eq0.false)
 
 pub loop-found-preserved : goal.loop-found-preserved
-loop-found-preserved c = passed _ _ _ _ c.loop-found.invariant _ _ (c.in-Found.ensures) (opened c.in_default-kind.in_default-kind-own.keys2)
+loop-found-preserved c =
+    let i = c.loop-found.invariant in
+    let s = steps c.in-Some.ensures.steps i.0 in
+    (s.0, passed _ _ _ _ i.1 _ _ s.1 c.in_default.not-Str)
+
+pub returns : goal.returns
+returns c =
+    let i = c.loop-found.invariant in
+    none_left _ _ _ _ i.1 (ended c.in-None.ensures.steps i.0)

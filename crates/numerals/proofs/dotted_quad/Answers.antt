@@ -1,12 +1,8 @@
-use native.Mathlib.Omega.{arith}
-use Rattle.numerals.proofs.Quads.{earlier, start, ends, no_digits, digits, fits, whole, no_dot, next}
+use Rattle.numerals.proofs.Quads.{earlier, start, no_digits, digits, fits, whole, no_dot, next}
 use Rattle.numerals.proofs.dotted_quad.Goals as goal
 
 pub loop-i-init : goal.loop-i-init
 loop-i-init c = start _ _ c.requires
-
-pub eat_digits-end-requires : goal.eat_digits-end-requires
-eat_digits-end-requires c = c.loop-i.invariant.inside
 
 pub returns-then-end-i : goal.returns-then-end-i
 returns-then-end-i c = no_digits c.loop-i.invariant _ c.eat_digits-end.ensures c.if-end-i.true
@@ -34,10 +30,6 @@ quad_part-n-requires c =
 pub join-address-requires : goal.join-address-requires
 join-address-requires c =
     fits c.loop-i.invariant _ c.eat_digits-end.ensures c.if-end-i.false _ c.quad_part-n.ensures
-
-pub overflow_add-i : goal.overflow_add-i
-overflow_add-i c =
-    omega (arith, ends c.loop-i.invariant _ c.eat_digits-end.ensures c.if-end-i.false)
 
 pub loop-i-preserved : goal.loop-i-preserved
 loop-i-preserved c =

@@ -1,5 +1,3 @@
-use mathlib.Core.Path.{refl}
-use mathlib.Core.Logic.{inl}
 use native.Mathlib.Omega.{arith}
 use borrow.Author.Tests.{leb-true}
 use Rattle.numerals.proofs.Quads.{part_ends, too_long, zero_first, not_number, byte, not_byte}
@@ -18,21 +16,20 @@ pub returns-then-starts_zero : goal.returns-then-starts_zero
 returns-then-starts_zero c =
     zero_first c.args.line.now c.args.at _ c.requires c.if-end-at-gt3.false _ c.starts_zero.ensures c.if-starts_zero.true
 
-pub read_digits-n-requires : goal.read_digits-n-requires
-read_digits-n-requires c =
-    (omega arith, (part_ends c.args.line.now c.args.at _ c.requires).1, inl refl)
+pub slice_bounds-read_digits-end : goal.slice_bounds-read_digits-end
+slice_bounds-read_digits-end c = omega (arith, (part_ends c.args.line.now c.args.at _ c.requires).1)
 
 pub returns-in_default : goal.returns-in_default
 returns-in_default c =
-    not_number c.args.line.now c.args.at _ c.requires c.if-end-at-gt3.false _ c.starts_zero.ensures c.if-starts_zero.false _ c.read_digits-n.ensures _ c.in_default.is
+    not_number c.args.line.now c.args.at _ c.requires c.if-end-at-gt3.false _ c.starts_zero.ensures c.if-starts_zero.false _ c.read_digits.ensures _ c.in_default.is
 
 pub overflow_cast-result : goal.overflow_cast-result
 overflow_cast-result c = omega (arith, leb-true)
 
 pub returns-then-lo-le255 : goal.returns-then-lo-le255
 returns-then-lo-le255 c =
-    byte c.args.line.now c.args.at _ c.requires c.if-end-at-gt3.false _ c.starts_zero.ensures c.if-starts_zero.false _ c.read_digits-n.ensures _ c.in-Value.is c.if-v-eq0.true c.if-lo-le255.true
+    byte c.args.line.now c.args.at _ c.requires c.if-end-at-gt3.false _ c.starts_zero.ensures c.if-starts_zero.false _ c.read_digits.ensures _ c.in-Ok.is c.if-v-eq0.true c.if-lo-le255.true
 
 pub returns : goal.returns
 returns c =
-    not_byte c.args.line.now c.args.at _ c.requires c.if-end-at-gt3.false _ c.starts_zero.ensures c.if-starts_zero.false _ c.read_digits-n.ensures _ c.in-Value.is (elim c.else-v-eq0.branch [ else-v-eq0-via-then-v-eq0+else-lo-le255 w ↦ omega arith | else-v-eq0-via-else-v-eq0 w ↦ omega arith ])
+    not_byte c.args.line.now c.args.at _ c.requires c.if-end-at-gt3.false _ c.starts_zero.ensures c.if-starts_zero.false _ c.read_digits.ensures _ c.in-Ok.is (elim c.else-v-eq0.branch [ else-v-eq0-via-then-v-eq0+else-lo-le255 w ↦ omega arith | else-v-eq0-via-else-v-eq0 w ↦ omega arith ])

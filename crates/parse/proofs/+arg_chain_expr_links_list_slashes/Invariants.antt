@@ -8,7 +8,7 @@ use lib.ListN.{length}
 use Rattle.language.specs.Tables.{token_width}
 use Rattle.language.specs.Sentences as grammar
 use Rattle.language.specs.Sentences.{Expr, Args, expr_at, chain_at, list_at, args_of}
-use Rattle.parse.specs.Parsing.{Stands, Lists, After, AfterExpr}
+use Rattle.parse.specs.Parsing.{row_plus, Stands, Lists, After, AfterExpr}
 use Prim.Native.Nat.{ℕ, ◌<◌}
 use Rattle.parse.proofs.+arg_chain_expr_links_list_slashes.Given as goal
 
@@ -36,8 +36,8 @@ abbrev pub decreases-list : goal.decreases-list
 decreases-list l = 6 * (length l.toks.now - token_width * l.start)
 
 abbrev pub invariant-list-loop-nodes : goal.invariant-list-loop-nodes
-invariant-list-loop-nodes l = (l.start < l.at) × (token_width * l.at ≤ length l.toks) × (l.count ≤ l.have) × (l.have + 2 * l.start + 2 ≤ l.count + 2 * l.at) × (l.first ≤ l.have) × (length l.nodes ≡ length l.initial.nodes)
-    × After l.toks l.initial.nodes l.count (λ ts ns. (g : Args) × (k : ℕ) × Lists l.nodes ns g l.have l.first × (length ts < l.at + k)
+invariant-list-loop-nodes l = (l.start < l.at) × (token_width * l.at ≤ length l.toks) × (l.count ≤ l.have) × (l.have + 2 * l.start + 2 ≤ l.count + 2 * l.at) × (row_plus l.first ≤ l.have) × (length l.nodes ≡ length l.initial.nodes)
+    × After l.toks l.initial.nodes l.count (λ ts ns. (g : Args) × (k : ℕ) × Lists l.nodes ns g l.have (row_plus l.first) × (length ts < l.at + k)
     × (list_at ts l.left l.start ≡ args_of ts (expr_at ts (l.left - 1)) k g l.at))
 
 abbrev pub decreases-list-loop-nodes : goal.decreases-list-loop-nodes

@@ -3,7 +3,7 @@ use mathlib.Core.Path.{refl, ◌∙◌}
 use lib.ListN.{length}
 use Rattle.parse.proofs.Looks.{seen, unseen, inside}
 use Rattle.parse.proofs.Nodes.{no_names, name_pushed, path_pushed}
-use Rattle.parse.proofs.Answers.{met_ok, met_no, ahead_no}
+use Rattle.parse.proofs.Answers.{met_ok, met_no}
 use Rattle.parse.proofs.Steps.{path_open, path_stop, path_bad, path_more}
 use native.Mathlib.Omega.{arith}
 use Rattle.parse.proofs.module_path.Goals as goal
@@ -17,18 +17,9 @@ loop-at-init c =
     let i = inside a.toks.now a.at 11 c.requires.at_value.0 in
     (omega arith, omega arith, omega arith, refl, λ ts ns rep l h. (suc (length ts), omega arith, path_open rep _ _ c.requires.at_value.1, no_names _ l h))
 
-pub shape_of-nodes-then-kind_at-ne-IDENTIFIER : goal.shape_of-nodes-then-kind_at-ne-IDENTIFIER
-shape_of-nodes-then-kind_at-ne-IDENTIFIER c = c.loop-at.invariant.3
-
-pub returns-then-kind_at-ne-IDENTIFIER : goal.returns-then-kind_at-ne-IDENTIFIER
-returns-then-kind_at-ne-IDENTIFIER c = record {
-  ahead = ahead_no c.unexpected.ensures (omega arith);
-  after = λ ts ns rep l h. let g = c.loop-at.invariant.4 ts ns rep l h in
-      met_no c.unexpected.ensures (g.2 ∙ path_bad rep _ _ _ _ g.0 g.1 (seen c.kind_at.ensures c.loop-at-test.true) (unseen c.kind_at-in-loop-at.ensures c.if-kind_at-ne-IDENTIFIER.true));
-}
-
-pub loop-at-smaller : goal.loop-at-smaller
-loop-at-smaller c = omega (arith, inside c.args.toks.now (c.loop-at.next + 1) 11 (seen c.kind_at-in-loop-at.ensures c.if-kind_at-ne-IDENTIFIER.false))
+pub returns-then-kind_at-ne-IDENTIFIER-clause-after : goal.returns-then-kind_at-ne-IDENTIFIER-clause-after
+returns-then-kind_at-ne-IDENTIFIER-clause-after c = λ ts ns rep l h. let g = c.loop-at.invariant.4 ts ns rep l h in
+    met_no refl (g.2 ∙ path_bad rep _ _ _ _ g.0 g.1 (seen c.kind_at.ensures c.loop-at-test.true) (unseen c.kind_at-in-loop-at.ensures c.if-kind_at-ne-IDENTIFIER.true))
 
 pub loop-at-preserved : goal.loop-at-preserved
 loop-at-preserved c =
@@ -45,13 +36,8 @@ loop-at-preserved c =
           (m.0, m.1, g.2 ∙ m.2, name_pushed g.3 (omega arith) c.push.ensures),
     )
 
-pub shape_of-nodes : goal.shape_of-nodes
-shape_of-nodes c = omega (arith, c.push-2.auto.nodes, c.loop-at.invariant.3)
-
-pub returns : goal.returns
-returns c =
-    let v = c.loop-at in record {
-      ahead = omega arith;
-      after = λ ts ns rep l h. let g = v.invariant.4 ts ns rep l h in
-          met_ok refl (g.2 ∙ path_stop rep _ _ _ _ g.0 v.invariant.2 g.1 (unseen c.kind_at.ensures c.loop-at-test.false)) (path_pushed g.3 c.push-2.ensures);
-    }
+pub returns-clause-after : goal.returns-clause-after
+returns-clause-after c = λ ts ns rep l h.
+    let v = c.loop-at in
+    let g = v.invariant.4 ts ns rep l h in
+    met_ok (g.2 ∙ path_stop rep _ _ _ _ g.0 v.invariant.2 g.1 (unseen c.kind_at.ensures c.loop-at-test.false)) (path_pushed g.3 c.push-2.ensures)

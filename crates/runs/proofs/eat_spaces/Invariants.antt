@@ -1,7 +1,7 @@
 use Prim.Native.Nat.{◌-◌}
 use lib.ListN.{length}
 use Rattle.runs.specs.Runs.{blank_end}
-use Rattle.runs.proofs.Runs.{Reached}
+use Rattle.classes.specs.Runs.{Reached}
 use Rattle.runs.proofs.eat_spaces.Given as goal
 
 abbrev pub invariant-loop-i : goal.invariant-loop-i

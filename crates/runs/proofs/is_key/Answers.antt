@@ -1,18 +1,11 @@
-use borrow.Author.Rules.{rules}
-use Rattle.runs.proofs.Keys.{key_size, key_begin, key_more, key_stop, key_end}
+use Rattle.std.proofs.Common.{sym, ◌∙◌}
+use borrow.Author.Tests.{ne_eqb}
+use Rattle.language.proofs.Sames.{other_size}
+use Rattle.runs.proofs.Keys.{same_pairs}
 use Rattle.runs.proofs.is_key.Goals as goal
 
-pub returns-then-size-key : goal.returns-then-size-key
-returns-then-size-key c = search (rules, key_size)
+pub returns-then-word-key : goal.returns-then-word-key
+returns-then-word-key c = c.all_same.ensures ∙ same_pairs _ _ c.if-word-key.true
 
-pub loop-i-init : goal.loop-i-init
-loop-i-init c = search (rules, key_begin)
-
-pub returns-then-line-p : goal.returns-then-line-p
-returns-then-line-p c = search (rules, key_stop)
-
-pub loop-i-preserved : goal.loop-i-preserved
-loop-i-preserved c = search (rules, key_more)
-
-pub returns : goal.returns
-returns c = search (rules, key_end)
+pub returns-else-word-key : goal.returns-else-word-key
+returns-else-word-key c = ne_eqb _ _ c.if-word-key.false ∙ sym (other_size _ _ c.if-word-key.false)

@@ -1,25 +1,22 @@
 use mathlib.Core.Path.{refl}
 use Rattle.scan.proofs.Filling.{start, more_is, counted_all, rows_all_lem}
-use Rattle.scan.proofs.Turns.{shrinks}
-use Rattle.lexemes.proofs.Rows.{row_long}
+use Rattle.scan.proofs.Turns.{starts, steps, ended}
 use borrow.Author.Rules.{rules}
-use native.Mathlib.Omega.{arith}
 use Rattle.scan.proofs.fill.Goals as goal
 
 pub loop-found-init : goal.loop-found-init
-loop-found-init c = (refl, start _ _ _ c.requires.table_value _ c.new-scanner.ensures)
-
-pub returns-in_default : goal.returns-in_default
-returns-in_default c = record { value = counted_all _ _ _ _ _ c.loop-found.invariant.1 (c.in_default.ensures); table_after = rows_all_lem _ _ _ _ _ c.loop-found.invariant.1 (c.in_default.ensures) }
-
-pub put_row-requires : goal.put_row-requires
-put_row-requires c = let f = c.loop-found.invariant.1 in (omega (arith, f.few, f.within, c.requires.line_len_bound), row_long c.in-Found.found c.row_of-row.ensures)
-
-pub overflow_add-count : goal.overflow_add-count
-overflow_add-count c = let f = c.loop-found.invariant.1 in omega (arith, f.few, f.within, c.requires.line_len_bound)
-
-pub loop-found-smaller : goal.loop-found-smaller
-loop-found-smaller c = shrinks _ _ _ _ (c.in-Found.ensures)
+loop-found-init c =
+    let b = starts c.into_iter-found-iterator.ensures.into_iter_gives c.new-found-items.ensures in
+    (refl, b.0, start _ _ _ c.requires.table_value _ b.1)
 
 pub loop-found-preserved : goal.loop-found-preserved
-loop-found-preserved c = (search rules, more_is _ _ _ _ _ c.loop-found.invariant.1 _ _ (c.in-Found.ensures) c.row_of-row.ensures c.put_row.ensures)
+loop-found-preserved c =
+    let i = c.loop-found.invariant in
+    let s = steps c.in-Some.ensures.steps i.1 in
+    (search rules, s.0, more_is _ _ _ _ _ i.2 _ _ s.1 c.row_of.ensures c.put_row.ensures)
+
+pub returns-clause-value : goal.returns-clause-value
+returns-clause-value c = let i = c.loop-found.invariant in counted_all _ _ _ _ _ i.2 (ended c.in-None.ensures.steps i.1)
+
+pub returns-clause-table_after : goal.returns-clause-table_after
+returns-clause-table_after c = let i = c.loop-found.invariant in rows_all_lem _ _ _ _ _ i.2 (ended c.in-None.ensures.steps i.1)

@@ -1,11 +1,7 @@
-use Prim.Native.Nat.{◌-◌}
 use mathlib.Core.Path.{◌≡◌}
 use lib.ListN.{length}
 use Rattle.scan.proofs.Filling.{Filling}
 use Rattle.scan.proofs.fill.Given as goal
 
 abbrev pub invariant-loop-found : goal.invariant-loop-found
-invariant-loop-found l = (length l.table ≡ length l.initial.table) × Filling l.line (length l.initial.table) l.table l.count l.scanner.pos
-
-abbrev pub decreases-loop-found : goal.decreases-loop-found
-decreases-loop-found l = length l.line - l.scanner.pos
+invariant-loop-found l = (length l.table ≡ length l.initial.table) × (l.found-iterator.line.now ≡ l.line) × Filling l.line (length l.initial.table) l.table l.count l.found-iterator.pos

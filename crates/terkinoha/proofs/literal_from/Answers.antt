@@ -1,19 +1,24 @@
-use borrow.Enum.Refused.{opened}
-use mathlib.Core.Path.{refl}
-use Rattle.terkinoha.proofs.Bodies.{start, none_left, shrinks, passed, is_it}
+use Rattle.scan.proofs.Turns.{starts, steps, ended}
+use Rattle.terkinoha.proofs.Bodies.{start, none_left, passed, is_it}
 use Rattle.terkinoha.proofs.literal_from.Goals as goal
 
 pub loop-found-init : goal.loop-found-init
-loop-found-init c = start _ _ _ refl
-
-pub returns-in_default : goal.returns-in_default
-returns-in_default c = none_left _ _ _ c.loop-found.invariant (c.in_default.ensures)
+loop-found-init c =
+    let b = starts c.into_iter-found-iterator.ensures.into_iter_gives c.at-found-items.ensures in
+    (b.0, start _ _ _ b.1)
 
 pub returns-in-Str : goal.returns-in-Str
-returns-in-Str c = is_it _ _ _ c.loop-found.invariant _ _ (c.in-Found.ensures) c.in-Str.is
-
-pub loop-found-smaller : goal.loop-found-smaller
-loop-found-smaller c = shrinks _ _ _ c.loop-found.invariant _ _ (c.in-Found.ensures)
+returns-in-Str c =
+    let i = c.loop-found.invariant in
+    is_it _ _ _ i.1 _ _ (steps c.in-Some.ensures.steps i.0).1 c.in-Str.is
 
 pub loop-found-preserved : goal.loop-found-preserved
-loop-found-preserved c = passed _ _ _ c.loop-found.invariant _ _ (c.in-Found.ensures) (opened c.in_default-kind.in_default-kind-own.keys2)
+loop-found-preserved c =
+    let i = c.loop-found.invariant in
+    let s = steps c.in-Some.ensures.steps i.0 in
+    (s.0, passed _ _ _ i.1 _ _ s.1 c.in_default.not-Str)
+
+pub returns : goal.returns
+returns c =
+    let i = c.loop-found.invariant in
+    none_left _ _ _ i.1 (ended c.in-None.ensures.steps i.0)

@@ -1,10 +1,7 @@
-use mathlib.Core.Bool.{false≢true}
-use native.Mathlib.Omega.{arith}
 use Rattle.utf8.proofs.Places.{two_passed}
 use Rattle.utf8.proofs.two_octets.Goals as goal
 
-pub returns-then-src-at : goal.returns-then-src-at
-returns-then-src-at c = λ e. absurd (false≢true e)
-
 pub returns : goal.returns
-returns c = two_passed _ _ (omega arith)
+returns c = λ e.
+    let next = c.in-Some.ensures.lookup.3 in
+    two_passed _ _ next.0 (rw (next.1 0) at e)

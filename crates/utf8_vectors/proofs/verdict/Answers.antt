@@ -4,7 +4,7 @@ use Rattle.utf8.proofs.Places.{bad_within}
 use Rattle.utf8_vectors.proofs.verdict.Goals as goal
 
 pub overflow_add-result : goal.overflow_add-result
-overflow_add-result c = omega (arith, simp length-take at (bad_within _ _ c.in-At.ensures))
+overflow_add-result c = omega (arith, simp length-take at (bad_within _ _ c.in-Some.ensures))
 
-pub returns-in-At : goal.returns-in-At
-returns-in-At c = omega (arith, simp length-take at (bad_within _ _ c.in-At.ensures))
+pub returns-in-Some : goal.returns-in-Some
+returns-in-Some c = omega (arith, simp length-take at (bad_within _ _ c.in-Some.ensures))

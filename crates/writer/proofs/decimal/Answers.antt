@@ -1,10 +1,6 @@
-use native.Mathlib.Omega.{arith}
-use borrow.Author.Rules.{rules}
-use Rattle.writer.proofs.Digits.{decimal_buffer, all_digits}
+use Rattle.language.specs.Integers.{decimal}
 use Rattle.writer.proofs.decimal.Goals as goal
 
-pub slice_bounds-copy-end : goal.slice_bounds-copy-end
-slice_bounds-copy-end c = omega (arith, (decimal_buffer _ _ (search rules) (search rules) _ _ (c.decimal-start.ensures.value, c.decimal-start.ensures.text_after)).size)
-
 pub returns : goal.returns
-returns c = let both = all_digits (decimal_buffer _ _ (search rules) (search rules) _ _ (c.decimal-start.ensures.value, c.decimal-start.ensures.text_after)) c.copy.ensures in record { writes = both.0; upper_bound = both.1 }
+unfolding decimal
+returns c = record { writes = c.number.ensures.writes; upper_bound = c.number.ensures.upper_bound }

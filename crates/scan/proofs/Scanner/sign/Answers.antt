@@ -1,7 +1,6 @@
 use mathlib.Core.Path.{refl, sym, ap, ◌∙◌}
 use Rattle.lexemes.specs.Kinds.{lexeme_as}
 use Rattle.scan.proofs.Starts.{sign_hash, sign_slashes, sign_slash, sign_colons, sign_colon, sign_quote, sign_other}
-use native.Mathlib.Omega.{arith}
 use Rattle.scan.proofs.Scanner.sign.Goals as goal
 
 pub returns-then-b-eq35 : goal.returns-then-b-eq35
@@ -21,9 +20,6 @@ returns-then-b-eq58 c = c.token-then-b-eq58.ensures ∙ ap (lexeme_as c.args.at)
 
 pub returns-then-b-eq34 : goal.returns-then-b-eq34
 returns-then-b-eq34 c = c.string.ensures ∙ ap (lexeme_as c.args.at) (sym (sign_quote c.args.line.now c.args.at _ refl c.if-b-eq35.false _ c.peek-next.ensures c.if-b-eq47.false c.if-b-eq58.false c.if-b-eq34.true))
-
-pub overflow_cast-b : goal.overflow_cast-b
-overflow_cast-b c = omega (arith, c.shared_slice_known-2-1.given c.args.at)
 
 pub returns : goal.returns
 returns c = c.unexpected.ensures ∙ ap (lexeme_as c.args.at) (sym (sign_other c.args.line.now c.args.at _ refl c.if-b-eq35.false _ c.peek-next.ensures c.if-b-eq47.false c.if-b-eq58.false c.if-b-eq34.false))

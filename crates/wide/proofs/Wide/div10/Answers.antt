@@ -3,7 +3,7 @@ use Rattle.wide.proofs.Words.{divided, small_tenth, part_fits}
 use Rattle.wide.proofs.Wide.div10.Goals as goal
 
 pub returns-then-hi-eq0 : goal.returns-then-hi-eq0
-returns-then-hi-eq0 c = let t = small_tenth _ _ c.if-hi-eq0.true in (t.0, c.last_digit.ensures ∙ t.1)
+returns-then-hi-eq0 c = let t = small_tenth _ _ c.if-hi-eq0.true in (rw c.from.ensures t.0, c.last_digit.ensures ∙ t.1)
 
 pub overflow_add-p1 : goal.overflow_add-p1
 overflow_add-p1 c = record { fits = (part_fits c.args.self.hi c.args.self.lo _ c.last_digit-2.ensures (search rules)).0 }

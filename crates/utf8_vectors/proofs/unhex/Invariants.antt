@@ -1,9 +1,0 @@
--- There is room for each byte.
-use Rattle.std.proofs.Common.{◌≤◌, ◌-◌}
-use Rattle.utf8_vectors.proofs.unhex.Given as goal
-
-abbrev pub invariant-loop-n : goal.invariant-loop-n
-invariant-loop-n l = l.n ≤ 256
-
-abbrev pub decreases-loop-n : goal.decreases-loop-n
-decreases-loop-n l = 256 - l.n
