@@ -6,6 +6,7 @@ use Prim.Native.Nat.{ℕ, ◌+◌, ◌≤◌, ◌<◌}
 use native.Mathlib.Omega.{arith}
 use borrow.Author.Tests.{lt-ltb, le-ltb}
 use lib.ListN.{length, get_or, length-append}
+use Rattle.std.specs.Prelude.{Ok, Err}
 use Rattle.table.specs.Table.{put_row}
 use Rattle.language.specs.Values.{ty_kind, Param, entry_at}
 use Rattle.language.specs.Terms as terms
@@ -26,10 +27,9 @@ use Rattle.findings.specs.Findings.{at_token, Adds}
 use Rattle.findings.proofs.Rows.{no_rows}
 use Rattle.findings.proofs.Adds.{adds_none, adds_then, adds_number}
 use Rattle.values.specs.declared.Term.{Term}
-use Rattle.values.specs.declared.Judged.{Judged}
-use Rattle.values.specs.declared.Judged.TheVariants.{Val, Err, Poisoned, Stopped}
+use Rattle.values.specs.declared.Halt.TheVariants.{Found}
 use Rattle.values.specs.declared.Judgement.{Judgement}
-use Rattle.values.specs.Values.{term_as, TypeShown, judged_as}
+use Rattle.values.specs.Values.{Judged, term_as, TypeShown, judged_as}
 use Rattle.values.proofs.Values.{judged_err}
 use Rattle.holding.specs.declared.Step.{Step}
 use Rattle.holding.specs.Holding.{put_held, Judges, Puts}
@@ -47,7 +47,7 @@ use Rattle.arguments.proofs.Outs.{HasNone, has_value, has_none, failed_as, which
 
 module _ (s : List ℕ) {r : Judgement} {x y t v : List ℕ} {c : Counts} {row i : ℕ} {j : judgements.Judgement terms.Term} where
   -- it comes to a value, and its row was written
-  placed : {w : Term} → Judges s r x y c j → r.out ≡ Val w → Puts s row w.at 7 i w t v → Placed s r x y t v c row i j
+  placed : {w : Term} → Judges s r x y c j → r.out ≡ Ok w → Puts s row w.at 7 i w t v → Placed s r x y t v c row i j
   placed {w} g q p =
       record {
         judges = g;
@@ -63,7 +63,7 @@ module _ (s : List ℕ) {r : Judgement} {x y t v : List ℕ} {c : Counts} {row i
 
 -- another type than the one that is wanted
 pub wrong_type : (s : List ℕ) (f i : ℕ) {wanted : ℕ} {g : Given} {tok : Token} {found : «Type»} {r : Judged} → tok ≡ token_as (token_of s g.first)
-    → TypeShown g.term found → r ≡ Err (at_token tok (what_is.ArgType f i wanted found)) → WrongType s f i wanted g r
+    → TypeShown g.term found → r ≡ Err (Found (at_token tok (what_is.ArgType f i wanted found))) → WrongType s f i wanted g r
 wrong_type s f i p q e =
     record {
       is = λ row a ty h w.
@@ -80,7 +80,7 @@ module _ (s : List ℕ) (f i : ℕ) (ps : List Param) {g : Given} {c : Counts} {
       subst (λ (at : ℕ). Judges s r x y c (fit n p.type at (judgement other []) a.term)) (ap (λ (h : Given). h.first) is)
       (F.is n p.type a.term other num e (ap (λ (h : Given). h.term) is) (W.is row a p.type is e))
 
-  pub takes_value : {t v : List ℕ} {w : Term} → r.out ≡ Val w → Puts s g.row w.at 7 i w t v → Takes s f i ps g c x t r y v
+  pub takes_value : {t v : List ℕ} {w : Term} → r.out ≡ Ok w → Puts s g.row w.at 7 i w t v → Takes s f i ps g c x t r y v
   takes_value {t} {v} {w} q p =
       record {
         is = λ n row a num is.
@@ -97,12 +97,12 @@ fitted_parts n f i p a e q = (fit_keeps n a.at p.type a.at (arg_type f i p.type 
 -- ---- what follows
 
 -- all are bound
-is_bound : (s : List ℕ) (at f k : ℕ) (u : List ℕ) {c : Counts} {x v : List ℕ} {r : Step} {w row : ℕ} (vs : Terms) → r ≡ step (Val (call_as at f w)) c row
+is_bound : (s : List ℕ) (at f k : ℕ) (u : List ℕ) {c : Counts} {x v : List ℕ} {r : Step} {w row : ℕ} (vs : Terms) → r ≡ step (Ok (call_as at f w)) c row
     → w ≡ count vs → row ≡ k + length (arg_parts 0 vs) → v ≡ put_held s u k (arg_parts 0 vs) → Bound s r x x u v c at f k (fine vs)
 unfolding and_then
 is_bound s at f k u {c} {x} vs e n m t =
     record {
-      out = λ d. ap (λ (q : Step). q.out) e ∙ ap (λ (i : ℕ). Val (call_as at f i)) n;
+      out = λ d. ap (λ (q : Step). q.out) e ∙ ap (λ (i : ℕ). Ok (call_as at f i)) n;
       adds = subst (λ (q : Step). Adds s c x q.counts x [] []) (sym e) (adds_none s c x);
       next = λ ws z. let same : vs ≡ ws = cc in ap (λ (q : Step). q.next) e ∙ m ∙ ap (λ (q : Terms). k + length (arg_parts 0 q)) same;
       rows = λ ws z. let same : vs ≡ ws = cc in t ∙ ap (λ (q : Terms). put_held s u k (arg_parts 0 q)) same;
@@ -182,7 +182,7 @@ module _ (k : ℕ) (a : Arg) (e : terms.Term) (p : parts e ≡ parts a.term) whe
 -- ---- the end
 
 module _ (s : List ℕ) (at f m w over row : ℕ) (c : Counts) {r : Step} (g : r ≡ finished s at f m w over row c) where
-  within : m ≤ w → r ≡ step (Val (call_as at f w)) c row
+  within : m ≤ w → r ≡ step (Ok (call_as at f w)) c row
   unfolding finished
   within h = g ∙ rw (le-ltb w m h)
 
@@ -192,31 +192,29 @@ module _ (s : List ℕ) (at f m w over row : ℕ) (c : Counts) {r : Step} (g : r
 
 -- the same as the code has it
 pub too_many_lem : (s : List ℕ) (at f m w over row : ℕ) {c : Counts} {tok : Token} {o : Judged} → w < m → tok ≡ token_as (token_of s over)
-    → o ≡ Err (at_token tok (what_is.TooManyArgs f m w)) → step o c row ≡ finished s at f m w over row c
+    → o ≡ Err (Found (at_token tok (what_is.TooManyArgs f m w))) → step o c row ≡ finished s at f m w over row c
 unfolding finished
 too_many_lem s at f m w over row {c} h p e =
     rw (lt-ltb w m h) (ap (λ (q : Judged). step q c row) (e ∙ judged_err s over (too_many_args f m w) p refl))
 
 pub too_few : (s : List ℕ) (f m w at row : ℕ) {c : Counts} {tok : Token} {o : Judged} → tok ≡ token_as (token_of s at)
-    → o ≡ Err (at_token tok (what_is.TooFewArgs f m w)) → step o c row ≡ step (judged_as s (err at (too_few_args f m w))) c row
+    → o ≡ Err (Found (at_token tok (what_is.TooFewArgs f m w))) → step o c row ≡ step (judged_as s (err at (too_few_args f m w))) c row
 too_few s f m w at row {c} p e = ap (λ (q : Judged). step q c row) (e ∙ judged_err s at (too_few_args f m w) p refl)
 
 pub enough : (s : List ℕ) (at f m w over row : ℕ) {kind : ℕ} {c : Counts} → m ≤ w → kind ≡ ty_kind (entry_at f).gives
-    → step (Val (record { at = at; form = 3; kind = kind; lo = f; hi = w })) c row ≡ finished s at f m w over row c
+    → step (Ok (record { at = at; form = 3; kind = kind; lo = f; hi = w })) c row ≡ finished s at f m w over row c
 unfolding finished
 enough s at f m w over row h e = rw (le-ltb w m h, e)
 
 -- with a value, and with none
-pub follows_value : {o : Judged} {v : Term} (a b : Step) → o ≡ Val v → follows o a b ≡ a
+pub follows_value : {o : Judged} {v : Term} (a b : Step) → o ≡ Ok v → follows o a b ≡ a
 unfolding follows
 follows_value a b e = rw e
 
 pub follows_none : (o : Judged) (a b : Step) → HasNone o → follows o a b ≡ b
 unfolding follows
-follows_none (Val v) a b h = absurd (h v refl)
-follows_none (Err d) a b h = refl
-follows_none Poisoned a b h = refl
-follows_none (Stopped t) a b h = refl
+follows_none (Ok v) a b h = absurd (h v refl)
+follows_none (Err h') a b h = refl
 
 -- ---- to no parameter, to one, to two
 
@@ -261,7 +259,7 @@ module _ (s : List ℕ) (n at f : ℕ) {kept : Kept} {k row w : ℕ} {x t u : Li
         is_stopped (fitted_as n f 0 p a) _ d.judges (has_none s (fitted_as n f 0 p a).out d.judges.out q)
 
     -- and has a value
-    module _ {o : Term} (h : r₁.out ≡ Val o) where
+    module _ {o : Term} (h : r₁.out ≡ Ok o) where
       none_1 : {r : Step} (ps : List Param) (gs : List Arg) → Start s kept k row w t u ps gs → Takes s f 0 ps kept.first c x t r₁ y v → w ≡ 1
           → (kept.count ≡ 0 → ⊥) → r ≡ finished s at f kept.count w kept.second.first row r₁.counts
           → Bound s r x y u v c at f k (Binding n at f ps gs)
@@ -316,7 +314,7 @@ module _ (s : List ℕ) (n at f : ℕ) {kept : Kept} {k row w : ℕ} {x t u : Li
 
         none_2 : {o' : Term} {r : Step} (ps : List Param) (gs : List Arg) → Start s kept k row w t u ps gs
             → Takes s f 0 ps kept.first c x t r₁ y v → Takes s f 1 ps kept.second r₁.counts y v r₂ y' v' → w ≤ 2 → (w ≡ 0 → ⊥) → (w ≡ 1 → ⊥)
-            → (kept.count ≡ 0 → ⊥) → (kept.count ≡ 1 → ⊥) → r₂.out ≡ Val o'
+            → (kept.count ≡ 0 → ⊥) → (kept.count ≡ 1 → ⊥) → r₂.out ≡ Ok o'
             → r ≡ finished s at f kept.count w kept.third row r₂.counts → Bound s r x y' u v' c at f k (Binding n at f ps gs)
         unfolding bind_from and_then end spread
         none_2 [] gs b F G z i j l m q g = absurd (i b.wanted)

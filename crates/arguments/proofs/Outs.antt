@@ -1,20 +1,16 @@
 -- What the code's judgement says of the language's.
-use mathlib.Core.Path.{◌≡◌, refl, subst}
-use mathlib.Core.List.{List, [], ◌∷◌}
+use mathlib.Core.Path.{◌≡◌, refl}
+use mathlib.Core.List.{List}
 use mathlib.Core.Logic.{◌⊎◌, inl, inr}
 use Prim.Native.Nat.{ℕ}
-use types.Run.{OneOf}
-use denote.Enum.Declared.{tag_of}
+use Rattle.std.specs.Prelude.{Ok, Err}
 use Rattle.language.specs.Terms as terms
 use Rattle.language.specs.Judgements as judgements
 use Rattle.language.specs.Judgements.{val, err, poisoned, stopped}
 use Rattle.language.proofs.Tests.{never}
-use Rattle.rows.proofs.Plain.{strange}
 use Rattle.values.specs.declared.Term.{Term}
-use Rattle.values.specs.declared.Judged.{Judged}
-use Rattle.values.specs.declared.Judged.TheVariants.{Val, Err, Poisoned, Stopped}
-use Rattle.values.specs.contracts.Judged as judged
-use Rattle.values.specs.Values.{term_as, judged_as}
+use Rattle.values.specs.declared.Halt.{Halt}
+use Rattle.values.specs.Values.{Judged, term_as, judged_as}
 use Rattle.arguments.proofs.Then.{NoValue, failed}
 
 -- the term that the code's stands for
@@ -25,10 +21,10 @@ pub record ValueOf (o : judgements.Judged terms.Term) (v : Term) : Type 0 where
 
 -- it has none
 abbrev pub HasNone : Judged → Type 0
-HasNone r = (v : Term) → r ≡ Val v → ⊥
+HasNone r = (v : Term) → r ≡ Ok v → ⊥
 
 module _ (s : List ℕ) {r : Judged} where
-  pub has_value : {v : Term} (o : judgements.Judged terms.Term) → r ≡ judged_as s o → r ≡ Val v → ValueOf o v
+  pub has_value : {v : Term} (o : judgements.Judged terms.Term) → r ≡ judged_as s o → r ≡ Ok v → ValueOf o v
   has_value {v} (val e) g q = let z : v ≡ term_as e = cc in record { term = e; is = refl; as' = z }
   has_value (err at w) g q = never cc
   has_value poisoned g q = never cc
@@ -51,14 +47,11 @@ module _ (s : List ℕ) {r : Judged} where
 
 pub record Has (r : Judged) : Type 0 where
   pub value : Term
-  pub is : r ≡ Val value
+  pub is : r ≡ Ok value
 
 pub which : (r : Judged) → Has r ⊎ HasNone r
-which (Val v) = inl (record { value = v; is = refl })
-which (Err d) = inr (λ v e. never cc)
-which Poisoned = inr (λ v e. never cc)
-which (Stopped t) = inr (λ v e. never cc)
+which (Ok v) = inl (record { value = v; is = refl })
+which (Err h) = inr (λ v e. never cc)
 
--- one that no arm names
-pub others : {r : Judged} → OneOf (1 ∷ 2 ∷ 3 ∷ []) (tag_of judged.the_type r) → HasNone r
-others h v e = strange (1 ∷ 2 ∷ 3 ∷ []) 0 refl (subst (λ (q : Judged). OneOf (1 ∷ 2 ∷ 3 ∷ []) (tag_of judged.the_type q)) e h)
+pub halted : {r : Judged} {h : Halt} → r ≡ Err h → HasNone r
+halted e v q = never cc

@@ -158,14 +158,11 @@ fn fit_one(
     let wanted = parameter_type(f, i);
     let otherwise = wrong_type(toks, f, i, wanted, g);
     let r = fitting::fit(toks, diags, wanted, g.first, v, otherwise, counts);
-    let out = r.out;
-    match out {
-        Judged::Val(w) => {
-            holding::put_part(toks, stmts, g.row, StatementRow::ARGUMENT, i, w);
-            r
-        }
-        _ => r,
-    }
+    let Ok(w) = r.out else {
+        return r;
+    };
+    holding::put_part(toks, stmts, g.row, StatementRow::ARGUMENT, i, w);
+    r
 }
 
 // ---- all of them
@@ -202,7 +199,7 @@ fn finish(
         hi: wanted,
     };
     Step {
-        out: Judged::Val(call),
+        out: Ok(call),
         counts,
         next: row,
     }
@@ -225,14 +222,14 @@ fn settle(
 {
     let out = last.out;
     let counts = last.counts;
-    match out {
-        Judged::Val(_) => finish(toks, at, f, many, wanted, over, row, counts),
-        _ => Step {
+    let Ok(_) = out else {
+        return Step {
             out,
             counts,
             next: row,
-        },
-    }
+        };
+    };
+    finish(toks, at, f, many, wanted, over, row, counts)
 }
 
 // A parameter has none.
@@ -287,18 +284,16 @@ pub fn bind(
     }
     let out = one.out;
     let then = one.counts;
-    match out {
-        Judged::Val(_) => {
-            if many == 1 {
-                return too_few(toks, at, f, many, wanted, row, then);
-            }
-            let two = fit_one(toks, diags, stmts, f, 1, second, then);
-            settle(toks, at, f, many, wanted, k.third, row, two)
-        }
-        _ => Step {
+    let Ok(_) = out else {
+        return Step {
             out,
             counts: then,
             next: row,
-        },
+        };
+    };
+    if many == 1 {
+        return too_few(toks, at, f, many, wanted, row, then);
     }
+    let two = fit_one(toks, diags, stmts, f, 1, second, then);
+    settle(toks, at, f, many, wanted, k.third, row, two)
 }

@@ -9,6 +9,7 @@ use borrow.Author.Tests.{eq-eqb, ne_eqb, lt-ltb, le-ltb}
 use lib.Dec.{eqb}
 use lib.ListN.{length, take}
 use lib.Seq.{length-take-le}
+use Rattle.std.specs.Prelude.{Result, Ok, Err}
 use Rattle.table.specs.Table.{pad_to}
 use Rattle.table.proofs.Laws.{tabled_none}
 use Rattle.language.specs.Tokens.{contents, tokens}
@@ -26,20 +27,19 @@ use Rattle.findings.specs.declared.Counts.{Counts}
 use Rattle.rows.specs.Tokens.{token_as, TokenTable}
 use Rattle.parse.specs.declared.ParseAnswer.{ParseAnswer}
 use Rattle.parse.specs.Entry.{ParseSource}
-use Rattle.statements.specs.declared.Outcome as outcome
-use Rattle.statements.specs.declared.Outcome.TheVariants.{Judged, Refused}
+use Rattle.statements.specs.declared.Refusal.{Refusal}
 use Rattle.findings.specs.Findings.{added}
 use Rattle.checker.specs.declared.CheckAnswer.{CheckAnswer}
-use Rattle.statements.specs.Checking.{StmtsAt, AllSound, Found, ComesTo, Comes}
-use Rattle.checker.specs.Entry.{refusal, Parses, GivesUp, CheckSource}
+use Rattle.statements.specs.Checking.{StmtsAt, AllSound, Found, refusal_number, refusal_token, ComesTo, Comes}
+use Rattle.checker.specs.Entry.{refusal, Parses, GivesUp, CheckSource, Concludes}
 use Rattle.language.proofs.Names.{refused_for}
 use Rattle.checker.proofs.Tables.{all_findings, all_held}
 use Rattle.checker.proofs.Parsed.{lexed_part, sound_part, stmts_part, number_is, tokens_long, nodes_left}
 
 -- a refusal where a token is
-pub at_place : (s : List ℕ) (t number : ℕ) {tok : Token} {v : Verdict} → tok ≡ token_as (token_of s t)
-    → v ≡ record { number = number; kind = 0; line = tok.line; column = tok.column; character = 0 } → v ≡ verdict_as (placed number (token_place s t))
-at_place s t number e q = q ∙ rw e
+pub at_place : (s : List ℕ) (t number : ℕ) {i n : ℕ} {tok : Token} {v : Verdict} → i ≡ t → n ≡ number → tok ≡ token_as (token_of s i)
+    → v ≡ record { number = n; kind = 0; line = tok.line; column = tok.column; character = 0 } → v ≡ verdict_as (placed number (token_place s t))
+at_place s t number p o e q = q ∙ rw (e, p, o)
 
 -- the part of a table that rows take, of one at least
 pub some_words : (toks : List ℕ) (count : ℕ) → 1 ≤ count → 7 * count ≤ length toks → 7 ≤ length (take (7 * count) toks)
@@ -137,46 +137,44 @@ unfolding checked
 some_number s {n} {t} e =
     elim (refused_for (contents (tokens s)) (statements_of (program (contents (tokens s)))) n t e) [ inl z ↦ rw z | inr z ↦ rw z ]
 
-module _ {s x u y v : List ℕ} {r : outcome.Outcome} where
-  went : {c : Counts} {o : Outcome} → r ≡ Judged c → Comes s x u r y v o
+module _ {s x u y v : List ℕ} {r : Result Counts Refusal} where
+  went : {c : Counts} {o : Outcome} → r ≡ Ok c → Comes s x u r y v o
       → (ds : List Diag) × (hs : List Held) × (ls : List ℕ) × (o ≡ judgements.judged ds hs ls) × Found s x u c y v ds hs ls
-  went {c} {o = judgements.judged ds hs ls} q h = (ds, hs, ls, refl, subst (λ (z : outcome.Outcome). ComesTo s x u z y v (judgements.judged ds hs ls)) q h.come)
-  went {c} {o = judgements.refused m t} q h = absurd (subst (λ (z : outcome.Outcome). ComesTo s x u z y v (judgements.refused m t)) q h.come)
+  went {c} {o = judgements.judged ds hs ls} q h = (ds, hs, ls, refl, subst (λ (z : Result Counts Refusal). ComesTo s x u z y v (judgements.judged ds hs ls)) q h.come)
+  went {c} {o = judgements.refused m t} q h = absurd (subst (λ (z : Result Counts Refusal). ComesTo s x u z y v (judgements.refused m t)) q h.come)
 
-  refused_at : {n t : ℕ} {o : Outcome} → r ≡ Refused n t → Comes s x u r y v o → o ≡ judgements.refused n t
-  refused_at {n} {t} {o = judgements.judged ds hs ls} q h = absurd (subst (λ (z : outcome.Outcome). ComesTo s x u z y v (judgements.judged ds hs ls)) q h.come)
-  refused_at {n} {t} {o = judgements.refused n' t'} q h =
-      let e = subst (λ (z : outcome.Outcome). ComesTo s x u z y v (judgements.refused n' t')) q h.come in
+  refused_at : {f : Refusal} {o : Outcome} → r ≡ Err f → Comes s x u r y v o → o ≡ judgements.refused (refusal_number f) (refusal_token f)
+  refused_at {f} {o = judgements.judged ds hs ls} q h = absurd (subst (λ (z : Result Counts Refusal). ComesTo s x u z y v (judgements.judged ds hs ls)) q h.come)
+  refused_at {f} {o = judgements.refused n' t'} q h =
+      let e = subst (λ (z : Result Counts Refusal). ComesTo s x u z y v (judgements.refused n' t')) q h.come in
       rw (e.0, e.1)
 
 module _ {s toks tree : List ℕ} {count rows : ℕ} (p : Parses s toks tree count rows) where
-  module _ {x u y v : List ℕ} {r : outcome.Outcome} (same-found : length y ≡ length x) (same-held : length v ≡ length u)
+  module _ {x u y v : List ℕ} {r : Result Counts Refusal} (same-found : length y ≡ length x) (same-held : length v ≡ length u)
       (on : (ss : List Stmt) → StmtsAt (take (5 * rows) tree) 0 ss → AllSound (contents (tokens s)) ss → Comes s x u r y v (judge_all (contents (tokens s)) ss)) where
     came : Comes s x u r y v (checked s)
     unfolding checked
     came = on (statements_of (program (contents (tokens s)))) (stmts_part p) (sound_part p)
 
-    pub concluded : {c : Counts} {q : CheckAnswer} {a b e f : List ℕ} → (x ≡ pad_to (length x) []) × (u ≡ pad_to (length u) []) → r ≡ Judged c
+    pub concluded : {c : Counts} (q : Result CheckAnswer Verdict) (held : List ℕ) → (x ≡ pad_to (length x) []) × (u ≡ pad_to (length u) []) → r ≡ Ok c
         → ((z : List ℕ) (ds : List Diag) (hs : List Held) (ls : List ℕ) → Parses z toks tree count rows → checked z ≡ judgements.judged ds hs ls
-        → Found z (pad_to (length y) []) (pad_to (length v) []) c y v ds hs ls
-        → CheckSource z (length toks) (length tree) (length y) (length v) q a b e f)
-        → CheckSource s (length toks) (length tree) (length x) (length u) q a b e f
-    concluded {c} {q} {a} {b} {e} {f} zero i h =
+        → Found z (pad_to (length y) []) (pad_to (length v) []) c y v ds hs ls → Concludes z toks tree (length y) (length v) q y held)
+        → Concludes s toks tree (length x) (length u) q y held
+    concluded {c} q held zero i h =
         let w = went i came in
         let g : Found s (pad_to (length y) []) (pad_to (length v) []) c y v w.0 w.1 w.2 =
         subst (λ (m : List ℕ). Found s (pad_to (length y) []) m c y v w.0 w.1 w.2) (zero.1 ∙ ap (λ (m : ℕ). pad_to m []) (sym same-held))
         (subst (λ (m : List ℕ). Found s m u c y v w.0 w.1 w.2) (zero.0 ∙ ap (λ (m : ℕ). pad_to m []) (sym same-found)) w.4) in
-        subst (λ (m : ℕ). CheckSource s (length toks) (length tree) (length x) m q a b e f) same-held
-        (subst (λ (m : ℕ). CheckSource s (length toks) (length tree) m (length v) q a b e f) same-found (h s w.0 w.1 w.2 p w.3 g))
+        subst (λ (m : ℕ). Concludes s toks tree (length x) m q y held) same-held
+        (subst (λ (m : ℕ). Concludes s toks tree m (length v) q y held) same-found (h s w.0 w.1 w.2 p w.3 g))
 
     -- a refusal by a statement
-    pub refused_stmt : {n t : ℕ} {w : Verdict} {q : CheckAnswer} {a b e f : List ℕ} → r ≡ Refused n t
-        → ((z : List ℕ) → TokenTable z (take (token_width * count) toks) → w ≡ verdict_as (placed n (token_place z t)))
-        → GivesUp w (length toks) (length tree) (length y) (length v) q a b e f → CheckSource s (length toks) (length tree) (length x) (length u) q a b e f
-    refused_stmt {n} {t} {w} {q} {a} {b} {e} {f} i l g =
-        gave_up s (length toks) (length tree) (length x) (length u) (placed n (token_place s t)) (judged_as_lem p (length u / 11) ∙ rw (refused_at i came)) (some_number s (refused_at i came)) (l s (lexed_part p))
-        (subst (λ (m : ℕ). GivesUp w (length toks) (length tree) (length x) m q a b e f) same-held
-        (subst (λ (m : ℕ). GivesUp w (length toks) (length tree) m (length v) q a b e f) same-found g))
+    pub refused_stmt : {f : Refusal} {w : Verdict} → r ≡ Err f
+        → ((z : List ℕ) → TokenTable z (take (token_width * count) toks) → w ≡ verdict_as (placed (refusal_number f) (token_place z (refusal_token f))))
+        → Concludes s toks tree (length x) (length u) (Err w) y v
+    refused_stmt {f} i l =
+        λ q a b e h g. gave_up s (length toks) (length tree) (length x) (length u) (placed (refusal_number f) (token_place s (refusal_token f)))
+        (judged_as_lem p (length u / 11) ∙ rw (refused_at i came)) (some_number s (refused_at i came)) (l s (lexed_part p)) g
 
 -- ---- a source
 

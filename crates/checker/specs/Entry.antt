@@ -1,5 +1,5 @@
 -- What the entry promises.
-use Rattle.std.specs.Prelude.{◌≡◌, List, [], ℕ, ◌/◌, length}
+use Rattle.std.specs.Prelude.{◌≡◌, List, [], ℕ, ◌/◌, length, Result, Ok, Err}
 use Rattle.table.specs.Table.{pad_to, tabled}
 use Rattle.language.specs.Tables.{token_row, token_width}
 use Rattle.language.specs.Tokens.{tokens, contents}
@@ -47,3 +47,10 @@ pub record Parses (source toks tree : List ℕ) (count rows : ℕ) : Type 0 wher
 -- left in each
 abbrev pub CheckSource : List ℕ → ℕ → ℕ → ℕ → ℕ → CheckAnswer → List ℕ → List ℕ → List ℕ → List ℕ → Type 0
 CheckSource source t n d k r toks tree found held = CheckPromise checked_as source t n d k r toks tree found held
+
+-- what judging a parsed source comes to: an answer with what is left in the four tables; or a refusal, which still has to leave nothing
+-- in any of them
+abbrev pub Concludes : List ℕ → List ℕ → List ℕ → ℕ → ℕ → Result CheckAnswer Verdict → List ℕ → List ℕ → Type 0
+Concludes source toks tree d k (Ok r) found held = CheckSource source (length toks) (length tree) d k r toks tree found held
+Concludes source toks tree d k (Err v) found held =
+    (r : CheckAnswer) (a b e f : List ℕ) → GivesUp v (length toks) (length tree) d k r a b e f → CheckSource source (length toks) (length tree) d k r a b e f

@@ -7,13 +7,13 @@ ghost use Rattle.language.specs.Numbers.{verdict, placed, token_place, checked};
 ghost use Rattle.language.specs.Judgements.{Diag, Held, judged};
 ghost use Rattle.language.specs.Tables.{token_width};
 ghost use Rattle.rows.specs.Tokens.{TokenTable};
-ghost use Rattle.statements.specs.Checking.{Found};
+ghost use Rattle.statements.specs.Checking.{refusal_number, refusal_token, Found};
 ghost use Rattle.rows.specs.Rows.{verdict_as};
-ghost use Rattle.checker.specs.Entry.{refusal, GivesUp, Parses, CheckSource};
+ghost use Rattle.checker.specs.Entry.{refusal, GivesUp, Parses, CheckSource, Concludes};
 
 use findings::Counts;
 use rows::{NodeRow, StatementRow, TokenRow, Verdict};
-use statements::Outcome;
+use statements::Refusal;
 
 #[repr(C)]
 #[derive(Clone, Copy)]
@@ -76,14 +76,14 @@ fn give_up(
     refused(verdict)
 }
 
-// A refusal at the token with an index, of `count`.
-fn at_token(toks: &[u64], count: usize, number: u64, t: u64) -> Verdict
+// What C sees of a refusal, of `count` tokens: its number, and where it stands.
+fn placed(toks: &[u64], count: usize, refusal: Refusal) -> Verdict
     requires { (1 ≤ count) × (token_width * count ≤ length toks.now) }
-    ensures { (s : List ℕ) → TokenTable s (take (token_width * count) toks.now) → result ≡ verdict_as (placed number (token_place s t)) }
+    ensures { (s : List ℕ) → TokenTable s (take (token_width * count) toks.now) → result ≡ verdict_as (placed (refusal_number refusal) (token_place s (refusal_token refusal))) }
 {
     let rows = TokenRow::WORDS * count;
-    let tok = rows::token_at(&toks[..rows], t);
-    Verdict::new(number, tok.line, tok.column)
+    let tok = rows::token_at(&toks[..rows], refusal.token());
+    Verdict::new(refusal.number(), tok.line, tok.column)
 }
 
 // The answer where all statements were judged: the statements are kept where there is no error.
@@ -91,34 +91,52 @@ fn conclude(
     counts: Counts,
     count: usize,
     rows: usize,
-    toks: &mut [u64],
-    nodes: &mut [u64],
-    diags: &mut [u64],
     stmts: &mut [u64],
-) -> CheckAnswer
-    ensures { (s : List ℕ) (ds : List Diag) (hs : List Held) (ls : List ℕ) → Parses s toks.old nodes.old count rows
+) -> Result<CheckAnswer, Verdict>
+    ensures { (s toks tree found : List ℕ) (ds : List Diag) (hs : List Held) (ls : List ℕ) → Parses s toks tree count rows
         → checked s ≡ judged ds hs ls
-        → Found s (pad_to (length diags.old) []) (pad_to (length stmts.old) []) counts diags.old stmts.old ds hs ls
-        → CheckSource s (length toks.old) (length nodes.old) (length diags.old) (length stmts.old)
-        result toks.new nodes.new diags.new stmts.new }
+        → Found s (pad_to (length found) []) (pad_to (length stmts.old) []) counts found stmts.old ds hs ls
+        → Concludes s toks tree (length found) (length stmts.old) result found stmts.new }
 {
     if counts.errors != 0 {
         table::clear(stmts);
-        return done(counts, count, rows, 0);
+        return Ok(done(counts, count, rows, 0));
     }
     if stmts.len() / StatementRow::WORDS < counts.statements {
-        return give_up(
-            Verdict::new(Verdict::STATEMENT_ROOM, 0, 0),
-            toks,
-            nodes,
-            diags,
-            stmts,
-        );
+        return Err(Verdict::new(Verdict::STATEMENT_ROOM, 0, 0));
     }
-    done(counts, count, rows, counts.statements)
+    Ok(done(counts, count, rows, counts.statements))
 }
 
-// Judges a tree. The tables of diagnostics and statements start out as zeros.
+// Judges a tree. The tables of diagnostics and statements start out as zeros; after a refusal their words say nothing.
+fn judge(
+    source: &[u8],
+    toks: &[u64],
+    nodes: &[u64],
+    diags: &mut [u64],
+    stmts: &mut [u64],
+    count: usize,
+    rows: usize,
+) -> Result<CheckAnswer, Verdict>
+    requires parses { Parses source.now toks.now nodes.now count rows }
+    requires diags_value { (diags.old ≡ pad_to (length diags.old) []) × (stmts.old ≡ pad_to (length stmts.old) []) }
+    ensures { Concludes source.now toks.now nodes.now (length diags.old) (length stmts.old) result diags.new stmts.new }
+{
+    let token_words = TokenRow::WORDS * count;
+    let node_words = NodeRow::WORDS * rows;
+    match statements::run(
+        source,
+        &toks[..token_words],
+        &nodes[..node_words],
+        diags,
+        stmts,
+    ) {
+        Ok(counts) => conclude(counts, count, rows, stmts),
+        Err(refusal) => Err(placed(toks, count, refusal)),
+    }
+}
+
+// The same, but a refusal leaves nothing in any table.
 fn check_statements(
     source: &[u8],
     toks: &mut [u64],
@@ -133,20 +151,9 @@ fn check_statements(
     ensures { CheckSource source.now (length toks.old) (length nodes.old) (length diags.old) (length stmts.old)
         result toks.new nodes.new diags.new stmts.new }
 {
-    let token_words = TokenRow::WORDS * count;
-    let node_words = NodeRow::WORDS * rows;
-    match statements::run(
-        source,
-        &toks[..token_words],
-        &nodes[..node_words],
-        diags,
-        stmts,
-    ) {
-        Outcome::Judged(counts) => conclude(counts, count, rows, toks, nodes, diags, stmts),
-        Outcome::Refused(number, t) => {
-            let found = at_token(toks, count, number, t);
-            give_up(found, toks, nodes, diags, stmts)
-        }
+    match judge(source, toks, nodes, diags, stmts, count, rows) {
+        Ok(answer) => answer,
+        Err(verdict) => give_up(verdict, toks, nodes, diags, stmts),
     }
 }
 

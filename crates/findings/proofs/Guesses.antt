@@ -5,6 +5,9 @@ use mathlib.Core.List.{List, [], ◌∷◌}
 use Prim.Native.Nat.{ℕ}
 use borrow.Author.Tests.{eq-eqb, ne_eqb}
 use lib.Dec.{eqb}
+use Rattle.std.specs.Prelude.{Option, Some, None}
+use Rattle.std.specs.Bool.{then_some}
+use Rattle.language.specs.Choice.{if'}
 use types.Run.{OneOf}
 use denote.Enum.Declared.{tag_of}
 use Rattle.rows.specs.declared.layout.DiagnosticRow.{DiagnosticRow}
@@ -15,10 +18,6 @@ use Rattle.findings.specs.declared.Side.TheVariants as side_is
 use Rattle.findings.specs.declared.What.{What}
 use Rattle.findings.specs.declared.What.TheVariants as what_is
 use Rattle.findings.specs.declared.Diagnostic.{Diagnostic}
-use Rattle.findings.specs.declared.Read.{Read}
-use Rattle.findings.specs.declared.Read.TheVariants.{Is, Nothing}
-use Rattle.findings.specs.declared.reading.Guess.{Guess}
-use Rattle.findings.specs.declared.reading.Guess.TheVariants as guess_is
 use Rattle.findings.specs.Findings.{row_of}
 use Rattle.findings.specs.Reading.{is_plain, sound_type, sound_what, sound_diagnostic, same_row, type_in, operand_in, guess_by, guess_of, found_in, confirmed, read_by, read_of}
 use Rattle.findings.specs.contracts.What as what
@@ -73,24 +72,24 @@ module _ (r : DiagnosticRow) where
   unfolding type_in
   plain_in h = rw (ne_eqb _ _ h)
 
-  pub left_in : {t : «Type»} → t ≡ type_in r → r.first ≡ 1 → guess_is.Is (what_is.OperandType side_is.Left r.second t) ≡ operand_in r
+  pub left_in : {t : «Type»} → t ≡ type_in r → r.first ≡ 1 → Some (what_is.OperandType side_is.Left r.second t) ≡ operand_in r
   unfolding operand_in
   left_in e h = rw (e, h)
 
-  pub right_in : {t : «Type»} → t ≡ type_in r → r.first ≡ 2 → guess_is.Is (what_is.OperandType side_is.Right r.second t) ≡ operand_in r
+  pub right_in : {t : «Type»} → t ≡ type_in r → r.first ≡ 2 → Some (what_is.OperandType side_is.Right r.second t) ≡ operand_in r
   unfolding operand_in
   right_in e h = rw (e, h)
 
-  pub no_side : (r.first ≡ 1 → ⊥) → (r.first ≡ 2 → ⊥) → guess_is.Nothing ≡ operand_in r
+  pub no_side : (r.first ≡ 1 → ⊥) → (r.first ≡ 2 → ⊥) → None ≡ operand_in r
   unfolding operand_in
   no_side h l = rw (ne_eqb _ _ h, ne_eqb _ _ l)
 
-  pub by_kind : {n : ℕ} {g : Guess} → r.kind ≡ n → g ≡ guess_by n r → g ≡ guess_of r
+  pub by_kind : {n : ℕ} {g : Option What} → r.kind ≡ n → g ≡ guess_by n r → g ≡ guess_of r
   by_kind h e = e ∙ ap (λ (k : ℕ). guess_by k r) (sym h)
 
   -- a kind that no finding has
   pub no_kind : ((((((((((((((((((Unit {0} × (r.kind ≡ 1 → ⊥)) × (r.kind ≡ 2 → ⊥)) × (r.kind ≡ 4 → ⊥)) × (r.kind ≡ 5 → ⊥)) × (r.kind ≡ 6 → ⊥)) × (r.kind ≡ 7 → ⊥)) × (r.kind ≡ 8 → ⊥)) × (r.kind ≡ 9 → ⊥)) × (r.kind ≡ 10 → ⊥)) × (r.kind ≡ 11 → ⊥)) × (r.kind ≡ 12 → ⊥)) × (r.kind ≡ 13 → ⊥)) × (r.kind ≡ 19 → ⊥)) × (r.kind ≡ 21 → ⊥)) × (r.kind ≡ 22 → ⊥)) × (r.kind ≡ 23 → ⊥)) × (r.kind ≡ 24 → ⊥)) × (r.kind ≡ 25 → ⊥)) × (r.kind ≡ 26 → ⊥)
-      → guess_is.Nothing ≡ guess_of r
+      → None ≡ guess_of r
   unfolding guess_by
   no_kind h =
       rw (
@@ -118,19 +117,19 @@ module _ (r : DiagnosticRow) where
   -- ---- whether it was that
 
   module _ (d : Diagnostic) {a b : Bool} {o : DiagnosticRow} (p : a ≡ sound_diagnostic d) (e : o ≡ row_of d) (q : b ≡ same_row o r) where
-    pub was_it : a && b ≡ true → Is d ≡ confirmed r d
+    pub was_it : {x : Option Diagnostic} → x ≡ then_some (a && b) d → x ≡ confirmed r d
     unfolding confirmed
-    was_it h = let t : sound_diagnostic d && same_row (row_of d) r ≡ true = rw (← p, ← e, ← q) h in rw t
+    was_it h = rw (← p, ← e, ← q) (h ∙ chosen (a && b))
+      where
+        chosen : (t : Bool) → then_some t d ≡ if' t (Some d) None
+        chosen true = refl
+        chosen false = refl
 
-    pub was_not : a && b ≡ false → Nothing ≡ confirmed r d
-    unfolding confirmed
-    was_not h = let t : sound_diagnostic d && same_row (row_of d) r ≡ false = rw (← p, ← e, ← q) h in rw t
-
-  module _ {g : Guess} (p : g ≡ guess_of r) where
-    pub read_was : {w : What} {d : Diagnostic} {x : Read} → g ≡ guess_is.Is w → d ≡ found_in r w → x ≡ confirmed r d → x ≡ read_of r
+  module _ {g : Option What} (p : g ≡ guess_of r) where
+    pub read_was : {w : What} {d : Diagnostic} {x : Option Diagnostic} → g ≡ Some w → d ≡ found_in r w → x ≡ confirmed r d → x ≡ read_of r
     unfolding read_of
     read_was h e f = f ∙ ap (confirmed r) e ∙ ap (read_by r) (sym h ∙ p)
 
-    pub read_nothing : g ≡ guess_is.Nothing → Nothing ≡ read_of r
+    pub read_nothing : g ≡ None → None ≡ read_of r
     unfolding read_of
     read_nothing h = ap (read_by r) (sym h ∙ p)

@@ -4,6 +4,7 @@ use mathlib.Core.Path.{◌≡◌, refl, sym, ap, ◌∙◌}
 use mathlib.Core.Bool.{Bool, true, false, ◌&&◌}
 use borrow.Author.Tests.{eq-eqb, eqb-true}
 use lib.Dec.{eqb, ltb}
+use Rattle.std.specs.Prelude.{Option, Some, None}
 use Rattle.rows.specs.declared.layout.DiagnosticRow.{DiagnosticRow}
 use Rattle.rows.specs.declared.types.Type.{«Type»}
 use Rattle.language.specs.Choice.{if'}
@@ -14,9 +15,6 @@ use Rattle.findings.specs.declared.Side.TheVariants as side_is
 use Rattle.findings.specs.declared.What.{What}
 use Rattle.findings.specs.declared.What.TheVariants as what_is
 use Rattle.findings.specs.declared.Diagnostic.{Diagnostic}
-use Rattle.findings.specs.declared.Read.TheVariants.{Is, Nothing}
-use Rattle.findings.specs.declared.reading.Guess.{Guess}
-use Rattle.findings.specs.declared.reading.Guess.TheVariants as guess_is
 use Rattle.findings.specs.Findings.{severity_number, shows_name, placed, type_text, function_type, typed_row, row_of, numbered}
 use Rattle.findings.specs.Reading.{is_plain, is_type, sound_type, sound_diagnostic, same_row, type_in, operand_in, truncated_in, guess_by, guess_of, found_in, confirmed, read_by, read_of, ReadsBack, ReadsOnly, ReadsNothing}
 
@@ -58,15 +56,15 @@ own_row n a = simp eqb_own
 
 -- ---- a row's finding
 
-confirmed_own : (n : ℕ) (d : Diagnostic) → sound_diagnostic d ≡ true → confirmed (numbered n (row_of d)) d ≡ Is d
+confirmed_own : (n : ℕ) (d : Diagnostic) → sound_diagnostic d ≡ true → confirmed (numbered n (row_of d)) d ≡ Some d
 unfolding confirmed
 confirmed_own n d h = rw (h, own_row n (row_of d))
 
-confirmed_only : (r : DiagnosticRow) (c d : Diagnostic) → confirmed r c ≡ Is d → (numbered r.statement (row_of d) ≡ r) × (sound_diagnostic d ≡ true)
+confirmed_only : (r : DiagnosticRow) (c d : Diagnostic) → confirmed r c ≡ Some d → (numbered r.statement (row_of d) ≡ r) × (sound_diagnostic d ≡ true)
 unfolding confirmed
 confirmed_only r c d = by (sound_diagnostic c && same_row (row_of c) r) refl
   where
-    by : (b : Bool) → sound_diagnostic c && same_row (row_of c) r ≡ b → if' b (Is c) Nothing ≡ Is d → (numbered r.statement (row_of d) ≡ r) × (sound_diagnostic d ≡ true)
+    by : (b : Bool) → sound_diagnostic c && same_row (row_of c) r ≡ b → if' b (Some c) None ≡ Some d → (numbered r.statement (row_of d) ≡ r) × (sound_diagnostic d ≡ true)
     by true h e =
         let z : c ≡ d = cc in
         let t = both (sound_diagnostic c) (same_row (row_of c) r) h in
@@ -77,9 +75,9 @@ pub reads_only : ReadsOnly
 unfolding read_of
 reads_only r d = by (guess_of r)
   where
-    by : (g : Guess) → read_by r g ≡ Is d → (numbered r.statement (row_of d) ≡ r) × (sound_diagnostic d ≡ true)
-    by (guess_is.Is w) e = confirmed_only r (found_in r w) d e
-    by guess_is.Nothing e = never (cc)
+    by : (g : Option What) → read_by r g ≡ Some d → (numbered r.statement (row_of d) ≡ r) × (sound_diagnostic d ≡ true)
+    by (Some w) e = confirmed_only r (found_in r w) d e
+    by None e = never (cc)
 
 -- ---- a finding's row
 
@@ -110,21 +108,21 @@ spanless l c a e w h =
 
 -- the row says which finding it was
 record Own (m : ℕ) (d : Diagnostic) : Type 0 where
-  guess : guess_of (numbered m (row_of d)) ≡ guess_is.Is d.what
+  guess : guess_of (numbered m (row_of d)) ≡ Some d.what
   found : found_in (numbered m (row_of d)) d.what ≡ d
 
 -- a kind that shows a type
 typed_own : (m l c a e : ℕ) (f : «Type» → What) (t : «Type») (x y z : ℕ) → let d = found l c a e (f t) in sound_type t ≡ true → eqb a 0 && eqb e 0 ≡ true
-    → guess_of (numbered m (row_of d)) ≡ guess_is.Is (f (type_in (numbered m (typed_row d t x y z)))) → found_in (numbered m (row_of d)) (f t) ≡ found l c 0 0 (f t) → Own m d
+    → guess_of (numbered m (row_of d)) ≡ Some (f (type_in (numbered m (typed_row d t x y z)))) → found_in (numbered m (row_of d)) (f t) ≡ found l c 0 0 (f t) → Own m d
 typed_own m l c a e f t x y z h n g p =
     record {
-      guess = g ∙ ap (λ (u : «Type»). guess_is.Is (f u)) (type_own m (found l c a e (f t)) t x y z h);
+      guess = g ∙ ap (λ (u : «Type»). Some (f u)) (type_own m (found l c a e (f t)) t x y z h);
       found = p ∙ spanless l c a e (f t) n;
     }
 
 -- one that shows a function, by its entry
 function_own_row : (m l c a e : ℕ) (f : ℕ → What) (k x y : ℕ) → let d = found l c a e (f k) in is_function_entry k && (eqb a 0 && eqb e 0) ≡ true
-    → guess_of (numbered m (row_of d)) ≡ guess_is.Is (f (type_in (numbered m (typed_row d (function_type k) x y 0))).entry)
+    → guess_of (numbered m (row_of d)) ≡ Some (f (type_in (numbered m (typed_row d (function_type k) x y 0))).entry)
     → found_in (numbered m (row_of d)) (f k) ≡ found l c 0 0 (f k) → Own m d
 function_own_row m l c a e f k x y h g p =
     let n = both (is_function_entry k) (eqb a 0 && eqb e 0) h in
@@ -177,5 +175,5 @@ reads_back m d h =
 
 pub reads_nothing : ReadsNothing
 reads_nothing r d n h e =
-    let b : read_of r ≡ Is d = rw (← e) (reads_back r.statement d h) in
+    let b : read_of r ≡ Some d = rw (← e) (reads_back r.statement d h) in
     never (cc)

@@ -1,5 +1,5 @@
 -- What a row of the diagnostic table was: which findings rows can show, and the one that a row shows.
-use Rattle.std.specs.Prelude.{ℕ, ◌≡◌, Bool, true, ◌&&◌, ◌||◌, eqb, ltb, leb}
+use Rattle.std.specs.Prelude.{ℕ, ◌≡◌, Bool, true, ◌&&◌, ◌||◌, eqb, ltb, leb, Option, Some, None}
 use Rattle.rows.specs.declared.layout.DiagnosticRow.{DiagnosticRow}
 use Rattle.rows.specs.declared.types.Type.{«Type»}
 use Rattle.language.specs.Choice.{if'}
@@ -8,10 +8,6 @@ use Rattle.findings.specs.declared.Side.TheVariants as side_is
 use Rattle.findings.specs.declared.What.{What}
 use Rattle.findings.specs.declared.What.TheVariants as what_is
 use Rattle.findings.specs.declared.Diagnostic.{Diagnostic}
-use Rattle.findings.specs.declared.Read.{Read}
-use Rattle.findings.specs.declared.Read.TheVariants.{Is, Nothing}
-use Rattle.findings.specs.declared.reading.Guess.{Guess}
-use Rattle.findings.specs.declared.reading.Guess.TheVariants as guess_is
 use Rattle.findings.specs.Findings.{kind_number, shows_name, placed, row_of, numbered}
 
 -- ---- which findings rows can show
@@ -68,65 +64,65 @@ unfoldable pub type_in : DiagnosticRow → «Type»
 type_in r = record { kind = r.ty; entry = if' (eqb r.ty 14) (function_named r.start r.end) 0 }
 
 -- an operand's finding, by its side
-unfoldable pub operand_in : DiagnosticRow → Guess
+unfoldable pub operand_in : DiagnosticRow → Option What
 operand_in r =
-    if' (eqb r.first 1) (guess_is.Is (what_is.OperandType side_is.Left r.second (type_in r)))
-    (if' (eqb r.first 2) (guess_is.Is (what_is.OperandType side_is.Right r.second (type_in r))) guess_is.Nothing)
+    if' (eqb r.first 1) (Some (what_is.OperandType side_is.Left r.second (type_in r)))
+    (if' (eqb r.first 2) (Some (what_is.OperandType side_is.Right r.second (type_in r))) None)
 
-unfoldable pub truncated_in : DiagnosticRow → Guess
-truncated_in r = guess_is.Is (what_is.Truncated (record { hi = r.second; lo = r.first }) (type_in r))
+unfoldable pub truncated_in : DiagnosticRow → Option What
+truncated_in r = Some (what_is.Truncated (record { hi = r.second; lo = r.first }) (type_in r))
 
 -- what a row can have been, by its kind
-unfoldable pub guess_by : ℕ → DiagnosticRow → Guess
+unfoldable pub guess_by : ℕ → DiagnosticRow → Option What
 guess_by kind r =
-    if' (eqb kind 1) (guess_is.Is what_is.UnknownName)
-    (if' (eqb kind 2) (guess_is.Is (what_is.UnknownItem r.first))
-    (if' (eqb kind 4) (guess_is.Is what_is.UnknownModule)
-    (if' (eqb kind 5) (guess_is.Is what_is.NotImported)
-    (if' (eqb kind 6) (guess_is.Is what_is.NotAModule)
-    (if' (eqb kind 7) (guess_is.Is what_is.NotAValue)
-    (if' (eqb kind 8) (guess_is.Is (what_is.AlreadyBound r.first r.second))
-    (if' (eqb kind 9) (guess_is.Is (what_is.NoMembers (type_in r)))
+    if' (eqb kind 1) (Some what_is.UnknownName)
+    (if' (eqb kind 2) (Some (what_is.UnknownItem r.first))
+    (if' (eqb kind 4) (Some what_is.UnknownModule)
+    (if' (eqb kind 5) (Some what_is.NotImported)
+    (if' (eqb kind 6) (Some what_is.NotAModule)
+    (if' (eqb kind 7) (Some what_is.NotAValue)
+    (if' (eqb kind 8) (Some (what_is.AlreadyBound r.first r.second))
+    (if' (eqb kind 9) (Some (what_is.NoMembers (type_in r)))
     (if' (eqb kind 10) (operand_in r)
-    (if' (eqb kind 11) (guess_is.Is (what_is.NotCallable (type_in r)))
-    (if' (eqb kind 12) (guess_is.Is (what_is.TooManyArgs (type_in r).entry r.first r.second))
-    (if' (eqb kind 13) (guess_is.Is (what_is.TooFewArgs (type_in r).entry r.first r.second))
-    (if' (eqb kind 19) (guess_is.Is (what_is.ArgType r.first r.second r.third (type_in r)))
-    (if' (eqb kind 21) (guess_is.Is what_is.VoidValue)
-    (if' (eqb kind 22) (guess_is.Is what_is.IntegralTooLarge)
-    (if' (eqb kind 23) (guess_is.Is what_is.MultipleImports)
-    (if' (eqb kind 24) (guess_is.Is (what_is.DiscardedValue (type_in r)))
+    (if' (eqb kind 11) (Some (what_is.NotCallable (type_in r)))
+    (if' (eqb kind 12) (Some (what_is.TooManyArgs (type_in r).entry r.first r.second))
+    (if' (eqb kind 13) (Some (what_is.TooFewArgs (type_in r).entry r.first r.second))
+    (if' (eqb kind 19) (Some (what_is.ArgType r.first r.second r.third (type_in r)))
+    (if' (eqb kind 21) (Some what_is.VoidValue)
+    (if' (eqb kind 22) (Some what_is.IntegralTooLarge)
+    (if' (eqb kind 23) (Some what_is.MultipleImports)
+    (if' (eqb kind 24) (Some (what_is.DiscardedValue (type_in r)))
     (if' (eqb kind 25) (truncated_in r)
-    (if' (eqb kind 26) (guess_is.Is (what_is.Overflow (type_in r) r.first)) guess_is.Nothing))))))))))))))))))
+    (if' (eqb kind 26) (Some (what_is.Overflow (type_in r) r.first)) None))))))))))))))))))
 
-abbrev pub guess_of : DiagnosticRow → Guess
+abbrev pub guess_of : DiagnosticRow → Option What
 guess_of r = guess_by r.kind r
 
 abbrev pub found_in : DiagnosticRow → What → Diagnostic
 found_in r w = placed r.line r.column r.start r.end w
 
 -- a finding that rows can show and that has this row
-unfoldable pub confirmed : DiagnosticRow → Diagnostic → Read
-confirmed r d = if' (sound_diagnostic d && same_row (row_of d) r) (Is d) Nothing
+unfoldable pub confirmed : DiagnosticRow → Diagnostic → Option Diagnostic
+confirmed r d = if' (sound_diagnostic d && same_row (row_of d) r) (Some d) None
 
-abbrev pub read_by : DiagnosticRow → Guess → Read
-read_by r (guess_is.Is w) = confirmed r (found_in r w)
-read_by r guess_is.Nothing = Nothing
+abbrev pub read_by : DiagnosticRow → Option What → Option Diagnostic
+read_by r (Some w) = confirmed r (found_in r w)
+read_by r None = None
 
-unfoldable pub read_of : DiagnosticRow → Read
+unfoldable pub read_of : DiagnosticRow → Option Diagnostic
 read_of r = read_by r (guess_of r)
 
 -- ---- the claims
 
 -- the row of a finding that rows can show is read as it, whatever the number of its statement
 abbrev pub ReadsBack : Type 0
-ReadsBack = (n : ℕ) (d : Diagnostic) → sound_diagnostic d ≡ true → read_of (numbered n (row_of d)) ≡ Is d
+ReadsBack = (n : ℕ) (d : Diagnostic) → sound_diagnostic d ≡ true → read_of (numbered n (row_of d)) ≡ Some d
 
 -- what is read has that row, and rows can show it: so what is read as nothing is the row of none
 abbrev pub ReadsOnly : Type 0
 ReadsOnly =
-    (r : DiagnosticRow) (d : Diagnostic) → read_of r ≡ Is d → (numbered r.statement (row_of d) ≡ r) × (sound_diagnostic d ≡ true)
+    (r : DiagnosticRow) (d : Diagnostic) → read_of r ≡ Some d → (numbered r.statement (row_of d) ≡ r) × (sound_diagnostic d ≡ true)
 
 abbrev pub ReadsNothing : Type 0
 ReadsNothing =
-    (r : DiagnosticRow) (d : Diagnostic) → read_of r ≡ Nothing → sound_diagnostic d ≡ true → numbered r.statement (row_of d) ≡ r → ⊥
+    (r : DiagnosticRow) (d : Diagnostic) → read_of r ≡ None → sound_diagnostic d ≡ true → numbered r.statement (row_of d) ≡ r → ⊥

@@ -159,13 +159,6 @@ impl Diagnostic {
     }
 }
 
-// What a row was, or that no finding has such a row.
-#[derive(Clone, Copy)]
-pub enum Read {
-    Is(Diagnostic),
-    Nothing,
-}
-
 // How many names are bound and imported, how many slots are taken, how many errors and warnings there are, how many rows the held
 // statements have, the number of the statement that is judged (1 for the first, 0 before it), and how many names were compared in
 // searches among the bindings.

@@ -3,17 +3,10 @@ ghost use Rattle.std.specs.Prelude.{◌≡◌};
 ghost use Rattle.constants.specs.Constants.{is_module, is_function_entry};
 ghost use Rattle.findings.specs.Reading.{is_plain, is_type, sound_type, sound_what, sound_diagnostic, same_row, type_in, operand_in, truncated_in, guess_of, confirmed, read_of};
 
-use crate::{Diagnostic, Read, Side, What};
+use crate::{Diagnostic, Side, What};
 use constants::Constants;
 use rows::{DiagnosticRow, Ty, Type};
 use wide::Wide;
-
-// What a row can have been.
-#[derive(Clone, Copy)]
-enum Guess {
-    Is(What),
-    Nothing,
-}
 
 // ---- which findings rows can show
 
@@ -124,21 +117,21 @@ fn type_in(row: DiagnosticRow) -> Type
 }
 
 // An operand's finding, by its side.
-fn operand_in(row: DiagnosticRow) -> Guess
+fn operand_in(row: DiagnosticRow) -> Option<What>
     ensures { result ≡ operand_in row }
 {
     let ty = type_in(row);
     if row.first == Side::LEFT {
-        return Guess::Is(What::OperandType(Side::Left, row.second, ty));
+        return Some(What::OperandType(Side::Left, row.second, ty));
     }
     if row.first == Side::RIGHT {
-        return Guess::Is(What::OperandType(Side::Right, row.second, ty));
+        return Some(What::OperandType(Side::Right, row.second, ty));
     }
-    Guess::Nothing
+    None
 }
 
 // What a row can have been, by its kind.
-fn guessed(row: DiagnosticRow) -> Guess
+fn guessed(row: DiagnosticRow) -> Option<What>
     ensures { result ≡ guess_of row }
 {
     let kind = row.kind;
@@ -146,58 +139,53 @@ fn guessed(row: DiagnosticRow) -> Guess
     let first = row.first;
     let second = row.second;
     match kind {
-        What::UNKNOWN_NAME => Guess::Is(What::UnknownName),
-        What::UNKNOWN_ITEM => Guess::Is(What::UnknownItem(first)),
-        What::UNKNOWN_MODULE => Guess::Is(What::UnknownModule),
-        What::NOT_IMPORTED => Guess::Is(What::NotImported),
-        What::NOT_A_MODULE => Guess::Is(What::NotAModule),
-        What::NOT_A_VALUE => Guess::Is(What::NotAValue),
-        What::ALREADY_BOUND => Guess::Is(What::AlreadyBound(first, second)),
-        What::NO_MEMBERS => Guess::Is(What::NoMembers(ty)),
+        What::UNKNOWN_NAME => Some(What::UnknownName),
+        What::UNKNOWN_ITEM => Some(What::UnknownItem(first)),
+        What::UNKNOWN_MODULE => Some(What::UnknownModule),
+        What::NOT_IMPORTED => Some(What::NotImported),
+        What::NOT_A_MODULE => Some(What::NotAModule),
+        What::NOT_A_VALUE => Some(What::NotAValue),
+        What::ALREADY_BOUND => Some(What::AlreadyBound(first, second)),
+        What::NO_MEMBERS => Some(What::NoMembers(ty)),
         What::OPERAND_TYPE => operand_in(row),
-        What::NOT_CALLABLE => Guess::Is(What::NotCallable(ty)),
-        What::TOO_MANY_ARGS => Guess::Is(What::TooManyArgs(ty.entry, first, second)),
-        What::TOO_FEW_ARGS => Guess::Is(What::TooFewArgs(ty.entry, first, second)),
-        What::ARG_TYPE => Guess::Is(What::ArgType(first, second, row.third, ty)),
-        What::VOID_VALUE => Guess::Is(What::VoidValue),
-        What::INTEGRAL_TOO_LARGE => Guess::Is(What::IntegralTooLarge),
-        What::MULTIPLE_IMPORTS => Guess::Is(What::MultipleImports),
-        What::DISCARDED_VALUE => Guess::Is(What::DiscardedValue(ty)),
+        What::NOT_CALLABLE => Some(What::NotCallable(ty)),
+        What::TOO_MANY_ARGS => Some(What::TooManyArgs(ty.entry, first, second)),
+        What::TOO_FEW_ARGS => Some(What::TooFewArgs(ty.entry, first, second)),
+        What::ARG_TYPE => Some(What::ArgType(first, second, row.third, ty)),
+        What::VOID_VALUE => Some(What::VoidValue),
+        What::INTEGRAL_TOO_LARGE => Some(What::IntegralTooLarge),
+        What::MULTIPLE_IMPORTS => Some(What::MultipleImports),
+        What::DISCARDED_VALUE => Some(What::DiscardedValue(ty)),
         What::TRUNCATED => truncated_in(row),
-        What::OVERFLOW => Guess::Is(What::Overflow(ty, first)),
-        _ => Guess::Nothing,
+        What::OVERFLOW => Some(What::Overflow(ty, first)),
+        _ => None,
     }
 }
 
-fn truncated_in(row: DiagnosticRow) -> Guess
+fn truncated_in(row: DiagnosticRow) -> Option<What>
     ensures { result ≡ truncated_in row }
 {
     let n = Wide {
         hi: row.second,
         lo: row.first,
     };
-    Guess::Is(What::Truncated(n, type_in(row)))
+    Some(What::Truncated(n, type_in(row)))
 }
 
 // A finding that rows can show and that has this row.
-fn confirmed(row: DiagnosticRow, d: Diagnostic) -> Read
+fn confirmed(row: DiagnosticRow, d: Diagnostic) -> Option<Diagnostic>
     ensures { result ≡ confirmed row d }
 {
-    if is_sound(d) & same_row(crate::row_of(d), row) {
-        return Read::Is(d);
-    }
-    Read::Nothing
+    (is_sound(d) & same_row(crate::row_of(d), row)).then_some(d)
 }
 
-pub fn read(row: DiagnosticRow) -> Read
+// What a row was, or that no finding has such a row.
+pub fn read(row: DiagnosticRow) -> Option<Diagnostic>
     ensures { result ≡ read_of row }
 {
-    let was = guessed(row);
-    match was {
-        Guess::Is(what) => confirmed(
-            row,
-            crate::placed(row.line, row.column, row.start, row.end, what),
-        ),
-        Guess::Nothing => Read::Nothing,
-    }
+    let what = guessed(row)?;
+    confirmed(
+        row,
+        crate::placed(row.line, row.column, row.start, row.end, what),
+    )
 }

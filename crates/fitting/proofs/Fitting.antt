@@ -7,6 +7,8 @@ use mathlib.Core.Option.{Option, none, some}
 use native.Mathlib.Omega.{arith}
 use borrow.Author.Tests.{eqb-true, eq-eqb, ne_eqb, lt-ltb, le-ltb}
 use lib.Dec.{eqb, leb}
+use Rattle.std.specs.Prelude as prelude
+use Rattle.std.specs.Prelude.{Some, None, Ok, Err}
 use Rattle.language.specs.Choice.{if'}
 use Rattle.language.specs.Integers.{IntType, low_bits}
 use Rattle.language.specs.Tables.{word_limit, bit}
@@ -31,12 +33,9 @@ use Rattle.findings.specs.Findings.{kind_number, severity_number, at_token, plus
 use Rattle.findings.proofs.Texts.{at_token_lem}
 use Rattle.findings.proofs.Adds.{adds_none, adds_reported}
 use Rattle.values.specs.declared.Term.{Term}
-use Rattle.values.specs.declared.Judged.{Judged}
-use Rattle.values.specs.declared.Judged.TheVariants.{Val, Err}
+use Rattle.values.specs.declared.Halt.TheVariants.{Found}
 use Rattle.values.specs.declared.Judgement.{Judgement}
-use Rattle.values.specs.declared.Narrowed.{Narrowed}
-use Rattle.values.specs.declared.Narrowed.TheVariants as narrow
-use Rattle.values.specs.Values.{constant_as, term_as, is_integral, is_number, TypeShown, Narrow, narrowed_as, judged_as}
+use Rattle.values.specs.Values.{Judged, constant_as, term_as, is_integral, is_number, TypeShown, Narrow, narrowed_as, judged_as}
 use Rattle.values.proofs.Values.{TermOf, of_constant, term_form, kind_as_lem, judged_err, number_as, whole, unsized_not, integer_is, integer_not, integral_type}
 use Rattle.holding.specs.Holding.{Judges}
 use Rattle.fitting.specs.Fitting.{bits_by, low_by, fits_by, is_unsized, number_of, Warns, Cuts, Widens, Narrows, Unsized, Kept, Plain, Fits}
@@ -66,10 +65,10 @@ module _ (s : List ℕ) (wanted t : ℕ) (v : Term) (small : v.lo < word_limit) 
   low_is : (ty : IntType) → wanted ≡ int_kind ty → low ≡ low_bits ty (number_of v)
   low_is ty e = l ∙ ap (λ (n : ℕ). low_by n v.lo) e ∙ sym (low_as ty v.hi v.lo small)
 
-  cut_out : (ty : IntType) → wanted ≡ int_kind ty → Val w ≡ judged_as s (val (atom v.at (constant (is_sized ty (low_bits ty (number_of v))))))
-  cut_out ty e = ap Val (k ∙ rw (e, low_is ty e))
+  cut_out : (ty : IntType) → wanted ≡ int_kind ty → Ok w ≡ judged_as s (val (atom v.at (constant (is_sized ty (low_bits ty (number_of v))))))
+  cut_out ty e = ap Ok (k ∙ rw (e, low_is ty e))
 
-  pub cut_same : {c : Counts} {x : List ℕ} {r : Judgement} → eqb v.hi 0 && eqb low v.lo ≡ true → r.out ≡ Val w → r.counts ≡ c → Cuts s wanted t v c x r x
+  pub cut_same : {c : Counts} {x : List ℕ} {r : Judgement} → eqb v.hi 0 && eqb low v.lo ≡ true → r.out ≡ Ok w → r.counts ≡ c → Cuts s wanted t v c x r x
   cut_same h o e =
       record {
         is = λ n ty m q.
@@ -78,7 +77,7 @@ module _ (s : List ℕ) (wanted t : ℕ) (v : Term) (small : v.lo < word_limit) 
       }
 
   pub cut_more : {c c' : Counts} {x y : List ℕ} {r : Judgement} → eqb v.hi 0 && eqb low v.lo ≡ false
-      → Warns s t (Truncated (record { hi = v.hi; lo = v.lo }) (record { kind = wanted; entry = 0 })) c x c' y → r.out ≡ Val w → r.counts ≡ c'
+      → Warns s t (Truncated (record { hi = v.hi; lo = v.lo }) (record { kind = wanted; entry = 0 })) c x c' y → r.out ≡ Ok w → r.counts ≡ c'
       → Cuts s wanted t v c x r y
   cut_more h g o e =
       record {
@@ -96,23 +95,23 @@ module _ (s : List ℕ) (wanted t : ℕ) {v : Term} {ty : «Type»} (p : TypeSho
   found_bits : (e : terms.Term) → v ≡ term_as e → b ≡ values.bits_of (term_type e)
   found_bits e q = f ∙ ap (λ (y : «Type»). bits_by y.kind) (p.is e q) ∙ bits_as (term_type e)
 
-  pub widen_same : {c : Counts} {x : List ℕ} {r : Judgement} → b ≤ a → r.out ≡ Val v → r.counts ≡ c → Widens s wanted t v c x r x
+  pub widen_same : {c : Counts} {x : List ℕ} {r : Judgement} → b ≤ a → r.out ≡ Ok v → r.counts ≡ c → Widens s wanted t v c x r x
   widen_same h o i =
       record {
         is = λ n u e m z q.
             let l : values.bits_of (term_type e) ≤ values.bits_of (ty_int u) = rw (← wanted_bits u z, ← found_bits e q) h in
             let none-wide : judgements.widened n t u (term_type e) ≡ [] = rw (le-ltb _ _ l) in
-            quiet s _ (o ∙ ap Val q) i none-wide refl;
+            quiet s _ (o ∙ ap Ok q) i none-wide refl;
       }
 
-  pub widen_more : {c c' : Counts} {x y : List ℕ} {r : Judgement} → a < b → Warns s t (Overflow ty wanted) c x c' y → r.out ≡ Val v → r.counts ≡ c'
+  pub widen_more : {c c' : Counts} {x y : List ℕ} {r : Judgement} → a < b → Warns s t (Overflow ty wanted) c x c' y → r.out ≡ Ok v → r.counts ≡ c'
       → Widens s wanted t v c x r y
   widen_more h g o i =
       record {
         is = λ n u e m z q.
             let l : values.bits_of (ty_int u) < values.bits_of (term_type e) = rw (← wanted_bits u z, ← found_bits e q) h in
             let one-wide : judgements.widened n t u (term_type e) ≡ diag n t (overflow (term_type e) (ty_int u)) ∷ [] = rw (lt-ltb _ _ l) in
-            record { out = o ∙ ap Val q; adds = rw (i, one-wide) (g.is n (overflow (term_type e) (ty_int u)) m (rw (p.is e q, z))) };
+            record { out = o ∙ ap Ok q; adds = rw (i, one-wide) (g.is n (overflow (term_type e) (ty_int u)) m (rw (p.is e q, z))) };
       }
 
 -- ---- to an integer type
@@ -210,28 +209,28 @@ number_as_lem p i q = ap (λ (w : Term). number_of w) q ∙ whole i
 
 -- the bool of a number
 bool_as : (s : List ℕ) (n t p i : ℕ) (b : Bool) (j : judgements.Judgement terms.Term) → eqb i 0 ≡ b
-    → Val (record { at = p; form = 1; kind = 2; lo = bit (not b); hi = 0 }) ≡ judged_as s (fit n ty_bool t j (atom p (constant (is_integer i)))).out
+    → Ok (record { at = p; form = 1; kind = 2; lo = bit (not b); hi = 0 }) ≡ judged_as s (fit n ty_bool t j (atom p (constant (is_integer i)))).out
 unfolding fit
 bool_as s n t p i b j e = rw e
 
 module _ (s : List ℕ) (t : ℕ) {v : Term} {w : Term} where
-  bool_by : (b : Bool) → ((i : ℕ) → number_of v ≡ i → eqb i 0 ≡ b) → w ≡ record { at = v.at; form = 1; kind = 2; lo = bit (not b); hi = 0 } → Unsized s 2 t v (Val w)
+  bool_by : (b : Bool) → ((i : ℕ) → number_of v ≡ i → eqb i 0 ≡ b) → w ≡ record { at = v.at; form = 1; kind = 2; lo = bit (not b); hi = 0 } → Unsized s 2 t v (Ok w)
   bool_by b f k =
       record {
         is = λ n ty e o z q h.
             rw (is_bool_lem ty z)
-            (of_unsized (λ e. Val w ≡ judged_as s (fit n ty_bool t (judgement o []) e).out) h (λ p i q'.
-            ap Val (k ∙ ap (λ (y : Term). record { at = y.at; form = 1; kind = 2; lo = bit (not b); hi = 0 }) q') ∙ bool_as s n t p i b (judgement o []) (f i (number_as_lem p i q'))) e q);
+            (of_unsized (λ e. Ok w ≡ judged_as s (fit n ty_bool t (judgement o []) e).out) h (λ p i q'.
+            ap Ok (k ∙ ap (λ (y : Term). record { at = y.at; form = 1; kind = 2; lo = bit (not b); hi = 0 }) q') ∙ bool_as s n t p i b (judgement o []) (f i (number_as_lem p i q'))) e q);
       }
 
-  pub bool_false : eqb v.hi 0 && eqb v.lo 0 ≡ true → w ≡ record { at = v.at; form = 1; kind = 2; lo = 0; hi = 0 } → Unsized s 2 t v (Val w)
+  pub bool_false : eqb v.hi 0 && eqb v.lo 0 ≡ true → w ≡ record { at = v.at; form = 1; kind = 2; lo = 0; hi = 0 } → Unsized s 2 t v (Ok w)
   bool_false h k =
       let b = both (eqb v.hi 0) (eqb v.lo 0) h in
       let hi = eqb-true v.hi 0 b.0 in
       let lo = eqb-true v.lo 0 b.1 in
       bool_by true (λ i e. eq-eqb i 0 (omega arith)) k
 
-  pub bool_true : eqb v.hi 0 && eqb v.lo 0 ≡ false → w ≡ record { at = v.at; form = 1; kind = 2; lo = 1; hi = 0 } → Unsized s 2 t v (Val w)
+  pub bool_true : eqb v.hi 0 && eqb v.lo 0 ≡ false → w ≡ record { at = v.at; form = 1; kind = 2; lo = 1; hi = 0 } → Unsized s 2 t v (Ok w)
   bool_true h k = bool_by false (λ i e. ne_eqb i 0 (λ z. other i e z)) k
     where
       other : (i : ℕ) → number_of v ≡ i → i ≡ 0 → ⊥
@@ -249,7 +248,7 @@ bytes_are : (n t : ℕ) (j : judgements.Judgement terms.Term) (p i : ℕ) → as
 unfolding fit
 bytes_are n t j p i = refl
 
-module _ (s : List ℕ) (t : ℕ) {v : Term} {z : Narrowed} (p : Narrow v z) {r : Judged} where
+module _ (s : List ℕ) (t : ℕ) {v : Term} {z : prelude.Option Term} (p : Narrow v z) {r : Judged} where
   bytes_by_lem : ((o : Option terms.Term) → z ≡ narrowed_as o → r ≡ judged_as s (bytes_by t o).out) → Unsized s 9 t v r
   bytes_by_lem f =
       record {
@@ -260,14 +259,14 @@ module _ (s : List ℕ) (t : ℕ) {v : Term} {z : Narrowed} (p : Narrow v z) {r 
             ∙ ap (λ (y : judgements.Judgement terms.Term). judged_as s y.out) (bytes_are n t (judgement o []) a i)) e q (p.is e q));
       }
 
-  pub bytes_fit : {w : Term} → z ≡ narrow.Fits w → r ≡ Val w → Unsized s 9 t v r
+  pub bytes_fit : {w : Term} → z ≡ Some w → r ≡ Ok w → Unsized s 9 t v r
   bytes_fit {w} e k = bytes_by_lem by
     where
       by : (o : Option terms.Term) → z ≡ narrowed_as o → r ≡ judged_as s (bytes_by t o).out
-      by (some d) g = let q : w ≡ term_as d = cc in k ∙ ap Val q
+      by (some d) g = let q : w ≡ term_as d = cc in k ∙ ap Ok q
       by none g = never (cc)
 
-  pub bytes_large : {tok : Token} → tok ≡ token_as (token_of s t) → z ≡ narrow.TooLarge → r ≡ Err (at_token tok IntegralTooLarge) → Unsized s 9 t v r
+  pub bytes_large : {tok : Token} → tok ≡ token_as (token_of s t) → z ≡ None → r ≡ Err (Found (at_token tok IntegralTooLarge)) → Unsized s 9 t v r
   bytes_large g e k = bytes_by_lem by
     where
       by : (o : Option terms.Term) → z ≡ narrowed_as o → r ≡ judged_as s (bytes_by t o).out
@@ -280,8 +279,8 @@ module _ (s : List ℕ) (wanted : ℕ) {v : Term} (otherwise : Judged) {ty : «T
   fits_is : (t : Ty) (e : terms.Term) → wanted ≡ ty_kind t → v ≡ term_as e → b ≡ values.fits t (term_type e)
   fits_is t e k q = f ∙ rw (k, p.is e q) (fits_as t (term_type e))
 
-  pub kept_fits : b ≡ true → Kept s wanted v otherwise (Val v)
-  kept_fits h = record { is = λ t e o k q i. ap Val q ∙ rw (sym (fits_is t e k q) ∙ h) }
+  pub kept_fits : b ≡ true → Kept s wanted v otherwise (Ok v)
+  kept_fits h = record { is = λ t e o k q i. ap Ok q ∙ rw (sym (fits_is t e k q) ∙ h) }
 
   pub kept_not : b ≡ false → Kept s wanted v otherwise otherwise
   kept_not h = record { is = λ t e o k q i. i ∙ rw (sym (fits_is t e k q) ∙ h) }

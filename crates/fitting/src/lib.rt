@@ -8,7 +8,7 @@ ghost use Rattle.fitting.specs.Fitting.{bits_by, low_by, fits_by, is_unsized, Wa
 
 use findings::{Counts, Diagnostic, What};
 use rows::{Ty, Type};
-use values::{Judged, Judgement, Narrowed, Term};
+use values::{Judged, Judgement, Term};
 use wide::Wide;
 
 // ---- the numbers of types
@@ -76,7 +76,7 @@ fn cut(toks: &[u64], diags: &mut [u64], wanted: u64, t: u64, v: Term, counts: Co
     ensures warnings_bound { result.counts.errors + result.counts.warnings ≤ counts.errors + counts.warnings + 1 }
 {
     let low = low_bits(wanted, v.lo);
-    let out = Judged::Val(values::constant(v.at, wanted, low, 0));
+    let out = Ok(values::constant(v.at, wanted, low, 0));
     if (v.hi == 0) & (low == v.lo) {
         return Judgement { out, counts };
     }
@@ -105,7 +105,7 @@ fn widened(
     ensures warnings_bound { result.counts.errors + result.counts.warnings ≤ counts.errors + counts.warnings + 1 }
 {
     let ty = values::type_of(v);
-    let out = Judged::Val(v);
+    let out = Ok(v);
     if bits(wanted) < bits(ty.kind) {
         return Judgement {
             out,
@@ -155,9 +155,9 @@ fn as_bool(v: Term) -> Judged
     ensures { (s : List ℕ) (t : ℕ) → Unsized s 2 t v result }
 {
     if (v.hi == 0) & (v.lo == 0) {
-        return Judged::Val(values::constant(v.at, Ty::BOOL, 0, 0));
+        return Ok(values::constant(v.at, Ty::BOOL, 0, 0));
     }
-    Judged::Val(values::constant(v.at, Ty::BOOL, 1, 0))
+    Ok(values::constant(v.at, Ty::BOOL, 1, 0))
 }
 
 // One that stands for bytes, at the token t: it takes its smallest type.
@@ -166,8 +166,8 @@ fn as_bytes(toks: &[u64], t: u64, v: Term) -> Judged
     ensures { (s : List ℕ) → TokenTable s toks.now → Unsized s 9 t v result }
 {
     match values::narrow(v) {
-        Narrowed::Fits(w) => Judged::Val(w),
-        Narrowed::TooLarge => values::error(rows::token_at(toks, t), What::IntegralTooLarge),
+        Some(w) => Ok(w),
+        None => values::error(rows::token_at(toks, t), What::IntegralTooLarge),
     }
 }
 
@@ -177,7 +177,7 @@ fn as_it_is(wanted: u64, v: Term, otherwise: Judged) -> Judged
 {
     let ty = values::type_of(v);
     if fits(wanted, ty.kind) {
-        return Judged::Val(v);
+        return Ok(v);
     }
     otherwise
 }

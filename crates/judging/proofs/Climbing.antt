@@ -20,7 +20,7 @@ use Rattle.findings.specs.declared.Counts.{Counts}
 use Rattle.findings.specs.Findings.{Adds}
 use Rattle.findings.proofs.Adds.{adds_count, adds_compared, adds_used, adds_imported, adds_slots}
 use Rattle.values.specs.declared.Term.{Term}
-use Rattle.values.specs.declared.Judged.TheVariants.{Val}
+use Rattle.std.specs.Prelude.{Ok}
 use Rattle.holding.specs.declared.Step.{Step}
 use Rattle.holding.specs.Holding.{Agrees}
 use Rattle.judging.specs.Judging.{binding_at, bound_in, known_in, Knows, Ready, RepAt, left_of, rest, Down, top, deeper, Descends, Left, LookFits, Fits, StepFits, ClimbFits}
@@ -156,7 +156,7 @@ module _ (s : List ℕ) (n : ℕ) (k : Known) where
 
   module _ {ws rows : List ℕ} {i at depth : ℕ} {e : Expr} {out : Step} {x y u w : List ℕ} {c : Counts} (rep : RepAt ws i e) where
     -- no value: it is what the whole comes to
-    pub climb_ends : Climbs s n k ws rows i e depth at out x y u w c → ((v : Term) → out.out ≡ Val v → ⊥) → {t : List ℕ} → Agrees s out x y u t c at (judged e)
+    pub climb_ends : Climbs s n k ws rows i e depth at out x y u w c → ((v : Term) → out.out ≡ Ok v → ⊥) → {t : List ℕ} → Agrees s out x y u t c at (judged e)
     climb_ends p h =
         let g = down_ended rep (contents (tokens.tokens s)) n k p.down (went_no (judged p.tree) p.agrees h) in
         record {
@@ -176,13 +176,13 @@ module _ (s : List ℕ) (n : ℕ) (k : Known) where
           subst (λ (m : ℕ). Agrees s out x y u w c m (judged (left_of up.above))) z
           (subst (λ (t : Expr). Agrees s out x y u w c (at + depth) (judged t)) up.is p.agrees)
 
-      pub climb_fits : length k.bindings ≤ most_names → (f : Fits ws i at c) → f.tree ≡ e → {v : Term} → out.out ≡ Val v → StepFits ws (get_or rows d 0) (at + d) out.next out.counts
+      pub climb_fits : length k.bindings ≤ most_names → (f : Fits ws i at c) → f.tree ≡ e → {v : Term} → out.out ≡ Ok v → StepFits ws (get_or rows d 0) (at + d) out.next out.counts
       unfolding fits_down
       climb_fits few f g o =
           let dn : Down ws rows i f.tree d (get_or rows d 0) up.above = rw g up.down in
           fits_step few (fits_down f dn) up.inner left_agrees (left_of_lem (judged (left_of up.above)) left_agrees o).1
 
-      pub climbed : {v : Term} → out.out ≡ Val v → {r : Step} {z t : List ℕ}
+      pub climbed : {v : Term} → out.out ≡ Ok v → {r : Step} {z t : List ℕ}
           → ((b : terms.Term) → Left s u w (at + d + 1) b v out.next → Agrees s r y z u t out.counts (at + d) (rest (contents (tokens.tokens s)) n k up.above b))
           → Climbs s n k ws rows i e d at r x z u t c
       climbed o g =

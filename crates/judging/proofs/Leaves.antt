@@ -24,7 +24,7 @@ use Rattle.findings.specs.declared.Counts.{Counts}
 use Rattle.findings.specs.Findings.{plus_search}
 use Rattle.findings.proofs.Adds.{adds_none, adds_look}
 use Rattle.values.specs.declared.Term.{Term}
-use Rattle.values.specs.declared.Judged.TheVariants.{Val}
+use Rattle.std.specs.Prelude.{Ok}
 use Rattle.values.specs.declared.Judgement.{Judgement}
 use Rattle.values.specs.Values.{constant_as, sock4_as, judged_as}
 use Rattle.holding.specs.Holding.{Judges}
@@ -61,16 +61,16 @@ no_leaf (is_slash f k z m o u v) l h = omega arith
 no_leaf (is_call f k z m r a) l h = omega arith
 
 module _ (s : List ℕ) {ws : List ℕ} {i : ℕ} {e : Expr} (n : ℕ) (k : Known) (rep : RepAt ws i e) {t : ℕ} (at : t ≡ node_word ws i 1) {r : Judgement} {c : Counts} {x : List ℕ} where
-  pub leaf_literal : node_word ws i 0 ≡ 2 → {v : Term} → v ≡ constant_as t (literal_at (contents (tokens.tokens s)) t) → r.out ≡ Val v → r.counts ≡ c
+  pub leaf_literal : node_word ws i 0 ≡ 2 → {v : Term} → v ≡ constant_as t (literal_at (contents (tokens.tokens s)) t) → r.out ≡ Ok v → r.counts ≡ c
       → Judges s r x x c (judge (contents (tokens.tokens s)) n k e)
   unfolding judge
-  leaf_literal q h o m = elim (row_of rep q) [ a_literal w ↦ rw (w, ← at) (give (val (atom t (constant (literal_at (contents (tokens.tokens s)) t)))) (o ∙ ap Val h) m) ]
+  leaf_literal q h o m = elim (row_of rep q) [ a_literal w ↦ rw (w, ← at) (give (val (atom t (constant (literal_at (contents (tokens.tokens s)) t)))) (o ∙ ap Ok h) m) ]
 
-  pub leaf_sock4 : node_word ws i 0 ≡ 3 → {v : Term} → v ≡ sock4_as t (token_of s t) (token_of s (t + 2)) → r.out ≡ Val v → r.counts ≡ c
+  pub leaf_sock4 : node_word ws i 0 ≡ 3 → {v : Term} → v ≡ sock4_as t (token_of s t) (token_of s (t + 2)) → r.out ≡ Ok v → r.counts ≡ c
       → Judges s r x x c (judge (contents (tokens.tokens s)) n k e)
   unfolding judge
   leaf_sock4 q h o m =
-      elim (row_of rep q) [ a_sock4 w ↦ rw (w, ← at) (give (val (atom t (constant (is_sock4 (tables.content_low (judgements.content (contents (tokens.tokens s)) t)) (tables.content_low (judgements.content (contents (tokens.tokens s)) (t + 2))))))) (o ∙ ap Val (h ∙ rw (content_of_lem s t, content_of_lem s (t + 2)))) m) ]
+      elim (row_of rep q) [ a_sock4 w ↦ rw (w, ← at) (give (val (atom t (constant (is_sock4 (tables.content_low (judgements.content (contents (tokens.tokens s)) t)) (tables.content_low (judgements.content (contents (tokens.tokens s)) (t + 2))))))) (o ∙ ap Ok (h ∙ rw (content_of_lem s t, content_of_lem s (t + 2)))) m) ]
 
   module _ {toks bindings imports : List ℕ} (kn : Knows s bindings imports c k) (ready : Ready s toks bindings imports c) where
     pub leaf_local : {tok : Token} → node_word ws i 0 ≡ 4 → tok ≡ token_as (token_of s t) → LocalIs s bindings c tok t r

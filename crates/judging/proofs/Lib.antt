@@ -6,5 +6,4 @@ pub mod Passing
 pub mod Names
 pub mod Leaves
 pub mod Calls
-pub mod Tags
 pub mod Ways

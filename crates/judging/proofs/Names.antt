@@ -10,8 +10,7 @@ use Rattle.names.specs.Names.{name_word, listed, names_in, place, looked}
 use Rattle.names.proofs.Names.{First, found_from, same_place}
 use Rattle.findings.specs.declared.Counts.{Counts}
 use Rattle.findings.specs.Findings.{plus_search}
-use Rattle.values.specs.declared.Judged.{Judged}
-use Rattle.values.specs.Values.{held_as, judged_as}
+use Rattle.values.specs.Values.{Judged, held_as, judged_as}
 use Rattle.values.proofs.Values.{held_canon}
 use Rattle.judging.specs.Judging.{binding_at, bound_in, import_at, imports_in, Sound}
 

@@ -23,8 +23,8 @@ use Rattle.findings.specs.declared.Counts.{Counts}
 use Rattle.findings.specs.Findings.{Adds}
 use Rattle.findings.proofs.Adds.{adds_none, adds_then, adds_count, adds_compared}
 use Rattle.values.specs.declared.Term.{Term}
-use Rattle.values.specs.declared.Judged as code
-use Rattle.values.specs.declared.Judged.TheVariants.{Val}
+use Rattle.values.specs.Values as code
+use Rattle.std.specs.Prelude.{Ok}
 use Rattle.values.specs.Values.{term_as, judged_as, Used}
 use Rattle.holding.specs.declared.Step.{Step}
 use Rattle.holding.specs.Holding.{most_rows, put_held, Agrees}
@@ -187,15 +187,15 @@ module _ {s : List ℕ} {n : ℕ} {k : Known} {ws : List ℕ} {i start : ℕ} {c
           (fails_all n k (passed (pass w.done p.arg) p.others) out q (alike_then h.alike e.out)
           (rw g (after_args (e.warns ∙ h.warns) (e.looks ∙ h.looks))))
 
-      pub walk_fails : ((b : Term) → J.out ≡ Val b → ⊥) → {v : List ℕ} {at f : ℕ} → Calls s n k (passed none_given ps) at f start c₀ x₀ u₀ J y v
+      pub walk_fails : ((b : Term) → J.out ≡ Ok b → ⊥) → {v : List ℕ} {at f : ℕ} → Calls s n k (passed none_given ps) at f start c₀ x₀ u₀ J y v
       walk_fails h =
           failing (args_fail ts n k w.done p.arg w.judged (went_no (judge ts n k (value_of p.arg)) a h)) a.out refl
 
-      module _ {b : Term} (o : J.out ≡ Val b) {m : code.Judged} (h : Used s b m) where
+      module _ {b : Term} (o : J.out ≡ Ok b) {m : code.Judged} (h : Used s b m) where
         abbrev came : (e : terms.Term) × ((judge ts n k (value_of p.arg)).out ≡ val e) × Left s u t row e b J.next
         came = left_of_lem (judge ts n k (value_of p.arg)) a o
 
-        pub walk_void : ((d : Term) → m ≡ Val d → ⊥) → {R : Step} {v : List ℕ} {at f : ℕ} → R.out ≡ m → R.counts ≡ J.counts
+        pub walk_void : ((d : Term) → m ≡ Ok d → ⊥) → {R : Step} {v : List ℕ} {at f : ℕ} → R.out ≡ m → R.counts ≡ J.counts
             → Calls s n k (passed none_given ps) at f start c₀ x₀ u₀ R y v
         walk_void z q g =
             let e = came.0 in
@@ -203,7 +203,7 @@ module _ {s : List ℕ} {n : ℕ} {k : Known} {ws : List ℕ} {i start : ℕ} {c
             let no : NoVal (used e).out = λ d i. z (term_as d) (h.is e l.value ∙ ap (judged_as s) i) in
             failing (args_void ts n k w.done p.arg w.judged e came.1 no (used_quiet e).0 (used_quiet e).1) (q ∙ h.is e l.value) g
 
-        pub walk_on : {d : Term} → m ≡ Val d → {first : ℕ} → first ≡ first_of (value_of p.arg) → {kept' : Kept}
+        pub walk_on : {d : Term} → m ≡ Ok d → {first : ℕ} → first ≡ first_of (value_of p.arg) → {kept' : Kept}
             → ((gs : List Arg) (z : Arg) → Keeps start gs kept → record { term = d; row = row; first = first } ≡ given_as z (end start gs) → Keeps start (gs ++ z ∷ []) kept')
             → {next' : ℕ} → next' ≡ node_word ws j 3 → Walk s n k ws i start c₀ x₀ u₀ ps kept' J.next J.counts next' y t
         walk_on {d} q {first} fi {kept'} keep {next'} nx =
@@ -267,7 +267,7 @@ module _ {ws : List ℕ} {i next row j : ℕ} {c : Counts} (f : ArgsFit ws i nex
   row_near = omega (arith, f.rows, size_is, some_node (value_of p.arg))
 
   pub fits_on : (s : List ℕ) (n : ℕ) (k : Known) → length k.bindings ≤ most_names → {J : Step} {x y u t : List ℕ}
-      → Agrees s J x y u t c row (judge (contents (tokens.tokens s)) n k (value_of p.arg)) → {v : Term} → J.out ≡ Val v → {next' : ℕ} → next' ≡ node_word ws j 3
+      → Agrees s J x y u t c row (judge (contents (tokens.tokens s)) n k (value_of p.arg)) → {v : Term} → J.out ≡ Ok v → {next' : ℕ} → next' ≡ node_word ws j 3
       → ArgsFit ws i next' J.next J.counts
   fits_on s n k few {J} a {v} o {next'} q =
       let l = left_of_lem (judge (contents (tokens.tokens s)) n k (value_of p.arg)) a o in

@@ -32,8 +32,9 @@ use Rattle.findings.specs.Findings.{at_token}
 use Rattle.findings.proofs.Adds.{adds_none, adds_then}
 use Rattle.findings.proofs.Rows.{no_rows}
 use Rattle.values.specs.declared.Term.{Term}
-use Rattle.values.specs.declared.Judged as code
-use Rattle.values.specs.declared.Judged.TheVariants.{Val, Err}
+use Rattle.values.specs.Values as code
+use Rattle.std.specs.Prelude.{Ok, Err}
+use Rattle.values.specs.declared.Halt.TheVariants.{Found}
 use Rattle.values.specs.declared.Judgement as judged
 use Rattle.values.specs.Values.{term_as, judged_as, TypeShown, Used}
 use Rattle.values.proofs.Values.{TermOf, of_constant, term_form, place_as, ip4_is, judged_err}
@@ -130,7 +131,7 @@ module _ {s : List ℕ} where
       rw (went j f q) (record { out = g.out; adds = adds_then l.adds g.adds; next = g.next; rows = g.rows })
 
   pub judged_ends : {J : judged.Judgement} {x y : List ℕ} {c : Counts} (j : Judgement terms.Term) (f : terms.Term → Judgement terms.Term) → Judges s J x y c j
-      → ((w : Term) → J.out ≡ Val w → ⊥) → {R : Step} → R.out ≡ J.out → R.counts ≡ J.counts → {m w : List ℕ} {b : ℕ} → Agrees s R x y m w c b (and_then j f)
+      → ((w : Term) → J.out ≡ Ok w → ⊥) → {R : Step} → R.out ≡ J.out → R.counts ≡ J.counts → {m w : List ℕ} {b : ℕ} → Agrees s R x y m w c b (and_then j f)
   judged_ends j f l h q p =
       let g = ended j f (no_val s j.out l.out h) in
       record {
@@ -146,11 +147,11 @@ module _ {s : List ℕ} where
     narrowing n b num q = na.is n u16 b (err (term_at b) (operand_type right (ty_int u16) (term_type b))) num refl q (op.is b right (ty_int u16) q refl refl)
 
   module _ {place p at next end : ℕ} {v w : Term} {c : Counts} {x t : List ℕ} {o : code.Judged} (h : Used s w o) where
-    pub divide_void : ((d : Term) → o ≡ Val d → ⊥) → {r : Step} {z : List ℕ} → r.out ≡ o → r.counts ≡ c → Divides s place p at next v w end c x t r x z
+    pub divide_void : ((d : Term) → o ≡ Ok d → ⊥) → {r : Step} {z : List ℕ} → r.out ≡ o → r.counts ≡ c → Divides s place p at next v w end c x t r x z
     divide_void n q g = record { is = λ m a b u k num i l l'. void_ends _ b h l'.value n q g }
 
-    module _ {d : Term} (e : o ≡ Val d) {other : code.Judged} (op : OperandIs s d RightSide 4 other) {nr : judged.Judgement} {y : List ℕ} (na : Narrows s 4 p d other c x nr y) where
-      pub divide_ends : ((q : Term) → nr.out ≡ Val q → ⊥) → {r : Step} {z : List ℕ} → r.out ≡ nr.out → r.counts ≡ nr.counts → Divides s place p at next v w end c x t r y z
+    module _ {d : Term} (e : o ≡ Ok d) {other : code.Judged} (op : OperandIs s d RightSide 4 other) {nr : judged.Judgement} {y : List ℕ} (na : Narrows s 4 p d other c x nr y) where
+      pub divide_ends : ((q : Term) → nr.out ≡ Ok q → ⊥) → {r : Step} {z : List ℕ} → r.out ≡ nr.out → r.counts ≡ nr.counts → Divides s place p at next v w end c x t r y z
       divide_ends n q g =
           record {
             is = λ m a b u k num i l l'.
@@ -158,7 +159,7 @@ module _ {s : List ℕ} where
                 by (over_is m place p a b z.0) (judged_ends (right_operand m p b) (λ port. fine (joined place a port)) (narrowing p op na m b num z.1) n q g);
           }
 
-      pub divide_goes : {port : Term} → nr.out ≡ Val port → {r : Step} {z : List ℕ} → Joins s place at next v port end nr.counts t r z → Divides s place p at next v w end c x t r y z
+      pub divide_goes : {port : Term} → nr.out ≡ Ok port → {r : Step} {z : List ℕ} → Joins s place at next v port end nr.counts t r z → Divides s place p at next v w end c x t r y z
       divide_goes {port} q j =
           record {
             is = λ m a b u k num i l l'.
@@ -181,7 +182,7 @@ one_value q = cc
 
 module _ {s : List ℕ} {place at next end : ℕ} {v w : Term} {c : Counts} {t : List ℕ} where
   pub spread_is : {r : Step} {y z : List ℕ} → Puts s (at + 1) v.at 8 0 v t y → Puts s next w.at 9 0 w y z
-      → r.out ≡ Val (record { at = place; form = 4; kind = 8; lo = 0; hi = 0 }) → r.counts ≡ c → r.next ≡ end → Spreads s place at next v w end c t r z
+      → r.out ≡ Ok (record { at = place; form = 4; kind = 8; lo = 0; hi = 0 }) → r.counts ≡ c → r.next ≡ end → Spreads s place at next v w end c t r z
   unfolding parts
   spread_is {r = r} {y} {z} f g o p q =
       record {
@@ -237,7 +238,7 @@ module _ {s : List ℕ} {place at next end : ℕ} {v w : Term} {c : Counts} {t :
   pub right_stays : {r : Step} {z : List ℕ} → (w.form ≡ 1 → ⊥) → Spreads s place at next v w end c t r z → Joins s place at next v w end c t r z
   right_stays h g = record { is = λ a b u m x i p l l'. by (ap fine (right_not place a b l'.value h)) (g.is a b u m x l l') }
 
-  pub both_fold : {r : Step} {n : Term} → v.form ≡ 1 → w.form ≡ 1 → n ≡ record { at = place; form = 1; kind = 8; lo = v.lo; hi = w.lo } → r.out ≡ Val n → r.counts ≡ c
+  pub both_fold : {r : Step} {n : Term} → v.form ≡ 1 → w.form ≡ 1 → n ≡ record { at = place; form = 1; kind = 8; lo = v.lo; hi = w.lo } → r.out ≡ Ok n → r.counts ≡ c
       → r.next ≡ at + 1 → Joins s place at next v w end c t r t
   unfolding parts
   both_fold {r = r} vf wf e o p q =
@@ -246,7 +247,7 @@ module _ {s : List ℕ} {place at next end : ℕ} {v w : Term} {c : Counts} {t :
             let z = folds place (term_form a l.value vf) (term_form b l'.value wf) i port l.value l'.value in
             let same : t ≡ u = l'.table ∙ rw z.2 (sym (no_rows _ m (next + 1))) ∙ l.table ∙ rw z.1 (sym (no_rows _ u (at + 1 + 1))) in
             by (ap fine z.0) (record {
-              out = o ∙ ap Val e;
+              out = o ∙ ap Ok e;
               adds = rw p (adds_none s c x);
               next = λ d k. subst (λ (j : terms.Term). r.next ≡ at + 1 + length (parts j)) (one_value k) (omega (arith, q));
               rows = λ d k. subst (λ (j : terms.Term). t ≡ put_held s u (at + 1) (parts j)) (one_value k) (same ∙ no_rows _ u (at + 1));
@@ -256,7 +257,7 @@ module _ {s : List ℕ} {place at next end : ℕ} {v w : Term} {c : Counts} {t :
 -- ---- an operand of another type
 
 pub operand_is : {s : List ℕ} {v : Term} {side : Side} {wanted : ℕ} {tok : Token} {ty : «Type»} {r : code.Judged} → tok ≡ token_as (token_of s v.at) → TypeShown v ty
-    → r ≡ Err (at_token tok (OperandType side wanted ty)) → OperandIs s v side wanted r
+    → r ≡ Err (Found (at_token tok (OperandType side wanted ty))) → OperandIs s v side wanted r
 operand_is {s} {v} p h q =
     record {
       is = λ e d t g i j.

@@ -18,8 +18,8 @@ use Rattle.findings.specs.declared.Counts.{Counts}
 use Rattle.findings.proofs.Adds.{adds_none, adds_then}
 use Rattle.findings.proofs.Rows.{no_rows}
 use Rattle.values.specs.declared.Term.{Term}
-use Rattle.values.specs.declared.Judged as code
-use Rattle.values.specs.declared.Judged.TheVariants.{Val}
+use Rattle.values.specs.Values as code
+use Rattle.std.specs.Prelude.{Ok}
 use Rattle.values.specs.declared.Judgement as judged
 use Rattle.values.specs.Values.{term_as, judged_as, Used}
 use Rattle.holding.specs.declared.Step.{Step}
@@ -108,13 +108,13 @@ rest_used ts n k (call e t g) v h = rw h (fine_then v _)
 -- ---- the code's answers
 
 module _ (s : List ℕ) where
-  pub as_val : (o : Judged terms.Term) {w : Term} → judged_as s o ≡ Val w → (e : terms.Term) × (o ≡ val e) × (w ≡ term_as e)
+  pub as_val : (o : Judged terms.Term) {w : Term} → judged_as s o ≡ Ok w → (e : terms.Term) × (o ≡ val e) × (w ≡ term_as e)
   as_val (val e) q = (e, refl, cc)
   as_val (err at w) q = never (cc)
   as_val poisoned q = never (cc)
   as_val (stopped t) q = never (cc)
 
-  pub no_val : (o : Judged terms.Term) {r : code.Judged} → r ≡ judged_as s o → ((w : Term) → r ≡ Val w → ⊥) → NoVal o
+  pub no_val : (o : Judged terms.Term) {r : code.Judged} → r ≡ judged_as s o → ((w : Term) → r ≡ Ok w → ⊥) → NoVal o
   no_val o q h e z = h (term_as e) (q ∙ ap (judged_as s) z)
 
 module _ {s : List ℕ} where
@@ -145,12 +145,12 @@ module _ {s : List ℕ} where
       by (r ∷ rs) z = absurd (omega arith)
 
   module _ {L : Step} {x y u t : List ℕ} {c : Counts} {at : ℕ} (j : Judgement terms.Term) (l : Agrees s L x y u t c at j) where
-    pub left_of_lem : {v : Term} → L.out ≡ Val v → (e : terms.Term) × (j.out ≡ val e) × Left s u t at e v L.next
+    pub left_of_lem : {v : Term} → L.out ≡ Ok v → (e : terms.Term) × (j.out ≡ val e) × Left s u t at e v L.next
     left_of_lem q =
         let z = as_val s j.out (sym l.out ∙ q) in
         (z.0, z.1, record { value = z.2; free = l.next z.0 z.1; table = l.rows z.0 z.1 })
 
-    pub went_no : ((w : Term) → L.out ≡ Val w → ⊥) → NoVal j.out
+    pub went_no : ((w : Term) → L.out ≡ Ok w → ⊥) → NoVal j.out
     went_no h = no_val s j.out l.out h
 
     module _ (f : terms.Term → Judgement terms.Term) {b : ℕ} where
@@ -166,7 +166,7 @@ module _ {s : List ℕ} where
           })
 
       -- anything else stays as it is
-      pub stays : ((w : Term) → L.out ≡ Val w → ⊥) → {m w : List ℕ} → Agrees s L x y m w c b (and_then j f)
+      pub stays : ((w : Term) → L.out ≡ Ok w → ⊥) → {m w : List ℕ} → Agrees s L x y m w c b (and_then j f)
       stays h =
           let g = ended j f (went_no h) in
           record {
@@ -181,7 +181,7 @@ module _ {s : List ℕ} where
 
   -- a void value ends it
   pub void_ends : {v : Term} {o : code.Judged} {r : Step} {x m w : List ℕ} {c : Counts} {b : ℕ} (f : terms.Term → Judgement terms.Term) (e : terms.Term)
-      → Used s v o → v ≡ term_as e → ((w : Term) → o ≡ Val w → ⊥) → r.out ≡ o → r.counts ≡ c → Agrees s r x x m w c b (and_then (used e) f)
+      → Used s v o → v ≡ term_as e → ((w : Term) → o ≡ Ok w → ⊥) → r.out ≡ o → r.counts ≡ c → Agrees s r x x m w c b (and_then (used e) f)
   unfolding used
   void_ends {v} {o} {r} {x} {m} {w} {c} {b} f e h l n q g = on (same_ty ty_void (term_type e)) (h.is e l)
     where
@@ -190,7 +190,7 @@ module _ {s : List ℕ} where
       on true p = rw (wrong_then (term_at e) void_value f) (ends (err (term_at e) void_value) (q ∙ p) (λ d i. never (cc)) g)
       on false p = absurd (n (term_as e) p)
 
-  pub used_value : {v w : Term} {o : code.Judged} (e : terms.Term) → Used s v o → v ≡ term_as e → o ≡ Val w → (used e ≡ fine e) × (w ≡ term_as e)
+  pub used_value : {v w : Term} {o : code.Judged} (e : terms.Term) → Used s v o → v ≡ term_as e → o ≡ Ok w → (used e ≡ fine e) × (w ≡ term_as e)
   used_value e h l q =
       let z = as_val s (used e).out (sym (h.is e l) ∙ q) in
       let p = used_is e z.0 z.1 in

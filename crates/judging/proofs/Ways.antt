@@ -14,13 +14,13 @@ use Rattle.rows.specs.Rows.{node_word}
 use Rattle.findings.specs.declared.Counts.{Counts}
 use Rattle.findings.proofs.Adds.{adds_count, adds_number}
 use Rattle.values.specs.declared.Term.{Term}
-use Rattle.values.specs.declared.Judged as code
-use Rattle.values.specs.declared.Judged.TheVariants.{Val}
+use Rattle.values.specs.Values as code
+use Rattle.std.specs.Prelude.{Result, Ok, Err}
+use Rattle.values.specs.declared.Halt.{Halt}
 use Rattle.values.specs.Values.{term_as, Used}
 use Rattle.holding.specs.declared.Step.{Step}
 use Rattle.holding.specs.Holding.{most_rows, Agrees}
 use Rattle.judging.specs.declared.Callee.{Callee}
-use Rattle.judging.specs.declared.Callee.TheVariants.{Function, Ends}
 use Rattle.judging.specs.Judging.{Passed, passed, RepAt, is_literal_lem, is_sock4_lem, is_local, is_path, is_member, is_slash, is_call, ArgsAt, rest_size, over_both, going, rest, MemberIs, Left, Divides, CalleeOf, CalleeIs, Calls, Fits, StepFits, ArgsFit}
 use Rattle.judging.proofs.Trees.{SlashAt, CallAt, at_member, at_slash, at_call, same_tree, passed_size_lem}
 use Rattle.judging.proofs.Steps.{by, goes, left_of_lem, rest_used, void_ends}
@@ -30,7 +30,7 @@ use Rattle.judging.proofs.Calls.{call_parts, call_ends, call_goes}
 -- ---- steps
 
 module _ {s ws : List ℕ} {i : ℕ} (n : ℕ) (k : Known) {e : Expr} (rep : RepAt ws i e) (d : terms.Term) {r : Step} {x : List ℕ} {c : Counts} {at : ℕ} where
-  pub way_void : 6 ≤ node_word ws i 0 → {v : Term} {o : code.Judged} {m w : List ℕ} → Used s v o → v ≡ term_as d → ((q : Term) → o ≡ Val q → ⊥) → r.out ≡ o → r.counts ≡ c
+  pub way_void : 6 ≤ node_word ws i 0 → {v : Term} {o : code.Judged} {m w : List ℕ} → Used s v o → v ≡ term_as d → ((q : Term) → o ≡ Ok q → ⊥) → r.out ≡ o → r.counts ≡ c
       → Agrees s r x x m w c at (rest (contents (tokens.tokens s)) n k e d)
   unfolding membered over applied
   way_void l {v} {o} {m} {w} h q z p g = on rep
@@ -58,7 +58,7 @@ module _ {s ws : List ℕ} {i : ℕ} (n : ℕ) (k : Known) {e : Expr} (rep : Rep
       by (rest_used (contents (tokens.tokens s)) n k e d f)
       (subst (λ (t : Expr). Agrees s r x y u w c at (going (contents (tokens.tokens s)) n k t d)) (sym a.is) (h a.left a.right (same_tree a.is rep)))
 
-  module _ (q : node_word ws i 0 ≡ 8) (f : used d ≡ fine d) {v : Term} (p : v ≡ term_as d) {next : ℕ} {u z : List ℕ} (l : Left s u z (at + 1) d v next) {o : Callee} {m : List ℕ}
+  module _ (q : node_word ws i 0 ≡ 8) (f : used d ≡ fine d) {v : Term} (p : v ≡ term_as d) {next : ℕ} {u z : List ℕ} (l : Left s u z (at + 1) d v next) {o : Result Callee Halt} {m : List ℕ}
       (h : CalleeIs s ws i at v o z m) where
     to_call : {y w : List ℕ} → ((a : Expr) (t : ℕ) (g : Args) → RepAt ws i (call a t g) → Agrees s r x y u w c at (going (contents (tokens.tokens s)) n k (call a t g) d))
         → Agrees s r x y u w c at (rest (contents (tokens.tokens s)) n k e d)
@@ -67,24 +67,24 @@ module _ {s ws : List ℕ} {i : ℕ} (n : ℕ) (k : Known) {e : Expr} (rep : Rep
         by (rest_used (contents (tokens.tokens s)) n k e d f)
         (subst (λ (t : Expr). Agrees s r x y u w c at (going (contents (tokens.tokens s)) n k t d)) (sym a.is) (g a.callee _ _ (same_tree a.is rep)))
 
-    pub way_call_ends : {j : code.Judged} {w : List ℕ} → o ≡ Ends j → r.out ≡ j → r.counts ≡ c → Agrees s r x x u w c at (rest (contents (tokens.tokens s)) n k e d)
+    pub way_call_ends : {j : Halt} {w : List ℕ} → o ≡ Err j → r.out ≡ Err j → r.counts ≡ c → Agrees s r x x u w c at (rest (contents (tokens.tokens s)) n k e d)
     way_call_ends y b g =
-        to_call (λ a t j w. call_ends n k a t j d l m (subst (λ (y : Callee). CalleeOf s at v y z m a t j d) y (h.is a t j d w p)) b g)
+        to_call (λ a t j w. call_ends n k a t j d l m (subst (λ (y : Result Callee Halt). CalleeOf s at v y z m a t j d) y (h.is a t j d w p)) b g)
 
-    pub way_call_goes : {name fn : ℕ} {y w : List ℕ} → o ≡ Function name fn
-        → ((ps : List Passed) → ArgsAt ws i (node_word ws i 3) ps → Calls s n k (passed none_given ps) name fn next c x m r y w)
+    pub way_call_goes : {fn : Callee} {y w : List ℕ} → o ≡ Ok fn
+        → ((ps : List Passed) → ArgsAt ws i (node_word ws i 3) ps → Calls s n k (passed none_given ps) fn.name fn.entry next c x m r y w)
         → Agrees s r x y u w c at (rest (contents (tokens.tokens s)) n k e d)
-    way_call_goes {name} {fn} {y} {w} b g =
+    way_call_goes {fn} {y} {w} b g =
         to_call (λ a t j rp.
         let ps = call_parts rp in
-        call_goes n k a t j d l (subst (λ (y : Callee). CalleeOf s at v y z m a t j d) b (h.is a t j d rp p))
-        (subst (λ (t : Args). Calls s n k t name fn next c x m r y w) (sym ps.is) (g ps.args ps.args_rep)))
+        call_goes n k a t j d l (subst (λ (y : Result Callee Halt). CalleeOf s at v y z m a t j d) b (h.is a t j d rp p))
+        (subst (λ (t : Args). Calls s n k t fn.name fn.entry next c x m r y w) (sym ps.is) (g ps.args ps.args_rep)))
 
 -- ---- `/`
 
 pub slash_goes : (s : List ℕ) (n : ℕ) (k : Known) (a b : Expr) (d : terms.Term) {place p at next : ℕ} {v w : Term} {c : Counts} {J r : Step} {x y t u m z z' : List ℕ}
     → place ≡ first_of a → p ≡ first_of b → n ≡ c.number → v.kind ≡ 7 → Left s u m (at + 1) d v next
-    → Agrees s J x y m t c next (judge (contents (tokens.tokens s)) n k b) → J.out ≡ Val w
+    → Agrees s J x y m t c next (judge (contents (tokens.tokens s)) n k b) → J.out ≡ Ok w
     → Divides s place p at next v w J.next J.counts y t r z z' → Agrees s r x z u z' c at (going (contents (tokens.tokens s)) n k (slash' a b) d)
 slash_goes s n k a b d {place} {p} {at} {v = v} {J = J} {r} {y = y} {u = u} {m} {z} {z'} pa pb num kind l g o h =
     let j = judge (contents (tokens.tokens s)) n k b in

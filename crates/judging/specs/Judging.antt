@@ -1,5 +1,5 @@
 -- How the tables of names, the rows of trees and the code's judgements stand for the language's.
-use Rattle.std.specs.Prelude.{ℕ, suc, ◌+◌, ◌*◌, ◌/◌, ◌≤◌, ◌<◌, ◌≡◌, Bool, true, false, List, [], ◌∷◌, ◌⊎◌, length, get_or}
+use Rattle.std.specs.Prelude.{ℕ, suc, ◌+◌, ◌*◌, ◌/◌, ◌≤◌, ◌<◌, ◌≡◌, Bool, true, false, List, [], ◌∷◌, ◌⊎◌, length, get_or, Result, Ok, Err}
 use Rattle.std.proofs.Math.Option.{Option, some}
 use Rattle.language.specs.Tokens as tokens
 use Rattle.language.specs.Tokens.{Content, contents}
@@ -20,16 +20,15 @@ use Rattle.findings.specs.declared.Counts.{Counts}
 use Rattle.findings.specs.declared.Side.{Side}
 use Rattle.findings.specs.Findings.{side_as, most_compared, plus_search}
 use Rattle.values.specs.declared.Term.{Term}
-use Rattle.values.specs.declared.Judged.{Judged}
+use Rattle.values.specs.declared.Halt.{Halt}
 use Rattle.values.specs.declared.Judgement as code
-use Rattle.values.specs.Values.{term_as, opened, Canon, judged_as}
+use Rattle.values.specs.Values.{Judged, term_as, opened, Canon, judged_as}
 use Rattle.paths.specs.Paths.{or_none}
 use Rattle.holding.specs.declared.Step.{Step}
 use Rattle.holding.specs.Holding.{most_rows, put_held, Puts, Agrees}
 use Rattle.arguments.specs.Arguments.{Bound}
 use Rattle.judging.specs.declared.Spine.{Spine}
 use Rattle.judging.specs.declared.Callee.{Callee}
-use Rattle.judging.specs.declared.Callee.TheVariants as callee
 
 -- so many findings can be counted and stored
 abbrev pub most_findings : ℕ
@@ -262,16 +261,15 @@ pub record Divides (s : List ℕ) (place p at next : ℕ) (v w : Term) (end : �
   pub is : (n : ℕ) (a b : terms.Term) (u m : List ℕ) → n ≡ c.number → same_ty ty_ip4 (term_type a) ≡ true → Left s u m (at + 1) a v next
       → Left s m t next b w end → Agrees s r x y u z c at (over_both n place p a b)
 
--- the callee c of the call at row i, for which the row at + 1 is kept: the function and the called name, with its row written; or what
--- the call comes to already
-abbrev pub CalleeOf : List ℕ → ℕ → Term → Callee → List ℕ → List ℕ → Expr → ℕ → Args → terms.Term → Type 0
-CalleeOf s at c (callee.Function name f) u v e t g d =
-    (function_of (term_type d) ≡ some f) × (any_named g ≡ false) × (name ≡ called_name e) × Puts s (at + 1) c.at 6 0 c u v
-CalleeOf s at c (callee.Ends o) u v e t g d =
-    (n : ℕ) (r : Judgement (List Arg)) → (p : judgements.Judged terms.Term) × (of_function n (called_name e) t g r d (function_of (term_type d)) ≡ judgement p []) × (o ≡ judged_as s p)
-    × ((w : terms.Term) → p ≡ val w → ⊥)
+-- the callee c of the call at row i, for which the row at + 1 is kept: the function and the called name, with its row written; or why
+-- the call comes to no value, whatever its arguments are
+abbrev pub CalleeOf : List ℕ → ℕ → Term → Result Callee Halt → List ℕ → List ℕ → Expr → ℕ → Args → terms.Term → Type 0
+CalleeOf s at c (Ok f) u v e t g d =
+    (function_of (term_type d) ≡ some f.entry) × (any_named g ≡ false) × (f.name ≡ called_name e) × Puts s (at + 1) c.at 6 0 c u v
+CalleeOf s at c (Err h) u v e t g d =
+    (n : ℕ) (r : Judgement (List Arg)) → (p : judgements.Judged terms.Term) × (of_function n (called_name e) t g r d (function_of (term_type d)) ≡ judgement p []) × (Err h ≡ judged_as s p)
 
-pub record CalleeIs (s ws : List ℕ) (i at : ℕ) (c : Term) (r : Callee) (u v : List ℕ) : Type 0 where
+pub record CalleeIs (s ws : List ℕ) (i at : ℕ) (c : Term) (r : Result Callee Halt) (u v : List ℕ) : Type 0 where
   pub is : (e : Expr) (t : ℕ) (g : Args) (d : terms.Term) → RepAt ws i (call e t g) → c ≡ term_as d → CalleeOf s at c r u v e t g d
 
 -- the call at the token `at` of the function f, whose arguments are g, with rows from `row` on

@@ -19,11 +19,21 @@ ghost use Rattle.holding.specs.Holding.{most_rows, Judges, Agrees};
 ghost use Rattle.judging.specs.Judging.{LocalIs, PathIs, Ready, Knows, Passed, passed, RepAt, ArgsAt, TreeAt, CallFits, ChainFits, Down, Descended, going, rest, MemberIs, OperandIs, Left, Spreads, Joins, Divides, CalleeIs, Calls, LookFits, Fits, StepFits, ArgsFit, ClimbFits};
 
 use arguments::Given;
-use findings::{Counts, Side, What};
+use findings::{Counts, Diagnostic, Side, What};
 use holding::Step;
 use names::Entry;
 use rows::{NodeKind, NodeRow, StatementRow, Token, Ty};
-use values::{Judged, Judgement, Term};
+use values::{Halt, Judged, Judgement, Term};
+
+// What an expression is judged in: a source and its tokens, the rows of its tree, and the names that are bound and imported.
+#[derive(Clone, Copy)]
+pub struct Scope<'a> {
+    pub source: &'a [u8],
+    pub toks: &'a [u64],
+    pub nodes: &'a [u64],
+    pub bindings: &'a [u64],
+    pub imports: &'a [u64],
+}
 
 // How deep a left spine was gone down, and to which row.
 #[derive(Clone, Copy)]
@@ -37,33 +47,39 @@ impl Spine {
     pub const ROOM: usize = 64;
 }
 
-// What a call's callee came to: the token of the called name and the function's entry, or what the call comes to already.
+// What a call's callee comes to: the token of the called name, and the function's entry.
 #[derive(Clone, Copy)]
-pub enum Callee {
-    Function(u64, u64),
-    Ends(Judged),
+pub struct Callee {
+    pub name: u64,
+    pub entry: u64,
 }
 
 // ---- leaves
 
 // A name that stands for its value, at the token t.
-fn local(source: &[u8], bindings: &[u64], tok: Token, t: u64, counts: Counts) -> Judgement
-    requires used_in_bounds { (counts.used ≤ length bindings.now / name_width) × Keyed source.now bindings.now counts.used }
+fn local(scope: &Scope, tok: Token, t: u64, counts: Counts) -> Judgement
+    requires used_in_bounds { (counts.used ≤ length scope.now.bindings.now / name_width) × Keyed scope.now.source.now scope.now.bindings.now counts.used }
     requires used_le_most_names { (counts.used ≤ most_names) × LookFits counts }
-    ensures { LocalIs source.now bindings.now counts tok t result }
+    ensures { LocalIs scope.now.source.now scope.now.bindings.now counts tok t result }
 {
-    let name = rows::name_at(source, tok);
-    let found = names::find(source, bindings, counts.used, names::key_of(name), name);
+    let name = rows::name_at(scope.source, tok);
+    let found = names::find(
+        scope.source,
+        scope.bindings,
+        counts.used,
+        names::key_of(name),
+        name,
+    );
     let then = findings::searched(counts, found.compared);
     let i = found.at;
     if i < counts.used {
         return Judgement {
             out: values::held(
                 t,
-                names::word(bindings, i, Entry::FORM),
-                names::word(bindings, i, Entry::KIND),
-                names::word(bindings, i, Entry::LOW),
-                names::word(bindings, i, Entry::HIGH),
+                names::word(scope.bindings, i, Entry::FORM),
+                names::word(scope.bindings, i, Entry::KIND),
+                names::word(scope.bindings, i, Entry::LOW),
+                names::word(scope.bindings, i, Entry::HIGH),
             ),
             counts: then,
         };
@@ -75,31 +91,30 @@ fn local(source: &[u8], bindings: &[u64], tok: Token, t: u64, counts: Counts) ->
 }
 
 // `module::inner*::item`, through the imports.
-fn path(
-    source: &[u8],
-    toks: &[u64],
-    imports: &[u64],
-    t: u64,
-    names: u64,
-    counts: Counts,
-) -> Judgement
-    requires { TokenTable source.now toks.now × (counts.imported ≤ length imports.now / name_width) × Keyed source.now imports.now counts.imported }
-    ensures { PathIs source.now imports.now counts t names result }
+fn path(scope: &Scope, t: u64, names: u64, counts: Counts) -> Judgement
+    requires { TokenTable scope.now.source.now scope.now.toks.now × (counts.imported ≤ length scope.now.imports.now / name_width) × Keyed scope.now.source.now scope.now.imports.now counts.imported }
+    ensures { PathIs scope.now.source.now scope.now.imports.now counts t names result }
 {
-    let tok = rows::token_at(toks, t);
-    let name = rows::name_at(source, tok);
-    let found = names::find(source, imports, counts.imported, names::key_of(name), name);
+    let tok = rows::token_at(scope.toks, t);
+    let name = rows::name_at(scope.source, tok);
+    let found = names::find(
+        scope.source,
+        scope.imports,
+        counts.imported,
+        names::key_of(name),
+        name,
+    );
     let i = found.at;
     if i < counts.imported {
-        let top = names::word(imports, i, Entry::KIND);
+        let top = names::word(scope.imports, i, Entry::KIND);
         if top == 0 {
             return Judgement {
-                out: Judged::Poisoned,
+                out: Err(Halt::Poisoned),
                 counts,
             };
         }
         return Judgement {
-            out: paths::walk(source, toks, top, t, names),
+            out: paths::walk(scope.source, scope.toks, top, t, names),
             counts,
         };
     }
@@ -110,61 +125,42 @@ fn path(
 }
 
 // An expression that holds no other: row i, of a kind below `MEMBER`.
-fn leaf(
-    source: &[u8],
-    toks: &[u64],
-    nodes: &[u64],
-    bindings: &[u64],
-    imports: &[u64],
-    i: usize,
-    counts: Counts,
-) -> Judgement
-    requires ready { Ready source.now toks.now bindings.now imports.now counts }
-    requires node_width_in_bounds { (node_width * i + node_width ≤ length nodes.now) × LookFits counts }
-    ensures { (n : ℕ) (k : Known) (e : Expr) (x : List ℕ) → Knows source.now bindings.now imports.now counts k
-        → RepAt nodes.now i e → node_word nodes.now i 0 < 6
-        → Judges source.now result x x counts (judge (contents (tokens source.now)) n k e) }
+fn leaf(scope: &Scope, i: usize, counts: Counts) -> Judgement
+    requires ready { Ready scope.now.source.now scope.now.toks.now scope.now.bindings.now scope.now.imports.now counts }
+    requires node_width_in_bounds { (node_width * i + node_width ≤ length scope.now.nodes.now) × LookFits counts }
+    ensures { (n : ℕ) (k : Known) (e : Expr) (x : List ℕ) → Knows scope.now.source.now scope.now.bindings.now scope.now.imports.now counts k
+        → RepAt scope.now.nodes.now i e → node_word scope.now.nodes.now i 0 < 6
+        → Judges scope.now.source.now result x x counts (judge (contents (tokens scope.now.source.now)) n k e) }
 {
-    let t = rows::node_word(nodes, i, NodeRow::TOKEN);
-    match rows::node_word(nodes, i, NodeRow::KIND) {
+    let t = rows::node_word(scope.nodes, i, NodeRow::TOKEN);
+    match rows::node_word(scope.nodes, i, NodeRow::KIND) {
         NodeKind::LITERAL => Judgement {
-            out: Judged::Val(values::literal(toks, t)),
+            out: Ok(values::literal(scope.toks, t)),
             counts,
         },
         NodeKind::SOCK4 => Judgement {
-            out: Judged::Val(values::sock4(toks, t)),
+            out: Ok(values::sock4(scope.toks, t)),
             counts,
         },
-        NodeKind::LOCAL => local(source, bindings, rows::token_at(toks, t), t, counts),
+        NodeKind::LOCAL => local(scope, rows::token_at(scope.toks, t), t, counts),
         _ => path(
-            source,
-            toks,
-            imports,
+            scope,
             t,
-            rows::node_word(nodes, i, NodeRow::FIRST),
+            rows::node_word(scope.nodes, i, NodeRow::FIRST),
             counts,
         ),
     }
 }
 
 // The same as a step, whose rows would start after the row `at`: it has no parts.
-fn lowest(
-    source: &[u8],
-    toks: &[u64],
-    nodes: &[u64],
-    bindings: &[u64],
-    imports: &[u64],
-    i: usize,
-    at: usize,
-    counts: Counts,
-) -> Step
-    requires ready { Ready source.now toks.now bindings.now imports.now counts }
-    requires fits { Fits nodes.now i at counts × (node_word nodes.now i 0 < 6) }
-    ensures { (n : ℕ) (k : Known) (e : Expr) (x u : List ℕ) → Knows source.now bindings.now imports.now counts k
-        → RepAt nodes.now i e
-        → Agrees source.now result x x u u counts at (judge (contents (tokens source.now)) n k e) }
+fn lowest(scope: &Scope, i: usize, at: usize, counts: Counts) -> Step
+    requires ready { Ready scope.now.source.now scope.now.toks.now scope.now.bindings.now scope.now.imports.now counts }
+    requires fits { Fits scope.now.nodes.now i at counts × (node_word scope.now.nodes.now i 0 < 6) }
+    ensures { (n : ℕ) (k : Known) (e : Expr) (x u : List ℕ) → Knows scope.now.source.now scope.now.bindings.now scope.now.imports.now counts k
+        → RepAt scope.now.nodes.now i e
+        → Agrees scope.now.source.now result x x u u counts at (judge (contents (tokens scope.now.source.now)) n k e) }
 {
-    let found = leaf(source, toks, nodes, bindings, imports, i, counts);
+    let found = leaf(scope, i, counts);
     let out = found.out;
     let counts = found.counts;
     let next = at + 1;
@@ -210,7 +206,7 @@ fn spread(
     holding::put_part(toks, stmts, at + 1, StatementRow::LEFT, 0, v);
     holding::put_part(toks, stmts, next, StatementRow::RIGHT, 0, w);
     Step {
-        out: Judged::Val(Term {
+        out: Ok(Term {
             at: place,
             form: Term::SLASH,
             kind: Ty::SOCK4,
@@ -244,7 +240,7 @@ fn join(
         return spread(toks, stmts, place, at, next, v, w, end, counts);
     }
     Step {
-        out: Judged::Val(values::constant(place, Ty::SOCK4, v.lo, w.lo)),
+        out: Ok(values::constant(place, Ty::SOCK4, v.lo, w.lo)),
         counts,
         next: at + 1,
     }
@@ -269,7 +265,7 @@ fn divide(
         → Divides s place p at next v w end counts diags.old stmts.old result diags.new stmts.new }
 {
     let used = values::used(toks, w);
-    let Judged::Val(b) = used else {
+    let Ok(b) = used else {
         return Step {
             out: used,
             counts,
@@ -280,7 +276,7 @@ fn divide(
     let narrowed = fitting::narrow_to(toks, diags, Ty::U16, p, b, otherwise, counts);
     let out = narrowed.out;
     let then = narrowed.counts;
-    let Judged::Val(port) = out else {
+    let Ok(port) = out else {
         return Step {
             out,
             counts: then,
@@ -322,24 +318,35 @@ fn any_named(nodes: &[u64], i: usize, first: usize) -> bool
 }
 
 // The callee of the call at row i, which is no void value. A named argument stops everything before any argument is judged.
-fn callable(toks: &[u64], nodes: &[u64], stmts: &mut [u64], i: usize, at: usize, c: Term) -> Callee
+fn callable(
+    toks: &[u64],
+    nodes: &[u64],
+    stmts: &mut [u64],
+    i: usize,
+    at: usize,
+    c: Term,
+) -> Result<Callee, Halt>
     requires { (token_width ≤ length toks.now) × (at + 1 < most_rows) × CallFits nodes.now i }
     ensures { (s : List ℕ) → TokenTable s toks.now → CalleeIs s nodes.now i at c result stmts.old stmts.new }
 {
     let name = called_name(nodes, rows::node_word(nodes, i, NodeRow::FIRST) as usize);
     let ty = values::type_of(c);
     if ty.kind != Ty::FUNCTION {
-        return Callee::Ends(values::error(rows::token_at(toks, name), What::NotCallable(ty)));
+        let tok = rows::token_at(toks, name);
+        return Err(Halt::Found(Diagnostic::at(tok, What::NotCallable(ty))));
     }
     if any_named(
         nodes,
         i,
         rows::node_word(nodes, i, NodeRow::SECOND) as usize,
     ) {
-        return Callee::Ends(Judged::Stopped(rows::node_word(nodes, i, NodeRow::THIRD)));
+        return Err(Halt::Stopped(rows::node_word(nodes, i, NodeRow::THIRD)));
     }
     holding::put_part(toks, stmts, at + 1, StatementRow::CALLEE, 0, c);
-    Callee::Function(name, ty.entry)
+    Ok(Callee {
+        name,
+        entry: ty.entry,
+    })
 }
 
 // ---- expressions
@@ -366,55 +373,41 @@ fn descend(nodes: &[u64], rows: &mut [usize; Spine::ROOM], i: usize) -> Spine
 // Judges the expression at row i. Row `at` of what is held is kept for its own row.
 #[cycle(call_climb_judge_slash_step)]
 pub fn judge(
-    source: &[u8],
-    toks: &[u64],
-    nodes: &[u64],
-    bindings: &[u64],
-    imports: &[u64],
+    scope: &Scope,
     diags: &mut [u64],
     stmts: &mut [u64],
     i: usize,
     at: usize,
     counts: Counts,
 ) -> Step
-    requires ready { Ready source.now toks.now bindings.now imports.now counts }
-    requires fits { Fits nodes.now i at counts }
-    ensures { (n : ℕ) (k : Known) (e : Expr) → n ≡ counts.number → Knows source.now bindings.now imports.now counts k
-        → RepAt nodes.now i e
-        → Agrees source.now result diags.old diags.new stmts.old stmts.new counts at
-        (judge (contents (tokens source.now)) n k e) }
+    requires ready { Ready scope.now.source.now scope.now.toks.now scope.now.bindings.now scope.now.imports.now counts }
+    requires fits { Fits scope.now.nodes.now i at counts }
+    ensures { (n : ℕ) (k : Known) (e : Expr) → n ≡ counts.number → Knows scope.now.source.now scope.now.bindings.now scope.now.imports.now counts k
+        → RepAt scope.now.nodes.now i e
+        → Agrees scope.now.source.now result diags.old diags.new stmts.old stmts.new counts at
+        (judge (contents (tokens scope.now.source.now)) n k e) }
 {
-    if rows::node_word(nodes, i, NodeRow::KIND) < NodeKind::MEMBER {
-        return lowest(source, toks, nodes, bindings, imports, i, at, counts);
+    if rows::node_word(scope.nodes, i, NodeRow::KIND) < NodeKind::MEMBER {
+        return lowest(scope, i, at, counts);
     }
     let mut rows = [0usize; Spine::ROOM];
-    let s = descend(nodes, &mut rows, i);
+    let s = descend(scope.nodes, &mut rows, i);
     let depth = s.depth;
     let row = s.row;
     let below = at + depth;
-    if rows::node_word(nodes, row, NodeRow::KIND) < NodeKind::MEMBER {
-        let bottom = lowest(source, toks, nodes, bindings, imports, row, below, counts);
-        return climb(
-            source, toks, nodes, bindings, imports, diags, stmts, &rows, i, depth, at, bottom,
-        );
+    if rows::node_word(scope.nodes, row, NodeRow::KIND) < NodeKind::MEMBER {
+        let bottom = lowest(scope, row, below, counts);
+        return climb(scope, diags, stmts, &rows, i, depth, at, bottom);
     }
     // the spine has no room left
-    let bottom = judge(
-        source, toks, nodes, bindings, imports, diags, stmts, row, below, counts,
-    );
-    climb(
-        source, toks, nodes, bindings, imports, diags, stmts, &rows, i, depth, at, bottom,
-    )
+    let bottom = judge(scope, diags, stmts, row, below, counts);
+    climb(scope, diags, stmts, &rows, i, depth, at, bottom)
 }
 
 // Goes up again, from what stands that deep in the spine of row i and came to `bottom`.
 #[cycle(call_climb_judge_slash_step)]
 fn climb(
-    source: &[u8],
-    toks: &[u64],
-    nodes: &[u64],
-    bindings: &[u64],
-    imports: &[u64],
+    scope: &Scope,
     diags: &mut [u64],
     stmts: &mut [u64],
     rows: &[usize; Spine::ROOM],
@@ -423,12 +416,12 @@ fn climb(
     at: usize,
     bottom: Step,
 ) -> Step
-    requires ready { Ready source.now toks.now bindings.now imports.now bottom.counts × (deep ≤ 64) }
-    requires climb_fits { ClimbFits source.now bindings.now imports.now nodes.now rows.now i deep at bottom diags.old stmts.old }
-    ensures { (n : ℕ) (k : Known) (e d : Expr) (row : ℕ) (x u : List ℕ) (c : Counts) → n ≡ c.number → Knows source.now bindings.now imports.now c k
-        → RepAt nodes.now i e → Down nodes.now rows.now i e deep row d
-        → Agrees source.now bottom x diags.old u stmts.old c (at + deep) (judge (contents (tokens source.now)) n k d)
-        → Agrees source.now result x diags.new u stmts.new c at (judge (contents (tokens source.now)) n k e) }
+    requires ready { Ready scope.now.source.now scope.now.toks.now scope.now.bindings.now scope.now.imports.now bottom.counts × (deep ≤ 64) }
+    requires climb_fits { ClimbFits scope.now.source.now scope.now.bindings.now scope.now.imports.now scope.now.nodes.now rows.now i deep at bottom diags.old stmts.old }
+    ensures { (n : ℕ) (k : Known) (e d : Expr) (row : ℕ) (x u : List ℕ) (c : Counts) → n ≡ c.number → Knows scope.now.source.now scope.now.bindings.now scope.now.imports.now c k
+        → RepAt scope.now.nodes.now i e → Down scope.now.nodes.now rows.now i e deep row d
+        → Agrees scope.now.source.now bottom x diags.old u stmts.old c (at + deep) (judge (contents (tokens scope.now.source.now)) n k d)
+        → Agrees scope.now.source.now result x diags.new u stmts.new c at (judge (contents (tokens scope.now.source.now)) n k e) }
 {
     let mut then = bottom;
     let mut depth = deep;
@@ -436,25 +429,12 @@ fn climb(
         let out = then.out;
         let counts = then.counts;
         let next = then.next;
-        let Judged::Val(v) = out else {
+        let Ok(v) = out else {
             return then;
         };
         depth -= 1;
         let row = rows[depth];
-        then = step(
-            source,
-            toks,
-            nodes,
-            bindings,
-            imports,
-            diags,
-            stmts,
-            row,
-            at + depth,
-            v,
-            next,
-            counts,
-        );
+        then = step(scope, diags, stmts, row, at + depth, v, next, counts);
     }
     then
 }
@@ -462,11 +442,7 @@ fn climb(
 // What stands at row i, of which the left came to v, with rows up to `next`.
 #[cycle(call_climb_judge_slash_step)]
 fn step(
-    source: &[u8],
-    toks: &[u64],
-    nodes: &[u64],
-    bindings: &[u64],
-    imports: &[u64],
+    scope: &Scope,
     diags: &mut [u64],
     stmts: &mut [u64],
     i: usize,
@@ -475,46 +451,43 @@ fn step(
     next: usize,
     counts: Counts,
 ) -> Step
-    requires ready { Ready source.now toks.now bindings.now imports.now counts }
-    requires step_fits { StepFits nodes.now i at next counts }
-    ensures { (n : ℕ) (k : Known) (e : Expr) (d : terms.Term) (u : List ℕ) → n ≡ counts.number → Knows source.now bindings.now imports.now counts k
-        → RepAt nodes.now i e → Left source.now u stmts.old (at + 1) d v next
-        → Agrees source.now result diags.old diags.new u stmts.new counts at
-        (rest (contents (tokens source.now)) n k e d) }
+    requires ready { Ready scope.now.source.now scope.now.toks.now scope.now.bindings.now scope.now.imports.now counts }
+    requires step_fits { StepFits scope.now.nodes.now i at next counts }
+    ensures { (n : ℕ) (k : Known) (e : Expr) (d : terms.Term) (u : List ℕ) → n ≡ counts.number → Knows scope.now.source.now scope.now.bindings.now scope.now.imports.now counts k
+        → RepAt scope.now.nodes.now i e → Left scope.now.source.now u stmts.old (at + 1) d v next
+        → Agrees scope.now.source.now result diags.old diags.new u stmts.new counts at
+        (rest (contents (tokens scope.now.source.now)) n k e d) }
 {
-    let out = values::used(toks, v);
-    let Judged::Val(w) = out else {
+    let out = values::used(scope.toks, v);
+    let Ok(w) = out else {
         return Step { out, counts, next };
     };
-    match rows::node_word(nodes, i, NodeRow::KIND) {
+    match rows::node_word(scope.nodes, i, NodeRow::KIND) {
         NodeKind::MEMBER => Step {
-            out: member(toks, rows::node_word(nodes, i, NodeRow::SECOND), w),
+            out: member(
+                scope.toks,
+                rows::node_word(scope.nodes, i, NodeRow::SECOND),
+                w,
+            ),
             counts,
             next,
         },
-        NodeKind::SLASH => slash(
-            source, toks, nodes, bindings, imports, diags, stmts, i, at, w, next, counts,
-        ),
-        _ => {
-            match callable(toks, nodes, stmts, i, at, w) {
-                Callee::Ends(out) => Step { out, counts, next },
-                Callee::Function(name, f) => call(
-                    source, toks, nodes, bindings, imports, diags, stmts, i, name, f, w, next,
-                    counts,
-                ),
-            }
-        }
+        NodeKind::SLASH => slash(scope, diags, stmts, i, at, w, next, counts),
+        _ => match callable(scope.toks, scope.nodes, stmts, i, at, w) {
+            Ok(f) => call(scope, diags, stmts, i, f, w, next, counts),
+            Err(halt) => Step {
+                out: Err(halt),
+                counts,
+                next,
+            },
+        },
     }
 }
 
 // `left / right` at row i, of which the left came to v.
 #[cycle(call_climb_judge_slash_step)]
 fn slash(
-    source: &[u8],
-    toks: &[u64],
-    nodes: &[u64],
-    bindings: &[u64],
-    imports: &[u64],
+    scope: &Scope,
     diags: &mut [u64],
     stmts: &mut [u64],
     i: usize,
@@ -523,35 +496,33 @@ fn slash(
     next: usize,
     counts: Counts,
 ) -> Step
-    requires ready { Ready source.now toks.now bindings.now imports.now counts }
-    requires step_fits { StepFits nodes.now i at next counts × (node_word nodes.now i 0 ≡ 7) }
-    ensures { (n : ℕ) (k : Known) (a b : Expr) (d : terms.Term) (u : List ℕ) → n ≡ counts.number → Knows source.now bindings.now imports.now counts k
-        → RepAt nodes.now i (slash' a b) → Left source.now u stmts.old (at + 1) d v next
-        → Agrees source.now result diags.old diags.new u stmts.new counts at
-        (going (contents (tokens source.now)) n k (slash' a b) d) }
+    requires ready { Ready scope.now.source.now scope.now.toks.now scope.now.bindings.now scope.now.imports.now counts }
+    requires step_fits { StepFits scope.now.nodes.now i at next counts × (node_word scope.now.nodes.now i 0 ≡ 7) }
+    ensures { (n : ℕ) (k : Known) (a b : Expr) (d : terms.Term) (u : List ℕ) → n ≡ counts.number → Knows scope.now.source.now scope.now.bindings.now scope.now.imports.now counts k
+        → RepAt scope.now.nodes.now i (slash' a b) → Left scope.now.source.now u stmts.old (at + 1) d v next
+        → Agrees scope.now.source.now result diags.old diags.new u stmts.new counts at
+        (going (contents (tokens scope.now.source.now)) n k (slash' a b) d) }
 {
     if v.kind != Ty::IP4 {
         return Step {
-            out: operand(toks, v, Side::Left, Ty::IP4),
+            out: operand(scope.toks, v, Side::Left, Ty::IP4),
             counts,
             next,
         };
     }
-    let b = rows::node_word(nodes, i, NodeRow::SECOND) as usize;
-    let right = judge(
-        source, toks, nodes, bindings, imports, diags, stmts, b, next, counts,
-    );
+    let b = rows::node_word(scope.nodes, i, NodeRow::SECOND) as usize;
+    let right = judge(scope, diags, stmts, b, next, counts);
     let out = right.out;
     let then = right.counts;
-    let Judged::Val(w) = out else {
+    let Ok(w) = out else {
         return right;
     };
     divide(
-        toks,
+        scope.toks,
         diags,
         stmts,
-        rows::node_word(nodes, i, NodeRow::TOKEN),
-        rows::node_word(nodes, b, NodeRow::TOKEN),
+        rows::node_word(scope.nodes, i, NodeRow::TOKEN),
+        rows::node_word(scope.nodes, b, NodeRow::TOKEN),
         at,
         next,
         v,
@@ -561,63 +532,56 @@ fn slash(
     )
 }
 
-// The call at row i of the function f, by the name at a token: its arguments are judged from left to right, with rows from `row` on,
-// and then bound. c is the callee.
+// The call at row i of the callee f, which came to c: its arguments are judged from left to right, with rows from `start` on, and then
+// bound.
 #[cycle(call_climb_judge_slash_step)]
 fn call(
-    source: &[u8],
-    toks: &[u64],
-    nodes: &[u64],
-    bindings: &[u64],
-    imports: &[u64],
+    scope: &Scope,
     diags: &mut [u64],
     stmts: &mut [u64],
     i: usize,
-    name: u64,
-    f: u64,
+    f: Callee,
     c: Term,
     start: usize,
     counts: Counts,
 ) -> Step
-    requires ready { Ready source.now toks.now bindings.now imports.now counts }
-    requires call_fits { CallFits nodes.now i × ArgsFit nodes.now i (node_word nodes.now i 3) start counts }
-    ensures { (n : ℕ) (k : Known) (ps : List Passed) → n ≡ counts.number → Knows source.now bindings.now imports.now counts k
-        → ArgsAt nodes.now i (node_word nodes.now i 3) ps
-        → Calls source.now n k (passed none_given ps) name f start counts diags.old stmts.old result diags.new stmts.new }
+    requires ready { Ready scope.now.source.now scope.now.toks.now scope.now.bindings.now scope.now.imports.now counts }
+    requires call_fits { CallFits scope.now.nodes.now i × ArgsFit scope.now.nodes.now i (node_word scope.now.nodes.now i 3) start counts }
+    ensures { (n : ℕ) (k : Known) (ps : List Passed) → n ≡ counts.number → Knows scope.now.source.now scope.now.bindings.now scope.now.imports.now counts k
+        → ArgsAt scope.now.nodes.now i (node_word scope.now.nodes.now i 3) ps
+        → Calls scope.now.source.now n k (passed none_given ps) f.name f.entry start counts diags.old stmts.old result diags.new stmts.new }
 {
     let mut kept = arguments::none_kept(c);
     let mut row = start;
     let mut then = counts;
-    let mut next = rows::node_word(nodes, i, NodeRow::SECOND) as usize;
+    let mut next = rows::node_word(scope.nodes, i, NodeRow::SECOND) as usize;
     // `bind` is called at two places, so that it stays a function of its own: its frame is not held while arguments are judged
     if next == 0 {
-        return arguments::bind(toks, diags, stmts, name, f, kept, row, then);
+        return arguments::bind(scope.toks, diags, stmts, f.name, f.entry, kept, row, then);
     }
     while next != 0 {
         let j = next - 1;
-        let e = rows::node_word(nodes, j, NodeRow::FIRST) as usize;
-        let judged = judge(
-            source, toks, nodes, bindings, imports, diags, stmts, e, row, then,
-        );
+        let e = rows::node_word(scope.nodes, j, NodeRow::FIRST) as usize;
+        let judged = judge(scope, diags, stmts, e, row, then);
         let out = judged.out;
         let found = judged.counts;
         let free = judged.next;
-        let Judged::Val(v) = out else {
+        let Ok(v) = out else {
             return judged;
         };
-        let used = values::used(toks, v);
-        let Judged::Val(term) = used else {
+        let used = values::used(scope.toks, v);
+        let Ok(term) = used else {
             return Step {
                 out: used,
                 counts: found,
                 next: free,
             };
         };
-        let first = rows::node_word(nodes, e, NodeRow::TOKEN);
+        let first = rows::node_word(scope.nodes, e, NodeRow::TOKEN);
         kept = arguments::keep(kept, Given { term, row, first });
         row = free;
         then = found;
-        next = rows::node_word(nodes, j, NodeRow::SECOND) as usize;
+        next = rows::node_word(scope.nodes, j, NodeRow::SECOND) as usize;
     }
-    arguments::bind(toks, diags, stmts, name, f, kept, row, then)
+    arguments::bind(scope.toks, diags, stmts, f.name, f.entry, kept, row, then)
 }

@@ -8,6 +8,7 @@ use native.Mathlib.Omega.{arith}
 use native.Mathlib.Decide.{dec_le}
 use lib.Dec.{eqb}
 use lib.ListN.{length}
+use Rattle.std.specs.Prelude.{Ok}
 use Rattle.constants.specs.Constants.{table_rows, kind_of, low_of, high_of, or_zero, entry_word}
 use Rattle.constants.proofs.Entries.{words}
 use Rattle.language.specs.Choice.{if'}
@@ -21,7 +22,6 @@ use Rattle.language.specs.Terms as terms
 use Rattle.language.specs.Judgements as judgements
 use Rattle.language.proofs.TokensAt.{content_of_lem, past_token}
 use Rattle.values.specs.declared.Term.{Term}
-use Rattle.values.specs.declared.Judged.TheVariants.{Val}
 use Rattle.values.specs.Values.{judged_as}
 use Rattle.values.proofs.Values.{some_kind}
 use Rattle.paths.specs.Paths.{or_none}
@@ -129,9 +129,9 @@ module _ (s : List ℕ) where
 
 -- the value of an entry, or none
 pub item_value : (s : List ℕ) (ts : List Content) (p t k l h : ℕ) (o : Option values.Value) {w : Term} → k ≡ kind_of o → l ≡ low_of o → h ≡ high_of o
-    → (k ≡ 0 → ⊥) → w ≡ record { at = p; form = 1; kind = k; lo = l; hi = h } → Val w ≡ judged_as s (last_item ts p t o)
+    → (k ≡ 0 → ⊥) → w ≡ record { at = p; form = 1; kind = k; lo = l; hi = h } → Ok w ≡ judged_as s (last_item ts p t o)
 item_value s ts p t k l h none a b c n e = absurd (n a)
-item_value s ts p t k l h (some v) a b c n e = ap Val e ∙ rw (a, b, c)
+item_value s ts p t k l h (some v) a b c n e = ap Ok e ∙ rw (a, b, c)
 
 pub item_module : (ts : List Content) (p t : ℕ) (o : Option values.Value) → kind_of o ≡ 0 → last_item ts p t o ≡ err t not_a_value
 item_module ts p t none h = refl

@@ -12,7 +12,7 @@ ghost use Rattle.values.specs.Values.{judged_as};
 use constants::Constants;
 use findings::What;
 use rows::{Token, Ty};
-use values::Judged;
+use values::{Halt, Judged};
 
 // A path's last name is a value, which stands at the path's first name, p.
 fn last_item(rows: &[u64; Constants::WORDS], p: u64, tok: Token, k: u64) -> Judged
@@ -25,7 +25,7 @@ fn last_item(rows: &[u64; Constants::WORDS], p: u64, tok: Token, k: u64) -> Judg
     }
     let lo = constants::entry_word(rows, k, Constants::LOW);
     let hi = constants::entry_word(rows, k, Constants::HIGH);
-    Judged::Val(values::constant(p, kind, lo, hi))
+    Ok(values::constant(p, kind, lo, hi))
 }
 
 // A path below a module of the constant table: so many more names, each two tokens after the one before, the first after t, which is
@@ -57,5 +57,5 @@ pub fn walk(source: &[u8], toks: &[u64], top: u64, t: u64, names: u64) -> Judged
         at += 2;
         left -= 1;
     }
-    Judged::Poisoned
+    Err(Halt::Poisoned)
 }

@@ -8,6 +8,7 @@ use native.Mathlib.Omega.{arith}
 use native.Mathlib.Decide.{dec_le}
 use lib.Dec.{ltb}
 use lib.ListN.{length, length-append, length-set}
+use Rattle.std.specs.Prelude.{Result, Ok, Err}
 use Rattle.language.specs.Tokens as tokens
 use Rattle.language.specs.Tokens.{Content, contents}
 use Rattle.language.specs.Sentences.{Expr, Stmt, import', let', expr', first_of, stmt_size, program_size, node_width}
@@ -38,8 +39,8 @@ use Rattle.paths.specs.Paths.{or_none}
 use Rattle.holding.specs.Holding.{most_rows, put_held}
 use Rattle.judging.specs.Judging.{most_findings, binding_at, bound_in, import_at, imports_in, known_in, Knows, Sound, Ready}
 use Rattle.statements.specs.declared.Turn.{Turn}
-use Rattle.statements.specs.declared.Turn.TheVariants.{Went, Binds, Imports, Refused}
-use Rattle.statements.specs.declared.Outcome.TheVariants as outcome
+use Rattle.statements.specs.declared.Turn.TheVariants.{Went, Binds, Imports}
+use Rattle.statements.specs.declared.Refusal.{Refusal}
 use Rattle.statements.specs.Checking.{no_counts, plus_number, plus_name, plus_import, unnamed, Grows, Valued, BindsName, ImportsName, TurnOf, StmtsAt, at_end, no_stmt, an_import, a_let, an_expr, RowFits, RowTurns, passes, takes, AllSound, Found, ComesTo, Comes}
 use Rattle.statements.proofs.Failed.{Unfailed, none_fails}
 use Rattle.statements.proofs.Statements.{then_used}
@@ -140,10 +141,10 @@ rows_append (h ∷ hs) gs = ap (λ (l : List _). held_rows h ++ l) (rows_append 
 
 -- ---- what a turn stores: the tables of names and the counts then
 
-pub data Stores (b m : List ℕ) : Turn → List ℕ → List ℕ → Counts → Type 0 where
-  stores_none : {c : Counts} → Stores b m (Went c) b m c
-  stores_name : {c : Counts} {e : Entry} → Stores b m (Binds c e) (stored most_names b c.used e) m (plus_name c)
-  stores_import : {c : Counts} {e : Entry} → Stores b m (Imports c e) b (stored most_imports m c.imported e) (plus_import c)
+pub data Stores (b m : List ℕ) : Result Turn Refusal → List ℕ → List ℕ → Counts → Type 0 where
+  stores_none : {c : Counts} → Stores b m (Ok (Went c)) b m c
+  stores_name : {c : Counts} {e : Entry} → Stores b m (Ok (Binds c e)) (stored most_names b c.used e) m (plus_name c)
+  stores_import : {c : Counts} {e : Entry} → Stores b m (Ok (Imports c e)) b (stored most_imports m c.imported e) (plus_import c)
 
 -- what is known then
 record Kept (s toks : List ℕ) (P : Type 0) (c : Counts) (x u y v b m : List ℕ) (c' : Counts) (k : Known) (ds : List Diag) (hs : List Held) (ls : List ℕ) : Type 0 where
@@ -269,7 +270,7 @@ module _ (s toks b m : List ℕ) (P : Type 0) (k : Known) (c : Counts) (kn : Kno
     imported_there : k.imports ≡ imports_in s m c1.imported 0
     imported_there = rw (imported_same g) (imports_are kn)
 
-  after_turn : {r : Turn} {b2 m2 : List ℕ} {c2 : Counts} → Stores b m r b2 m2 c2 → (t : judgements.Turn) → TurnOf s P k c x u r y v t
+  after_turn : {r : Result Turn Refusal} {b2 m2 : List ℕ} {c2 : Counts} → Stores b m r b2 m2 c2 → (t : judgements.Turn) → TurnOf s P k c x u r y v t
       → (k' : Known) × (ds : List Diag) × (hs : List Held) × (ls : List ℕ) × (t ≡ goes k' ds hs ls) × Kept s toks P c x u y v b2 m2 c2 k' ds hs ls
   after_turn (stores_none {c = c1}) (goes k' ds hs ls) a =
       let g = a.1 in
@@ -380,16 +381,16 @@ module _ (ts : List Content) (st : Stmt) (ss : List Stmt) (n : ℕ) (k : Known) 
   run_refuses e = ap (λ (t : judgements.Turn). onward ts t ds hs ls (λ k' es gs ms. run ts ss (suc n) k' es gs ms)) e
 
 -- what the function of one row ensures
-abbrev pub Turned : List ℕ → List ℕ → ℕ → List ℕ → List ℕ → List ℕ → List ℕ → Counts → List ℕ → List ℕ → Turn → Type 0
+abbrev pub Turned : List ℕ → List ℕ → ℕ → List ℕ → List ℕ → List ℕ → List ℕ → Counts → List ℕ → List ℕ → Result Turn Refusal → Type 0
 Turned s ws i b m x u c y v r = (n : ℕ) (k : Known) (ss : List Stmt) → n ≡ c.number + 1 → Knows s b m c k → StmtsAt ws i ss → RowTurns s ws i n k c x u r y v ss
 
 module _ {s toks ws : List ℕ} {i : ℕ} {x0 u0 x u b m : List ℕ} {c : Counts} (l : Looped s toks ws x0 u0 x u b m c i) (y v : List ℕ) where
   abbrev ts : List Content
   ts = contents (tokens.tokens s)
 
-  module _ {r : Turn} {b2 m2 : List ℕ} {c2 : Counts} (st : Stores b m r b2 m2 c2) where
+  module _ {r : Result Turn Refusal} {b2 m2 : List ℕ} {c2 : Counts} (st : Stores b m r b2 m2 c2) where
     -- a row that is passed stores nothing
-    none_stored : {d : Counts} {a : Turn} {p q : List ℕ} {f : Counts} → Stores b m a p q f → a ≡ Went d → (p ≡ b) × (q ≡ m) × (f ≡ d)
+    none_stored : {d : Counts} {a : Result Turn Refusal} {p q : List ℕ} {f : Counts} → Stores b m a p q f → a ≡ Ok (Went d) → (p ≡ b) × (q ≡ m) × (f ≡ d)
     none_stored stores_none e = (refl, refl, cc)
     none_stored stores_name e = never (cc)
     none_stored stores_import e = never (cc)
@@ -483,7 +484,7 @@ module _ {s toks ws : List ℕ} {i : ℕ} {x0 u0 x u b m : List ℕ} {c : Counts
               comes = o ∙ run_goes ts st' ss n k ds hs ls w.4;
             }
 
-    stored_size : {a : Turn} {p q : List ℕ} {f : Counts} → Stores b m a p q f → Ready s toks p q f → (length p ≡ length b) × (length q ≡ length m)
+    stored_size : {a : Result Turn Refusal} {p q : List ℕ} {f : Counts} → Stores b m a p q f → Ready s toks p q f → (length p ≡ length b) × (length q ≡ length m)
     stored_size stores_none rd = (refl, refl)
     stored_size (stores_name {c = c1} {e = e}) rd = (stored_long most_names b c1.used e l.names (omega (arith, rd.bound, l.names, sizes)), refl)
       where
@@ -512,60 +513,60 @@ module _ {s toks ws : List ℕ} {i : ℕ} {x0 u0 x u b m : List ℕ} {c : Counts
           runs = λ all a. let w = l.runs all a in runs_on all w (h w.number w.known w.rest w.numbered w.knows w.stands);
         }
 
-  module _ {r : Turn} (h : Turned s ws i b m x u c y v r) (f : length y ≡ length x) (g : length v ≡ length u) where
-    pub again_went : {d : Counts} → r ≡ Went d → Looped s toks ws x0 u0 y v b m d (i + 1)
+  module _ {r : Result Turn Refusal} (h : Turned s ws i b m x u c y v r) (f : length y ≡ length x) (g : length v ≡ length u) where
+    pub again_went : {d : Counts} → r ≡ Ok (Went d) → Looped s toks ws x0 u0 y v b m d (i + 1)
     again_went e = again stores_none (subst (Turned s ws i b m x u c y v) e h) f g
 
-    pub again_name : {d d' : Counts} {e : Entry} {b2 : List ℕ} → r ≡ Binds d e → b2 ≡ stored most_names b d.used e → d' ≡ plus_name d → Looped s toks ws x0 u0 y v b2 m d' (i + 1)
-    again_name e p q = rw (p, q) (again stores_name (subst (Turned s ws i b m x u c y v) e h) f g)
+    pub again_name : {d d' : Counts} {e : Entry} {b2 : List ℕ} → r ≡ Ok (Binds d e) → b2 ≡ stored (length b / name_width) b d.used e → d' ≡ plus_name d → Looped s toks ws x0 u0 y v b2 m d' (i + 1)
+    again_name e p q = let room : length b / name_width ≡ most_names = omega (arith, l.names) in rw (p, q, room) (again stores_name (subst (Turned s ws i b m x u c y v) e h) f g)
 
-    pub again_import : {d d' : Counts} {e : Entry} {m2 : List ℕ} → r ≡ Imports d e → m2 ≡ stored most_imports m d.imported e → d' ≡ plus_import d → Looped s toks ws x0 u0 y v b m2 d' (i + 1)
-    again_import e p q = rw (p, q) (again stores_import (subst (Turned s ws i b m x u c y v) e h) f g)
+    pub again_import : {d d' : Counts} {e : Entry} {m2 : List ℕ} → r ≡ Ok (Imports d e) → m2 ≡ stored (length m / name_width) m d.imported e → d' ≡ plus_import d → Looped s toks ws x0 u0 y v b m2 d' (i + 1)
+    again_import e p q = let room : length m / name_width ≡ most_imports = omega (arith, l.modules) in rw (p, q, room) (again stores_import (subst (Turned s ws i b m x u c y v) e h) f g)
 
-  refused_by : (number at n : ℕ) (k : Known) (ds : List Diag) (hs : List Held) (ls : List ℕ) (ss : List Stmt)
-      → RowTurns s ws i n k c x u (Refused number at) y v ss → ComesTo s x0 u0 (outcome.Refused number at) y v (run ts ss n k ds hs ls)
-  refused_by number at n k ds hs ls ss (passes a e f g) = never (cc)
-  refused_by number at n k ds hs ls (st ∷ ss) (takes a t) = by (stmt ts n k st) refl t.turn
+  refused_by : (f : Refusal) (n : ℕ) (k : Known) (ds : List Diag) (hs : List Held) (ls : List ℕ) (ss : List Stmt)
+      → RowTurns s ws i n k c x u (Err f) y v ss → ComesTo s x0 u0 (Err f) y v (run ts ss n k ds hs ls)
+  refused_by f n k ds hs ls ss (passes a e y-is v-is) = never (cc)
+  refused_by f n k ds hs ls (st ∷ ss) (takes a t) = by (stmt ts n k st) refl t.turn
     where
-      by : (z : judgements.Turn) → stmt ts n k st ≡ z → TurnOf s (Valued ts n k st) k (plus_number c) x u (Refused number at) y v z → ComesTo s x0 u0 (outcome.Refused number at) y v (run ts (st ∷ ss) n k ds hs ls)
+      by : (z : judgements.Turn) → stmt ts n k st ≡ z → TurnOf s (Valued ts n k st) k (plus_number c) x u (Err f) y v z → ComesTo s x0 u0 (Err f) y v (run ts (st ∷ ss) n k ds hs ls)
       by (goes k' es gs ms) e w = absurd w
-      by (refuses o p) e w = subst (ComesTo s x0 u0 (outcome.Refused number at) y v) (sym (run_refuses ts st ss n k ds hs ls e)) w
+      by (refuses o p) e w = subst (ComesTo s x0 u0 (Err f) y v) (sym (run_refuses ts st ss n k ds hs ls e)) w
 
   -- there is room for what a turn binds or imports
-  module _ {r : Turn} (h : Turned s ws i b m x u c y v r) where
+  module _ {r : Result Turn Refusal} (h : Turned s ws i b m x u c y v r) where
     turned : RowTurns s ws i (c.number + 1) (known_in s b m c) c x u r y v l.fits.list
     turned = h (c.number + 1) (known_in s b m c) l.fits.list refl (record { is = refl }) l.fits.stands
 
-    pub room_name : {d : Counts} {e : Entry} → r ≡ Binds d e → d.used < most_names
-    room_name {d} {e} q = by l.fits.list (subst (λ (z : Turn). RowTurns s ws i (c.number + 1) (known_in s b m c) c x u z y v l.fits.list) q turned)
+    pub room_name : {d : Counts} {e : Entry} → r ≡ Ok (Binds d e) → d.used < most_names
+    room_name {d} {e} q = by l.fits.list (subst (λ (z : Result Turn Refusal). RowTurns s ws i (c.number + 1) (known_in s b m c) c x u z y v l.fits.list) q turned)
       where
-        of : (P : Type 0) (t : judgements.Turn) → TurnOf s P (known_in s b m c) (plus_number c) x u (Binds d e) y v t → d.used < most_names
+        of : (P : Type 0) (t : judgements.Turn) → TurnOf s P (known_in s b m c) (plus_number c) x u (Ok (Binds d e)) y v t → d.used < most_names
         of P (goes k' ds hs ls) a = rw (used_same a.1) a.0.room
         of P (refuses o t) a = absurd a
 
-        by : (ss : List Stmt) → RowTurns s ws i (c.number + 1) (known_in s b m c) c x u (Binds d e) y v ss → d.used < most_names
+        by : (ss : List Stmt) → RowTurns s ws i (c.number + 1) (known_in s b m c) c x u (Ok (Binds d e)) y v ss → d.used < most_names
         by ss (passes a f g z) = never (cc)
         by (st ∷ ss) (takes a t) = of (Valued ts (c.number + 1) (known_in s b m c) st) (stmt ts (c.number + 1) (known_in s b m c) st) t.turn
 
-    pub room_import : {d : Counts} {e : Entry} → r ≡ Imports d e → d.imported < most_imports
-    room_import {d} {e} q = by l.fits.list (subst (λ (z : Turn). RowTurns s ws i (c.number + 1) (known_in s b m c) c x u z y v l.fits.list) q turned)
+    pub room_import : {d : Counts} {e : Entry} → r ≡ Ok (Imports d e) → d.imported < most_imports
+    room_import {d} {e} q = by l.fits.list (subst (λ (z : Result Turn Refusal). RowTurns s ws i (c.number + 1) (known_in s b m c) c x u z y v l.fits.list) q turned)
       where
-        of : (P : Type 0) (t : judgements.Turn) → TurnOf s P (known_in s b m c) (plus_number c) x u (Imports d e) y v t → d.imported < most_imports
+        of : (P : Type 0) (t : judgements.Turn) → TurnOf s P (known_in s b m c) (plus_number c) x u (Ok (Imports d e)) y v t → d.imported < most_imports
         of P (goes k' ds hs ls) a = rw (imported_same a.1) a.0.room
         of P (refuses o t) a = absurd a
 
-        by : (ss : List Stmt) → RowTurns s ws i (c.number + 1) (known_in s b m c) c x u (Imports d e) y v ss → d.imported < most_imports
+        by : (ss : List Stmt) → RowTurns s ws i (c.number + 1) (known_in s b m c) c x u (Ok (Imports d e)) y v ss → d.imported < most_imports
         by ss (passes a f g z) = never (cc)
         by (st ∷ ss) (takes a t) = of (Valued ts (c.number + 1) (known_in s b m c) st) (stmt ts (c.number + 1) (known_in s b m c) st) t.turn
 
-  pub run_stopped : {r : Turn} {number at : ℕ} → Turned s ws i b m x u c y v r → r ≡ Refused number at → (all : List Stmt) → StmtsAt ws 0 all → AllSound ts all
-      → Comes s x0 u0 (outcome.Refused number at) y v (judge_all ts all)
-  run_stopped {number = number} {at} h e all a sound =
+  pub run_stopped : {r : Result Turn Refusal} {f : Refusal} → Turned s ws i b m x u c y v r → r ≡ Err f → (all : List Stmt) → StmtsAt ws 0 all → AllSound ts all
+      → Comes s x0 u0 (Err f) y v (judge_all ts all)
+  run_stopped {f = f} h e all a sound =
       let w = l.runs all a in
       let t = subst (Turned s ws i b m x u c y v) e h in
       record {
-        come = subst (ComesTo s x0 u0 (outcome.Refused number at) y v) (sym w.comes)
-            (refused_by number at w.number w.known w.found w.held w.looks w.rest (t w.number w.known w.rest w.numbered w.knows w.stands));
+        come = subst (ComesTo s x0 u0 (Err f) y v) (sym w.comes)
+            (refused_by f w.number w.known w.found w.held w.looks w.rest (t w.number w.known w.rest w.numbered w.knows w.stands));
       }
 
 -- past the last row no statement is left
@@ -577,7 +578,7 @@ none_left l (a_let h k r a) = absurd (omega (arith, l, h))
 none_left l (an_expr h k r a) = absurd (omega (arith, l, h))
 
 pub finished : {s toks ws x0 u0 x u b m : List ℕ} {c : Counts} {i : ℕ} → Looped s toks ws x0 u0 x u b m c i → length ws / node_width ≤ i
-    → (all : List Stmt) → StmtsAt ws 0 all → AllSound (contents (tokens.tokens s)) all → Comes s x0 u0 (outcome.Judged c) x u (judge_all (contents (tokens.tokens s)) all)
+    → (all : List Stmt) → StmtsAt ws 0 all → AllSound (contents (tokens.tokens s)) all → Comes s x0 u0 (Ok c) x u (judge_all (contents (tokens.tokens s)) all)
 unfolding run
 finished {s} {x0 = x0} {u0} {x} {u} {c = c} l h all a sound =
     let w = l.runs all a in
@@ -586,4 +587,4 @@ finished {s} {x0 = x0} {u0} {x} {u} {c = c} l h all a sound =
     w.comes ∙ ap (λ (z : List Stmt). run ts z w.number w.known w.found w.held w.looks) (none_left h w.stands) in
     let found : Found s x0 u0 c x u w.found w.held w.looks =
     record { adds = w.grows; statements = w.statements; stmts = λ z. ((w.clean sound).1 z).1 } in
-    record { come = subst (ComesTo s x0 u0 (outcome.Judged c) x u) (sym e) found }
+    record { come = subst (ComesTo s x0 u0 (Ok c) x u) (sym e) found }

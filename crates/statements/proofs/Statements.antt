@@ -6,6 +6,8 @@ use Prim.Native.Nat.{ℕ, ◌+◌, ◌*◌, ◌≤◌, ◌<◌}
 use native.Mathlib.Omega.{arith}
 use borrow.Author.Tests.{ne_eqb}
 use lib.ListN.{length}
+use Rattle.std.specs.Prelude as prelude
+use Rattle.std.specs.Prelude.{Some, None, Ok, Err}
 use Rattle.language.specs.Integers.{IntType, u8, u16, u32, u64, smallest}
 use Rattle.language.specs.Tokens as tokens
 use Rattle.language.specs.Tokens.{Content, contents}
@@ -35,15 +37,14 @@ use Rattle.findings.proofs.Adds.{adds_none, adds_last, adds_reported, adds_count
 use Rattle.findings.proofs.Rows.{no_rows}
 use Rattle.findings.proofs.Texts.{at_token_lem}
 use Rattle.values.specs.declared.Term.{Term}
-use Rattle.values.specs.declared.Judged.TheVariants.{Val, Err, Poisoned, Stopped}
-use Rattle.values.specs.declared.Narrowed.{Narrowed}
-use Rattle.values.specs.declared.Narrowed.TheVariants as narrow
+use Rattle.values.specs.declared.Halt.TheVariants as halt
 use Rattle.values.specs.Values.{term_as, narrowed_as, judged_as, TypeShown, Narrow}
 use Rattle.holding.specs.declared.Step.{Step}
 use Rattle.holding.specs.Holding.{most_rows, Puts, Agrees}
 use Rattle.judging.specs.Judging.{most_findings, RepAt, LookFits, Fits, Left}
 use Rattle.judging.proofs.Steps.{left_of_lem}
-use Rattle.statements.specs.declared.Turn.TheVariants.{Went, Refused}
+use Rattle.statements.specs.declared.Turn.TheVariants.{Went}
+use Rattle.statements.specs.declared.Refusal.TheVariants.{Calls}
 use Rattle.statements.specs.Checking.{held_to, unheld, Room, StmtFits, deed_number, GoesOf, IsVal, Does, Tells, TurnOf, Turns, Values}
 use Rattle.statements.proofs.Growing.{adds_unheld, grows_none, grows_held, grows_after, grows_if}
 
@@ -151,11 +152,11 @@ module _ (s : List ℕ) (t : ℕ) {v : Term} {ty : «Type»} {kind next : ℕ} {
 
 -- ---- a value that is told of
 
-as_fits : (o : Option terms.Term) {w : Term} → narrow.Fits w ≡ narrowed_as o → (p : terms.Term) × (o ≡ some p) × (w ≡ term_as p)
+as_fits : (o : Option terms.Term) {w : Term} → Some w ≡ narrowed_as o → (p : terms.Term) × (o ≡ some p) × (w ≡ term_as p)
 as_fits (some p) e = (p, refl, cc)
 as_fits none e = never (cc)
 
-as_large : (o : Option terms.Term) → narrow.TooLarge ≡ narrowed_as o → o ≡ none
+as_large : (o : Option terms.Term) → None ≡ narrowed_as o → o ≡ none
 as_large (some p) e = never (cc)
 as_large none e = refl
 
@@ -184,8 +185,8 @@ large_parts (atom p a) q = refl
 large_parts (called p c g vs) q = never (cc)
 large_parts (divided p a b) q = never (cc)
 
-module _ (s : List ℕ) (t : ℕ) {v : Term} {r : Narrowed} {next : ℕ} {c : Counts} {x u : List ℕ} (na : Narrow v r) where
-  pub tells_fits : {w : Term} {c' : Counts} {y z : List ℕ} → r ≡ narrow.Fits w → Does s t w next c x u c' y z → Tells s t v next c x u c' y z
+module _ (s : List ℕ) (t : ℕ) {v : Term} {r : prelude.Option Term} {next : ℕ} {c : Counts} {x u : List ℕ} (na : Narrow v r) where
+  pub tells_fits : {w : Term} {c' : Counts} {y z : List ℕ} → r ≡ Some w → Does s t w next c x u c' y z → Tells s t v next c x u c' y z
   tells_fits {w} {c'} {y} {z} q d =
       record {
         is = λ n k e h num sl l.
@@ -195,7 +196,7 @@ module _ (s : List ℕ) (t : ℕ) {v : Term} {r : Narrowed} {next : ℕ} {c : Co
             subst (λ (b : Option terms.Term). GoesOf s (Unit {0}) k c x h c' y z (sized (ts s) n k t b [] [])) (sym o.1) (d.is n k o.0 h num sl m);
       }
 
-  pub tells_large : {tok : Token} {d : Diagnostic} {c' : Counts} {y : List ℕ} → r ≡ narrow.TooLarge → tok ≡ token_as (token_of s t) → d ≡ at_token tok IntegralTooLarge
+  pub tells_large : {tok : Token} {d : Diagnostic} {c' : Counts} {y : List ℕ} → r ≡ None → tok ≡ token_as (token_of s t) → d ≡ at_token tok IntegralTooLarge
       → Reports c d x c' y → Tells s t v next c x u c' y u
   tells_large {c' = c'} {y} q at g rep =
       record {
@@ -210,7 +211,7 @@ module _ (s : List ℕ) (t : ℕ) {v : Term} {r : Narrowed} {next : ℕ} {c : Co
 
 module _ (s : List ℕ) (P : Type 0) (n t : ℕ) (k : Known) {c c1 : Counts} (c' : Counts) {x y : List ℕ} (u z w : List ℕ) {ws : List Diag} {ls : List ℕ} where
   after_warnings : (o : Option terms.Term) → Adds s c x c1 y ws ls → GoesOf s (Unit {0}) k c1 y u c' z w (sized (ts s) n k t o [] [])
-      → TurnOf s P k c x u (Went c') z w (sized (ts s) n k t o ws ls)
+      → TurnOf s P k c x u (Ok (Went c')) z w (sized (ts s) n k t o ws ls)
   after_warnings (some v) a g = (g.0, grows_if (λ p. tt) (grows_after a g.1))
   after_warnings none a g = (g.0, grows_if (λ p. tt) (grows_after a g.1))
 
@@ -222,8 +223,8 @@ module _ (s : List ℕ) (n : ℕ) (k : Known) (e : Expr) {step : Step} {c : Coun
   still : n ≡ step.counts.number
   still = num ∙ sym (adds_number h.adds)
 
-  pub expr_val : {f : Term} {t : ℕ} {c' : Counts} {z w : List ℕ} → step.out ≡ Val f → t ≡ first_of e → Tells s t f step.next step.counts y v c' z w
-      → Turns s n k (expr' e) c x u (Went c') z w
+  pub expr_val : {f : Term} {t : ℕ} {c' : Counts} {z w : List ℕ} → step.out ≡ Ok f → t ≡ first_of e → Tells s t f step.next step.counts y v c' z w
+      → Turns s n k (expr' e) c x u (Ok (Went c')) z w
   unfolding stmt
   expr_val {f} {t} {c'} {z} {w} q at g =
       let l = left_of_lem j h q in
@@ -233,14 +234,14 @@ module _ (s : List ℕ) (n : ℕ) (k : Known) (e : Expr) {step : Step} {c : Coun
       let P = IsVal j.out in
       let turned = after_warnings s P n t k c' u z w (narrowed l.0) h.adds told_of in
       record {
-        turn = subst (λ (o : judgements.Judged terms.Term). TurnOf s P k c x u (Went c') z w (told (ts s) n k (first_of e) o j.warns j.looks)) (sym l.1)
-            (subst (λ (b : ℕ). TurnOf s P k c x u (Went c') z w (sized (ts s) n k b (narrowed l.0) j.warns j.looks)) at turned);
+        turn = subst (λ (o : judgements.Judged terms.Term). TurnOf s P k c x u (Ok (Went c')) z w (told (ts s) n k (first_of e) o j.warns j.looks)) (sym l.1)
+            (subst (λ (b : ℕ). TurnOf s P k c x u (Ok (Went c')) z w (sized (ts s) n k b (narrowed l.0) j.warns j.looks)) at turned);
       }
 
   abbrev Told : judgements.Judged terms.Term → Counts → List ℕ → Type 0
-  Told o c' z = TurnOf s (IsVal o) k c x u (Went c') z v (told (ts s) n k (first_of e) o j.warns j.looks)
+  Told o c' z = TurnOf s (IsVal o) k c x u (Ok (Went c')) z v (told (ts s) n k (first_of e) o j.warns j.looks)
 
-  told_err : (o : judgements.Judged terms.Term) {f : Diagnostic} {c' : Counts} {z : List ℕ} → Err f ≡ judged_as s o → Reports step.counts f y c' z → Told o c' z
+  told_err : (o : judgements.Judged terms.Term) {f : Diagnostic} {c' : Counts} {z : List ℕ} → Err (halt.Found f) ≡ judged_as s o → Reports step.counts f y c' z → Told o c' z
   told_err (val d) q r = never (cc)
   told_err (err at m) {f} q r =
       let w : f ≡ diagnostic_as s at m = cc in
@@ -248,28 +249,28 @@ module _ (s : List ℕ) (n : ℕ) (k : Known) (e : Expr) {step : Step} {c : Coun
   told_err poisoned q r = never (cc)
   told_err (stopped p) q r = never (cc)
 
-  told_none : (o : judgements.Judged terms.Term) → Poisoned ≡ judged_as s o → Told o step.counts y
+  told_none : (o : judgements.Judged terms.Term) → Err halt.Poisoned ≡ judged_as s o → Told o step.counts y
   told_none (val d) q = never (cc)
   told_none (err at m) q = never (cc)
   told_none poisoned q = (refl, grows_none h.adds sl (λ p. absurd p))
   told_none (stopped p) q = never (cc)
 
-  told_stop : (o : judgements.Judged terms.Term) {p : ℕ} → Stopped p ≡ judged_as s o
-      → TurnOf s (IsVal o) k c x u (Refused 8 p) y v (told (ts s) n k (first_of e) o j.warns j.looks)
+  told_stop : (o : judgements.Judged terms.Term) {p : ℕ} → Err (halt.Stopped p) ≡ judged_as s o
+      → TurnOf s (IsVal o) k c x u (Err (Calls p)) y v (told (ts s) n k (first_of e) o j.warns j.looks)
   told_stop (val d) q = never (cc)
   told_stop (err at m) q = never (cc)
   told_stop poisoned q = never (cc)
   told_stop (stopped t) q = (refl, cc)
 
-  pub expr_err : {f : Diagnostic} {c' : Counts} {z : List ℕ} → step.out ≡ Err f → Reports step.counts f y c' z → Turns s n k (expr' e) c x u (Went c') z v
+  pub expr_err : {f : Diagnostic} {c' : Counts} {z : List ℕ} → step.out ≡ Err (halt.Found f) → Reports step.counts f y c' z → Turns s n k (expr' e) c x u (Ok (Went c')) z v
   unfolding stmt
   expr_err q r = record { turn = told_err j.out (sym q ∙ h.out) r }
 
-  pub expr_none : step.out ≡ Poisoned → Turns s n k (expr' e) c x u (Went step.counts) y v
+  pub expr_none : step.out ≡ Err halt.Poisoned → Turns s n k (expr' e) c x u (Ok (Went step.counts)) y v
   unfolding stmt
   expr_none q = record { turn = told_none j.out (sym q ∙ h.out) }
 
-  pub expr_stop : {p : ℕ} → step.out ≡ Stopped p → Turns s n k (expr' e) c x u (Refused 8 p) y v
+  pub expr_stop : {p : ℕ} → step.out ≡ Err (halt.Stopped p) → Turns s n k (expr' e) c x u (Err (Calls p)) y v
   unfolding stmt
   expr_stop q = record { turn = told_stop j.out (sym q ∙ h.out) }
 

@@ -4,6 +4,7 @@ use mathlib.Core.List.{List}
 use Prim.Native.Nat.{ℕ, ◌+◌, ◌*◌, ◌≤◌, ◌<◌}
 use native.Mathlib.Omega.{arith}
 use lib.ListN.{length}
+use Rattle.std.specs.Prelude.{Result, Ok}
 use Rattle.language.specs.Sentences.{Expr, Stmt, import', let', expr', program_size, node_width}
 use Rattle.language.specs.Judgements.{Known, most_names}
 use Rattle.rows.specs.Rows.{node_word}
@@ -13,6 +14,7 @@ use Rattle.holding.specs.Holding.{most_rows}
 use Rattle.judging.specs.Judging.{most_findings, Knows, Ready, RepAt}
 use Rattle.statements.specs.declared.Turn.{Turn}
 use Rattle.statements.specs.declared.Turn.TheVariants.{Went}
+use Rattle.statements.specs.declared.Refusal.{Refusal}
 use Rattle.statements.specs.Checking.{plus_number, Room, StmtFits, StmtsAt, at_end, no_stmt, an_import, a_let, an_expr, RowFits, RowTurns, passes, takes, Turns}
 
 -- ---- a statement is begun, or a name searched: what was known stays so
@@ -41,7 +43,7 @@ module _ (c : Counts) {d : Counts} (b : d ≡ plus_number c) where
   begun_number e = e ∙ sym (ap (λ (z : Counts). z.number) b)
 
   -- a turn that was taken from there
-  from_there : {s : List ℕ} {n : ℕ} {k : Known} {st : Stmt} {x u y v : List ℕ} {r : Turn} → Turns s n k st d x u r y v → Turns s n k st (plus_number c) x u r y v
+  from_there : {s : List ℕ} {n : ℕ} {k : Known} {st : Stmt} {x u y v : List ℕ} {r : Result Turn Refusal} → Turns s n k st d x u r y v → Turns s n k st (plus_number c) x u r y v
   from_there {s} {n} {k} {st} {x} {u} {y} {v} {r} g = subst (λ (z : Counts). Turns s n k st z x u r y v) b g
 
 -- ---- rows
@@ -78,7 +80,7 @@ module _ {ws : List ℕ} {i : ℕ} (inside : node_width * i + node_width ≤ len
   -- what it gives
 
   module _ (s : List ℕ) (n : ℕ) (k : Known) (c : Counts) (x u : List ℕ) {d : Counts} (b : d ≡ plus_number c) where
-    pub row_import : {r : Turn} {y : List ℕ} {t : ℕ} {ss : List Stmt} → node_word ws i 0 ≡ 11 → t ≡ node_word ws i 1 → StmtsAt ws i ss
+    pub row_import : {r : Result Turn Refusal} {y : List ℕ} {t : ℕ} {ss : List Stmt} → node_word ws i 0 ≡ 11 → t ≡ node_word ws i 1 → StmtsAt ws i ss
         → Turns s n k (import' t) d x u r y u → RowTurns s ws i n k c x u r y u ss
     row_import q e (at_end l) g = absurd (omega (arith, inside))
     row_import q e (no_stmt f h on) g = absurd (omega (arith, q))
@@ -86,7 +88,7 @@ module _ {ws : List ℕ} {i : ℕ} (inside : node_width * i + node_width ≤ len
     row_import q e (a_let f h z on) g = absurd (omega (arith, q))
     row_import q e (an_expr f h z on) g = absurd (omega (arith, q))
 
-    pub row_let : {r : Turn} {y v : List ℕ} {ss : List Stmt} → node_word ws i 0 ≡ 12 → StmtsAt ws i ss
+    pub row_let : {r : Result Turn Refusal} {y v : List ℕ} {ss : List Stmt} → node_word ws i 0 ≡ 12 → StmtsAt ws i ss
         → ((e : Expr) → RepAt ws (node_word ws i 2) e → Turns s n k (let' (node_word ws i 1) e) d x u r y v)
         → RowTurns s ws i n k c x u r y v ss
     row_let q (at_end l) g = absurd (omega (arith, inside))
@@ -95,7 +97,7 @@ module _ {ws : List ℕ} {i : ℕ} (inside : node_width * i + node_width ≤ len
     row_let q (a_let {e = e} f h z on) g = takes on (from_there c b (g e z))
     row_let q (an_expr f h z on) g = absurd (omega (arith, q))
 
-    pub row_expr : {r : Turn} {y v : List ℕ} {ss : List Stmt} → node_word ws i 0 ≡ 13 → StmtsAt ws i ss
+    pub row_expr : {r : Result Turn Refusal} {y v : List ℕ} {ss : List Stmt} → node_word ws i 0 ≡ 13 → StmtsAt ws i ss
         → ((e : Expr) → RepAt ws (node_word ws i 2) e → Turns s n k (expr' e) d x u r y v) → RowTurns s ws i n k c x u r y v ss
     row_expr q (at_end l) g = absurd (omega (arith, inside))
     row_expr q (no_stmt f h on) g = absurd (omega (arith, q))
@@ -106,7 +108,7 @@ module _ {ws : List ℕ} {i : ℕ} (inside : node_width * i + node_width ≤ len
   -- a row of an expression is passed
   module _ (s : List ℕ) (n : ℕ) (k : Known) (c : Counts) (x u : List ℕ) where
     pub row_passed : {ss : List Stmt} → (node_word ws i 0 ≡ 11 → ⊥) → (node_word ws i 0 ≡ 12 → ⊥) → (node_word ws i 0 ≡ 13 → ⊥) → StmtsAt ws i ss
-        → RowTurns s ws i n k c x u (Went c) x u ss
+        → RowTurns s ws i n k c x u (Ok (Went c)) x u ss
     row_passed p q r (at_end l) = absurd (omega (arith, inside))
     row_passed p q r (no_stmt f h on) = passes on refl refl refl
     row_passed p q r (an_import f h on) = absurd (p h)

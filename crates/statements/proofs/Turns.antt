@@ -8,6 +8,7 @@ use native.Mathlib.Omega.{arith}
 use borrow.Author.Tests.{lt-ltb, le-ltb}
 use lib.Dec.{ltb}
 use lib.ListN.{length}
+use Rattle.std.specs.Prelude.{Result, Ok, Err}
 use Rattle.constants.specs.Constants.{or_zero}
 use Rattle.language.specs.Choice.{if'}
 use Rattle.language.specs.Tokens as tokens
@@ -36,8 +37,8 @@ use Rattle.findings.proofs.Adds.{adds_none, adds_then, adds_last, adds_look, add
 use Rattle.findings.proofs.Rows.{no_rows}
 use Rattle.findings.proofs.Texts.{at_token_lem}
 use Rattle.values.specs.declared.Term.{Term}
-use Rattle.values.specs.declared.Judged as code
-use Rattle.values.specs.declared.Judged.TheVariants.{Val, Err, Poisoned, Stopped}
+use Rattle.values.specs.Values as code
+use Rattle.values.specs.declared.Halt.TheVariants as halt
 use Rattle.values.specs.Values.{term_as, atom_as, form_of, kind_of, low_of, high_of, judged_as, TypeShown, Used}
 use Rattle.paths.specs.Paths.{or_none}
 use Rattle.paths.proofs.Paths.{found_module}
@@ -49,6 +50,8 @@ use Rattle.judging.proofs.Steps as steps
 use Rattle.statements.proofs.StmtRows.{searched_number}
 use Rattle.statements.specs.declared.Turn.{Turn}
 use Rattle.statements.specs.declared.Turn.TheVariants as turn
+use Rattle.statements.specs.declared.Refusal.{Refusal}
+use Rattle.statements.specs.declared.Refusal.TheVariants.{Calls, Names}
 use Rattle.statements.specs.Checking.{no_value, plus_slot, unheld, Enters, IsVal, BindsName, TurnOf, Turns, Values, BindsValue, Binds, BoundTwice}
 use Rattle.statements.proofs.Growing.{adds_unheld, grows_none, grows_held}
 
@@ -93,11 +96,11 @@ module _ (s : List ℕ) (n t : ℕ) (k : Known) (b is u x : List ℕ) (c : Count
   place_is = same_place (names_in s is c.imported 0) p o
 
   pub imports_again : {d : Diagnostic} {c' : Counts} {y : List ℕ} → i < c.imported → d ≡ at_token tok MultipleImports → Reports c d x c' y
-      → Turns s n k (import' t) c x u (turn.Went c') y u
+      → Turns s n k (import' t) c x u (Ok (turn.Went c')) y u
   imports_again {c' = c'} {y = y} h q r =
       let e = ap (λ (l : List Import). find_import l (name_at ts t)) (imports_are kn) ∙ import_found s is (name_at ts t) c.imported i place_is h in
       record {
-        turn = subst (λ (z : judgements.Turn). TurnOf s (Unit {0}) k c x u (turn.Went c') y u z) (sym (import_again ts n k t e))
+        turn = subst (λ (z : judgements.Turn). TurnOf s (Unit {0}) k c x u (Ok (turn.Went c')) y u z) (sym (import_again ts n k t e))
             (refl, grows_none (adds_reported s n t multiple_imports num (q ∙ at_token_lem s t multiple_imports at refl) r) (slots_are kn) (λ _. refl));
       }
 
@@ -105,11 +108,11 @@ module _ (s : List ℕ) (n t : ℕ) (k : Known) (b is u x : List ℕ) (c : Count
     absent : find_import k.imports (name_at ts t) ≡ none
     absent = ap (λ (l : List Import). find_import l (name_at ts t)) (imports_are kn) ∙ import_lost s is (name_at ts t) c.imported i place_is h
 
-    pub imports_full : most_imports ≤ c.imported → Turns s n k (import' t) c x u (turn.Refused 9 t) x u
+    pub imports_full : most_imports ≤ c.imported → Turns s n k (import' t) c x u (Err (Names t)) x u
     imports_full l =
         let f : ltb (length k.imports) most_imports ≡ false = le-ltb (length k.imports) most_imports (omega (arith, imports_many kn, l)) in
         let e : stmt ts n k (import' t) ≡ refuses names_number t = import_new ts n k t absent ∙ ap (λ (z : Bool). if' z (imported ts n k t (lookup 0 (name_at ts t))) (refuses names_number t)) f in
-        record { turn = subst (λ (z : judgements.Turn). TurnOf s (Unit {0}) k c x u (turn.Refused 9 t) x u z) (sym e) (refl, refl) }
+        record { turn = subst (λ (z : judgements.Turn). TurnOf s (Unit {0}) k c x u (Err (Names t)) x u z) (sym e) (refl, refl) }
 
     module _ (l : c.imported < most_imports) {kind key : ℕ} {e : Entry} (made : key ≡ key_of (name_at ts t)) (m : kind ≡ or_zero (lookup 0 (name_at ts t)))
         (en : Enters tok t key (no_value kind) e) where
@@ -125,12 +128,12 @@ module _ (s : List ℕ) (n t : ℕ) (k : Known) (b is u x : List ℕ) (c : Count
           ≡ known (k.imports ++ record { name = name_at ts t; found = or_none e.kind } ∷ []) k.bindings k.slots
       by o q = let z = found_is ∙ q in rw z
 
-      found_by_lem : (o : Option ℕ) → lookup 0 (name_at ts t) ≡ o → (kind ≡ 0 → ⊥) → TurnOf s (Unit {0}) k c x u (turn.Imports c e) x u (imported ts n k t o)
+      found_by_lem : (o : Option ℕ) → lookup 0 (name_at ts t) ≡ o → (kind ≡ 0 → ⊥) → TurnOf s (Unit {0}) k c x u (Ok (turn.Imports c e)) x u (imported ts n k t o)
       found_by_lem none q z = absurd (z (m ∙ ap or_zero q))
       found_by_lem (some j) q z = (record { token = t; named = en.named s at made; known = by (some j) q; room = l }, grows_none (adds_none s c x) (slots_are kn) (λ _. refl))
 
       failed_by : (o : Option ℕ) → lookup 0 (name_at ts t) ≡ o → kind ≡ 0 → {d : Diagnostic} {c' : Counts} {y : List ℕ} → d ≡ at_token tok UnknownModule
-          → Reports c d x c' y → TurnOf s (Unit {0}) k c x u (turn.Imports c' e) y u (imported ts n k t o)
+          → Reports c d x c' y → TurnOf s (Unit {0}) k c x u (Ok (turn.Imports c' e)) y u (imported ts n k t o)
       failed_by none q z g r = (
         record { token = t; named = en.named s at made; known = by none q; room = l },
         grows_none (adds_reported s n t unknown_module num (g ∙ at_token_lem s t unknown_module at refl) r) (slots_are kn) (λ _. refl),
@@ -141,14 +144,14 @@ module _ (s : List ℕ) (n t : ℕ) (k : Known) (b is u x : List ℕ) (c : Count
           let gone : ◌≡◌ {A = Option ℕ} none (some j) = ap or_none (sym none_there) ∙ round in
           never (cc)
 
-      pub imports_found : (kind ≡ 0 → ⊥) → Turns s n k (import' t) c x u (turn.Imports c e) x u
+      pub imports_found : (kind ≡ 0 → ⊥) → Turns s n k (import' t) c x u (Ok (turn.Imports c e)) x u
       imports_found z =
-          record { turn = subst (λ (d : judgements.Turn). TurnOf s (Unit {0}) k c x u (turn.Imports c e) x u d) (sym stepped) (found_by_lem (lookup 0 (name_at ts t)) refl z) }
+          record { turn = subst (λ (d : judgements.Turn). TurnOf s (Unit {0}) k c x u (Ok (turn.Imports c e)) x u d) (sym stepped) (found_by_lem (lookup 0 (name_at ts t)) refl z) }
 
       pub imports_failed : {d : Diagnostic} {c' : Counts} {y : List ℕ} → kind ≡ 0 → d ≡ at_token tok UnknownModule → Reports c d x c' y
-          → Turns s n k (import' t) c x u (turn.Imports c' e) y u
+          → Turns s n k (import' t) c x u (Ok (turn.Imports c' e)) y u
       imports_failed {c' = c'} {y = y} z g r =
-          record { turn = subst (λ (d : judgements.Turn). TurnOf s (Unit {0}) k c x u (turn.Imports c' e) y u d) (sym stepped) (failed_by (lookup 0 (name_at ts t)) refl z g r) }
+          record { turn = subst (λ (d : judgements.Turn). TurnOf s (Unit {0}) k c x u (Ok (turn.Imports c' e)) y u d) (sym stepped) (failed_by (lookup 0 (name_at ts t)) refl z g r) }
 
 -- ---- the value of a `let`
 
@@ -169,7 +172,7 @@ used_agrees {s} {v} {o} {r} {y} {u} {w} {c} {at} e us q p l = by (same_ty ty_voi
         }
 
 module _ {s : List ℕ} {step r : Step} where
-  pub value_used : {v : Term} {o : code.Judged} → step.out ≡ Val v → Used s v o → r ≡ record { out = o; counts = step.counts; next = step.next } → Values s step r
+  pub value_used : {v : Term} {o : code.Judged} → step.out ≡ Ok v → Used s v o → r ≡ record { out = o; counts = step.counts; next = step.next } → Values s step r
   value_used q us e =
       record {
         is = λ x y u w c at j a.
@@ -177,7 +180,7 @@ module _ {s : List ℕ} {step r : Step} where
             rw e (steps.goes j a used l.1 (used_agrees l.0 us refl refl l.2));
       }
 
-pub value_same : {s : List ℕ} {step : Step} → ((w : Term) → step.out ≡ Val w → ⊥) → Values s step step
+pub value_same : {s : List ℕ} {step : Step} → ((w : Term) → step.out ≡ Ok w → ⊥) → Values s step step
 value_same h = record { is = λ x y u w c at j a. steps.stays j a used h }
 
 -- ---- a name that is bound
@@ -234,13 +237,13 @@ module _ (s : List ℕ) (t : ℕ) (k : Known) {c : Counts} (l : c.used < most_na
 
 module _ {s : List ℕ} {tok : Token} {t key : ℕ} {v : Term} {next : ℕ} {c' : Counts} {u : List ℕ} {e : Entry} where
   -- a constant or a slot
-  pub value_atom : v.form ≤ 2 → Enters tok t key v e → BindsValue s tok t key v next c' u (turn.Binds c' e) u
+  pub value_atom : v.form ≤ 2 → Enters tok t key v e → BindsValue s tok t key v next c' u (Ok (turn.Binds c' e)) u
   unfolding parts
   value_atom few en = record { is = λ x y h n k c f ws ls l sl at made a left. on x y h n k c f ws ls l sl at made a left (atom_of f) refl }
     where
       on : (x y h : List ℕ) (n : ℕ) (k : Known) (c : Counts) (f : terms.Term) (ws : List Diag) (ls : List ℕ) → c.used < most_names → c.slots ≡ k.slots
           → tok ≡ token_as (token_of s t) → key ≡ key_of (name_at (contents (tokens.tokens s)) t) → Adds s c x c' y ws ls → Left s h u c.statements f v next
-          → (o : Option Atom) → atom_of f ≡ o → TurnOf s (Unit {0}) k c x h (turn.Binds c' e) y u (bound_as (contents (tokens.tokens s)) n k t f o ws ls)
+          → (o : Option Atom) → atom_of f ≡ o → TurnOf s (Unit {0}) k c x h (Ok (turn.Binds c' e)) y u (bound_as (contents (tokens.tokens s)) n k t f o ws ls)
       on x y h n k c f ws ls l sl at made a left (some b) q =
           let z = atom_is f q in
           let table : u ≡ h = left.table ∙ rw z.1 (sym (no_rows (stmt_row (token_of s)) h (c.statements + 1))) in
@@ -253,7 +256,7 @@ module _ {s : List ℕ} {tok : Token} {t key : ℕ} {v : Term} {next : ℕ} {c' 
       (en : Enters tok t key (record { at = t; form = 2; kind = ty.kind; lo = number; hi = ty.entry }) e) where
     on_slot : (x y h : List ℕ) (n : ℕ) (k : Known) (c : Counts) (f : terms.Term) (ws : List Diag) (ls : List ℕ) → c.used < most_names → c.slots ≡ k.slots
         → tok ≡ token_as (token_of s t) → key ≡ key_of (name_at (contents (tokens.tokens s)) t) → Adds s c x c' y ws ls → Left s h u c.statements f v next
-        → (o : Option Atom) → atom_of f ≡ o → TurnOf s (Unit {0}) k c x h (turn.Binds c2 e) y w (bound_as (contents (tokens.tokens s)) n k t f o ws ls)
+        → (o : Option Atom) → atom_of f ≡ o → TurnOf s (Unit {0}) k c x h (Ok (turn.Binds c2 e)) y w (bound_as (contents (tokens.tokens s)) n k t f o ws ls)
     on_slot x y h n k c f ws ls l sl at made a left (some b) q =
         let z = atom_is f q in
         absurd (omega (arith, many, atom_form z.0 b, ap (λ (r : Term). r.form) (left.value ∙ ap term_as z.1)))
@@ -269,13 +272,13 @@ module _ {s : List ℕ} {tok : Token} {t key : ℕ} {v : Term} {next : ℕ} {c' 
         let here : Puts s c.statements t 1 number v u w = rw (adds_statements a) at put in
         (named_as s t k l at made en (some (slot own (term_type f))) (suc own) refl kind num high, grows_held (lets own) grown slots rows left here refl num)
 
-    pub value_slot : BindsValue s tok t key v next c' u (turn.Binds c2 e) w
+    pub value_slot : BindsValue s tok t key v next c' u (Ok (turn.Binds c2 e)) w
     value_slot = record { is = λ x y h n k c f ws ls l sl at made a left. on_slot x y h n k c f ws ls l sl at made a left (atom_of f) refl }
 
 -- ---- what a value came to
 
 module _ {s : List ℕ} {tok : Token} {t key : ℕ} {step : Step} {x' u' : List ℕ} where
-  pub binds_val : {v : Term} {r : Turn} {w : List ℕ} → step.out ≡ Val v → BindsValue s tok t key v step.next step.counts u' r w → Binds s tok t key step x' u' r x' w
+  pub binds_val : {v : Term} {r : Result Turn Refusal} {w : List ℕ} → step.out ≡ Ok v → BindsValue s tok t key v step.next step.counts u' r w → Binds s tok t key step x' u' r x' w
   binds_val {r = r} {w} q b =
       record {
         is = λ x u n k c j num l sl at made a.
@@ -285,23 +288,23 @@ module _ {s : List ℕ} {tok : Token} {t key : ℕ} {step : Step} {x' u' : List 
       }
 
   module _ {e : Entry} (en : Enters tok t key (no_value 0) e) where
-    pub binds_none : step.out ≡ Poisoned → Binds s tok t key step x' u' (turn.Binds step.counts e) x' u'
+    pub binds_none : step.out ≡ Err halt.Poisoned → Binds s tok t key step x' u' (Ok (turn.Binds step.counts e)) x' u'
     binds_none q = record { is = λ x u n k c j num l sl at made a. by x u n k c j l sl at made a j.out (sym q ∙ a.out) }
       where
         by : (x u : List ℕ) (n : ℕ) (k : Known) (c : Counts) (j : Judgement terms.Term) → c.used < most_names → c.slots ≡ k.slots → tok ≡ token_as (token_of s t)
-            → key ≡ key_of (name_at (contents (tokens.tokens s)) t) → Agrees s step x x' u u' c c.statements j → (o : judgements.Judged terms.Term) → Poisoned ≡ judged_as s o
-            → TurnOf s (IsVal o) k c x u (turn.Binds step.counts e) x' u' (bound (contents (tokens.tokens s)) n k t o j.warns j.looks)
+            → key ≡ key_of (name_at (contents (tokens.tokens s)) t) → Agrees s step x x' u u' c c.statements j → (o : judgements.Judged terms.Term) → Err halt.Poisoned ≡ judged_as s o
+            → TurnOf s (IsVal o) k c x u (Ok (turn.Binds step.counts e)) x' u' (bound (contents (tokens.tokens s)) n k t o j.warns j.looks)
         by x u n k c j l sl at made a (val d) p = never (cc)
         by x u n k c j l sl at made a (err b m) p = never (cc)
         by x u n k c j l sl at made a poisoned p = (failed s t k l at made en refl k.slots, grows_none a.adds sl (λ z. absurd z))
         by x u n k c j l sl at made a (stopped b) p = never (cc)
 
-    pub binds_err : {f : Diagnostic} {c' : Counts} {y : List ℕ} → step.out ≡ Err f → Reports step.counts f x' c' y → Binds s tok t key step x' u' (turn.Binds c' e) y u'
+    pub binds_err : {f : Diagnostic} {c' : Counts} {y : List ℕ} → step.out ≡ Err (halt.Found f) → Reports step.counts f x' c' y → Binds s tok t key step x' u' (Ok (turn.Binds c' e)) y u'
     binds_err {f} {c'} {y} q r = record { is = λ x u n k c j num l sl at made a. by x u n k c j num l sl at made a j.out (sym q ∙ a.out) }
       where
         by : (x u : List ℕ) (n : ℕ) (k : Known) (c : Counts) (j : Judgement terms.Term) → n ≡ c.number → c.used < most_names → c.slots ≡ k.slots → tok ≡ token_as (token_of s t)
-            → key ≡ key_of (name_at (contents (tokens.tokens s)) t) → Agrees s step x x' u u' c c.statements j → (o : judgements.Judged terms.Term) → Err f ≡ judged_as s o
-            → TurnOf s (IsVal o) k c x u (turn.Binds c' e) y u' (bound (contents (tokens.tokens s)) n k t o j.warns j.looks)
+            → key ≡ key_of (name_at (contents (tokens.tokens s)) t) → Agrees s step x x' u u' c c.statements j → (o : judgements.Judged terms.Term) → Err (halt.Found f) ≡ judged_as s o
+            → TurnOf s (IsVal o) k c x u (Ok (turn.Binds c' e)) y u' (bound (contents (tokens.tokens s)) n k t o j.warns j.looks)
         by x u n k c j num l sl at made a (val d) p = never (cc)
         by x u n k c j num l sl at made a (err b m) p =
             let w : f ≡ diagnostic_as s b m = cc in (
@@ -311,11 +314,11 @@ module _ {s : List ℕ} {tok : Token} {t key : ℕ} {step : Step} {x' u' : List 
         by x u n k c j num l sl at made a poisoned p = never (cc)
         by x u n k c j num l sl at made a (stopped b) p = never (cc)
 
-  pub binds_stop : {p : ℕ} → step.out ≡ Stopped p → Binds s tok t key step x' u' (turn.Refused 8 p) x' u'
+  pub binds_stop : {p : ℕ} → step.out ≡ Err (halt.Stopped p) → Binds s tok t key step x' u' (Err (Calls p)) x' u'
   binds_stop {p} q = record { is = λ x u n k c j num l sl at made a. by x u n k c j j.out (sym q ∙ a.out) }
     where
-      by : (x u : List ℕ) (n : ℕ) (k : Known) (c : Counts) (j : Judgement terms.Term) (o : judgements.Judged terms.Term) → Stopped p ≡ judged_as s o
-          → TurnOf s (IsVal o) k c x u (turn.Refused 8 p) x' u' (bound (contents (tokens.tokens s)) n k t o j.warns j.looks)
+      by : (x u : List ℕ) (n : ℕ) (k : Known) (c : Counts) (j : Judgement terms.Term) (o : judgements.Judged terms.Term) → Err (halt.Stopped p) ≡ judged_as s o
+          → TurnOf s (IsVal o) k c x u (Err (Calls p)) x' u' (bound (contents (tokens.tokens s)) n k t o j.warns j.looks)
       by x u n k c j (val d) e = never (cc)
       by x u n k c j (err b m) e = never (cc)
       by x u n k c j poisoned e = never (cc)
@@ -356,7 +359,7 @@ module _ (s : List ℕ) (n t t' : ℕ) (q : t ≡ t') (k : Known) (e : Expr) (b 
   moved : stmt cs n k (let' t' e) ≡ stmt cs n k (let' t e)
   moved = ap (λ (z : ℕ). stmt cs n k (let' z e)) (sym q)
 
-  abbrev Lets : Turn → List ℕ → List ℕ → judgements.Turn → Type 0
+  abbrev Lets : Result Turn Refusal → List ℕ → List ℕ → judgements.Turn → Type 0
   Lets r y v z = TurnOf s (IsVal (value cs n k t e).out) k c x u r y v z
 
   -- the search is counted
@@ -365,12 +368,12 @@ module _ (s : List ℕ) (n t t' : ℕ) (q : t ≡ t') (k : Known) (e : Expr) (b 
 
   pub lets_again : {tok : Token} {first l : ℕ} {d c' : Counts} {y : List ℕ} → d ≡ plus_search c l → l ≡ looked (names_in s b c.used 0) w
       → i < c.used → first ≡ name_word b i 2 → tok ≡ token_as (token_of s t) → BoundTwice s tok first d x c' y
-      → Turns s n k (let' t' e) c x u (turn.Went c') y u
+      → Turns s n k (let' t' e) c x u (Ok (turn.Went c')) y u
   lets_again {first = first} {d = d} {c' = c'} {y = y} g l h f at r =
       let hit = ap (λ (l : List Binding). find l (name_at cs t)) (bindings_are kn) ∙ bound_found s b (name_at cs t) c.used i at_place h in
       let step : stmt cs n k (let' t' e) ≡ goes k (diag n t (already_bound first) ∷ []) [] (look cs n k t e ∷ []) = moved ∙ let_again cs n k t e hit ∙ rw (← f) in
       let found = adds_then (adds_look s (look cs n k t e) (searched g l)) (r.adds n t (searched_number c _ g num) at) in
-      record { turn = subst (Lets (turn.Went c') y u) (sym step) (refl, grows_none found (slots_are kn) (λ _. refl)) }
+      record { turn = subst (Lets (Ok (turn.Went c')) y u) (sym step) (refl, grows_none found (slots_are kn) (λ _. refl)) }
 
   module _ (h : c.used ≤ i) where
     unbound : find k.bindings (name_at cs t) ≡ none
@@ -379,13 +382,13 @@ module _ (s : List ℕ) (n t t' : ℕ) (q : t ≡ t') (k : Known) (e : Expr) (b 
     by_room : (z : Bool) → ltb (length k.bindings) most_names ≡ z → stmt cs n k (let' t' e) ≡ turned cs n k t e z
     by_room z f = moved ∙ let_new cs n k t e unbound ∙ ap (turned cs n k t e) f
 
-    pub lets_full : most_names ≤ c.used → Turns s n k (let' t' e) c x u (turn.Refused 9 t) x u
+    pub lets_full : most_names ≤ c.used → Turns s n k (let' t' e) c x u (Err (Names t)) x u
     lets_full l =
         let f = le-ltb (length k.bindings) most_names (omega (arith, bindings_many kn, l)) in
-        record { turn = subst (Lets (turn.Refused 9 t) x u) (sym (by_room false f)) (refl, refl) }
+        record { turn = subst (Lets (Err (Names t)) x u) (sym (by_room false f)) (refl, refl) }
 
     -- after the value was judged
-    pub lets_bound : {tok : Token} {key l at : ℕ} {first step : Step} {x' u' : List ℕ} {r : Turn} {d : Counts} {y v : List ℕ} → d ≡ plus_search c l
+    pub lets_bound : {tok : Token} {key l at : ℕ} {first step : Step} {x' u' : List ℕ} {r : Result Turn Refusal} {d : Counts} {y v : List ℕ} → d ≡ plus_search c l
         → l ≡ looked (names_in s b c.used 0) w → c.used < most_names → tok ≡ token_as (token_of s t) → key ≡ key_of (name_at cs t) → at ≡ d.statements
         → Agrees s first x x' u u' d at (judge cs n k e) → Values s first step → Binds s tok t key step x' u' r y v → Turns s n k (let' t' e) c x u r y v
     lets_bound {r = r} {d} {y} {v} g p l in_source made here a vs bs =

@@ -1,5 +1,5 @@
 -- How the checker's counts, entries, tables and answers stand for the language's.
-use Rattle.std.specs.Prelude.{ℕ, ◌+◌, ◌*◌, ◌≤◌, ◌<◌, ◌≡◌, eqb, length}
+use Rattle.std.specs.Prelude.{ℕ, ◌+◌, ◌*◌, ◌≤◌, ◌<◌, ◌≡◌, eqb, length, Result, Ok, Err}
 use mathlib.Core.List.{List, [], ◌∷◌, ◌++◌, Memᴰ}
 use Rattle.std.proofs.Math.Option.{Option}
 use Rattle.language.specs.Choice.{if'}
@@ -28,8 +28,8 @@ use Rattle.holding.specs.Holding.{most_rows, put_held, Agrees}
 use Rattle.judging.specs.Judging.{most_findings, RepAt, Left}
 use Rattle.statements.specs.declared.Turn.{Turn}
 use Rattle.statements.specs.declared.Turn.TheVariants as turn
-use Rattle.statements.specs.declared.Outcome.{Outcome}
-use Rattle.statements.specs.declared.Outcome.TheVariants as outcome
+use Rattle.statements.specs.declared.Refusal.{Refusal}
+use Rattle.statements.specs.declared.Refusal.TheVariants.{Calls, Names}
 
 -- ---- counts
 
@@ -191,6 +191,15 @@ pub record Grows (s : List ℕ) (P : Type 0) (c : Counts) (x u : List ℕ) (c' :
   pub statements : c'.statements ≡ c.statements + length (rows_of hs)
   pub stmts : P → v ≡ put_held s u c.statements (rows_of hs)
 
+-- the number of a refusal, and the token where it stands
+abbrev pub refusal_number : Refusal → ℕ
+refusal_number (Calls t) = 8
+refusal_number (Names t) = 9
+
+abbrev pub refusal_token : Refusal → ℕ
+refusal_token (Calls t) = t
+refusal_token (Names t) = t
+
 -- it goes on, and no name is more
 abbrev pub GoesOf : List ℕ → Type 0 → Known → Counts → List ℕ → List ℕ → Counts → List ℕ → List ℕ → judgements.Turn → Type 0
 GoesOf s P k c x u c' y v (goes k' ds hs ls) = (k' ≡ k) × Grows s P c x u c' y v k' ds hs ls
@@ -226,17 +235,17 @@ pub record ImportsName (s : List ℕ) (k : Known) (c : Counts) (e : Entry) (k' :
   pub known : k' ≡ known (k.imports ++ record { name = name_at (contents (tokens.tokens s)) token; found = or_none e.kind } ∷ []) k.bindings k.slots
   pub room : c.imported < most_imports
 
-abbrev pub TurnOf : List ℕ → Type 0 → Known → Counts → List ℕ → List ℕ → Turn → List ℕ → List ℕ → judgements.Turn → Type 0
-TurnOf s P k c x u (turn.Went c') y v (goes k' ds hs ls) = (k' ≡ k) × Grows s P c x u c' y v k' ds hs ls
-TurnOf s P k c x u (turn.Binds c' e) y v (goes k' ds hs ls) = BindsName s k c e k' × Grows s P c x u c' y v k' ds hs ls
-TurnOf s P k c x u (turn.Imports c' e) y v (goes k' ds hs ls) = ImportsName s k c e k' × Grows s P c x u c' y v k' ds hs ls
-TurnOf s P k c x u (turn.Refused m t) y v (goes k' ds hs ls) = ⊥
-TurnOf s P k c x u (turn.Went c') y v (refuses m t) = ⊥
-TurnOf s P k c x u (turn.Binds c' e) y v (refuses m t) = ⊥
-TurnOf s P k c x u (turn.Imports c' e) y v (refuses m t) = ⊥
-TurnOf s P k c x u (turn.Refused m t) y v (refuses m' t') = (m ≡ m') × (t ≡ t')
+abbrev pub TurnOf : List ℕ → Type 0 → Known → Counts → List ℕ → List ℕ → Result Turn Refusal → List ℕ → List ℕ → judgements.Turn → Type 0
+TurnOf s P k c x u (Ok (turn.Went c')) y v (goes k' ds hs ls) = (k' ≡ k) × Grows s P c x u c' y v k' ds hs ls
+TurnOf s P k c x u (Ok (turn.Binds c' e)) y v (goes k' ds hs ls) = BindsName s k c e k' × Grows s P c x u c' y v k' ds hs ls
+TurnOf s P k c x u (Ok (turn.Imports c' e)) y v (goes k' ds hs ls) = ImportsName s k c e k' × Grows s P c x u c' y v k' ds hs ls
+TurnOf s P k c x u (Err r) y v (goes k' ds hs ls) = ⊥
+TurnOf s P k c x u (Ok (turn.Went c')) y v (refuses m t) = ⊥
+TurnOf s P k c x u (Ok (turn.Binds c' e)) y v (refuses m t) = ⊥
+TurnOf s P k c x u (Ok (turn.Imports c' e)) y v (refuses m t) = ⊥
+TurnOf s P k c x u (Err r) y v (refuses m t) = (refusal_number r ≡ m) × (refusal_token r ≡ t)
 
-pub record Turns (s : List ℕ) (n : ℕ) (k : Known) (st : Stmt) (c : Counts) (x u : List ℕ) (r : Turn) (y v : List ℕ) : Type 0 where
+pub record Turns (s : List ℕ) (n : ℕ) (k : Known) (st : Stmt) (c : Counts) (x u : List ℕ) (r : Result Turn Refusal) (y v : List ℕ) : Type 0 where
   pub turn : TurnOf s (Valued (contents (tokens.tokens s)) n k st) k c x u r y v (judgements.stmt (contents (tokens.tokens s)) n k st)
 
 -- the expression of the statement in row i can be judged, and a finding, a row and a slot more be counted
@@ -254,13 +263,13 @@ pub record Values (s : List ℕ) (step r : Step) : Type 0 where
       → Agrees s r x y u v c at (and_then j used)
 
 -- a `let` of the value v, which was judged from the counts c on
-pub record BindsValue (s : List ℕ) (tok : Token) (t key : ℕ) (v : Term) (next : ℕ) (c' : Counts) (u : List ℕ) (r : Turn) (w : List ℕ) : Type 0 where
+pub record BindsValue (s : List ℕ) (tok : Token) (t key : ℕ) (v : Term) (next : ℕ) (c' : Counts) (u : List ℕ) (r : Result Turn Refusal) (w : List ℕ) : Type 0 where
   pub is : (x y h : List ℕ) (n : ℕ) (k : Known) (c : Counts) (e : terms.Term) (ws : List Diag) (ls : List ℕ) → c.used < most_names → c.slots ≡ k.slots
       → tok ≡ token_as (token_of s t) → key ≡ key_of (name_at (contents (tokens.tokens s)) t) → Adds s c x c' y ws ls → Left s h u c.statements e v next
       → TurnOf s (Unit {0}) k c x h r y w (bound_as (contents (tokens.tokens s)) n k t e (atom_of e) ws ls)
 
 -- a `let` after its value was judged: what that came to, and what was added on the way there
-pub record Binds (s : List ℕ) (tok : Token) (t key : ℕ) (step : Step) (x' u' : List ℕ) (r : Turn) (y w : List ℕ) : Type 0 where
+pub record Binds (s : List ℕ) (tok : Token) (t key : ℕ) (step : Step) (x' u' : List ℕ) (r : Result Turn Refusal) (y w : List ℕ) : Type 0 where
   pub is : (x u : List ℕ) (n : ℕ) (k : Known) (c : Counts) (j : judgements.Judgement terms.Term) → n ≡ c.number → c.used < most_names → c.slots ≡ k.slots
       → tok ≡ token_as (token_of s t) → key ≡ key_of (name_at (contents (tokens.tokens s)) t) → Agrees s step x x' u u' c c.statements j
       → TurnOf s (IsVal j.out) k c x u r y w (bound (contents (tokens.tokens s)) n k t j.out j.warns j.looks)
@@ -295,8 +304,8 @@ pub record RowFits (ws : List ℕ) (i : ℕ) (c : Counts) : Type 0 where
 
 -- row i of the statements ss that are left: it passes a row of an expression, or takes a turn with the first. Before, the
 -- tables were x and u.
-pub data RowTurns (s ws : List ℕ) (i n : ℕ) (k : Known) (c : Counts) (x u : List ℕ) (r : Turn) (y v : List ℕ) : List Stmt → Type 0 where
-  passes : {ss : List Stmt} → StmtsAt ws (i + 1) ss → r ≡ turn.Went c → y ≡ x → v ≡ u → RowTurns s ws i n k c x u r y v ss
+pub data RowTurns (s ws : List ℕ) (i n : ℕ) (k : Known) (c : Counts) (x u : List ℕ) (r : Result Turn Refusal) (y v : List ℕ) : List Stmt → Type 0 where
+  passes : {ss : List Stmt} → StmtsAt ws (i + 1) ss → r ≡ Ok (turn.Went c) → y ≡ x → v ≡ u → RowTurns s ws i n k c x u r y v ss
   takes : {st : Stmt} {ss : List Stmt} → StmtsAt ws (i + 1) ss → Turns s n k st (plus_number c) x u r y v → RowTurns s ws i n k c x u r y v (st ∷ ss)
 
 -- ---- the run
@@ -312,12 +321,12 @@ pub record Found (s x u : List ℕ) (c : Counts) (y v : List ℕ) (ds : List Dia
   pub statements : c.statements ≡ length (rows_of hs)
   pub stmts : errors_in ds ≡ 0 → v ≡ put_held s u 0 (rows_of hs)
 
-abbrev pub ComesTo : List ℕ → List ℕ → List ℕ → Outcome → List ℕ → List ℕ → judgements.Outcome → Type 0
-ComesTo s x u (outcome.Judged c) y v (judgements.judged ds hs ls) = Found s x u c y v ds hs ls
-ComesTo s x u (outcome.Judged c) y v (judgements.refused m t) = ⊥
-ComesTo s x u (outcome.Refused m t) y v (judgements.judged ds hs ls) = ⊥
-ComesTo s x u (outcome.Refused m t) y v (judgements.refused m' t') = (m ≡ m') × (t ≡ t')
+abbrev pub ComesTo : List ℕ → List ℕ → List ℕ → Result Counts Refusal → List ℕ → List ℕ → judgements.Outcome → Type 0
+ComesTo s x u (Ok c) y v (judgements.judged ds hs ls) = Found s x u c y v ds hs ls
+ComesTo s x u (Ok c) y v (judgements.refused m t) = ⊥
+ComesTo s x u (Err r) y v (judgements.judged ds hs ls) = ⊥
+ComesTo s x u (Err r) y v (judgements.refused m t) = (refusal_number r ≡ m) × (refusal_token r ≡ t)
 
 -- the tables of findings and of what is held were x and u, and are y and v after the run
-pub record Comes (s x u : List ℕ) (r : Outcome) (y v : List ℕ) (o : judgements.Outcome) : Type 0 where
+pub record Comes (s x u : List ℕ) (r : Result Counts Refusal) (y v : List ℕ) (o : judgements.Outcome) : Type 0 where
   pub come : ComesTo s x u r y v o

@@ -11,16 +11,17 @@ ghost use Rattle.language.specs.Judgements.{Known, most_names, most_imports, jud
 ghost use Rattle.constants.specs.Constants.{or_zero};
 ghost use Rattle.rows.specs.Rows.{node_word};
 ghost use Rattle.rows.specs.Tokens.{TokenTable};
-ghost use Rattle.names.specs.Names.{name_width, Keyed, stored};
+ghost use Rattle.names.specs.Names.{name_width, Keyed};
 ghost use Rattle.judging.specs.Judging.{most_findings, Ready, Knows, RepAt};
-ghost use Rattle.statements.specs.Checking.{no_counts, plus_number, held_to, plus_slot, plus_name, plus_import, Room, Enters, no_value, deed_number, Does, Tells, Turns, StmtFits, Values, BindsValue, Binds, BoundTwice, RowFits, StmtsAt, RowTurns, AllSound, Comes};
+ghost use Rattle.statements.specs.Checking.{no_counts, plus_number, held_to, plus_slot, plus_name, plus_import, Room, Enters, no_value, deed_number, Does, Tells, Turns, StmtFits, Values, BindsValue, Binds, BoundTwice, RowFits, StmtsAt, RowTurns, AllSound, refusal_number, refusal_token, Comes};
 
 use constants::Constants;
 use findings::{Counts, Diagnostic, What};
 use holding::Step;
+use judging::Scope;
 use names::Entry;
 use rows::{NodeKind, NodeRow, StatementRow, TokKind, Token, Ty, Verdict};
-use values::{Judged, Narrowed, Term};
+use values::{Halt, Term};
 
 // The checker's state: the names that are bound and imported, in order of binding. `Counts` says how many of each are filled.
 #[derive(Drop)]
@@ -68,50 +69,40 @@ pub enum Turn {
     Went(Counts),
     Binds(Counts, Entry),
     Imports(Counts, Entry),
-    // the number of a refusal, and the token where it stands
-    Refused(u64, u64),
 }
 
-// What all statements come to.
-#[derive(Clone, Copy)]
-pub enum Outcome {
-    Judged(Counts),
-    Refused(u64, u64),
+// Why nothing is judged any more, with the token where it stands.
+#[derive(Clone, Copy, PartialEq, Eq)]
+pub enum Refusal {
+    // a call with a named argument
+    Calls(u64),
+    // one name more than there is room for
+    Names(u64),
+}
+
+impl Refusal {
+    // The number that C sees.
+    pub fn number(self) -> u64
+        ensures { result ≡ refusal_number self }
+    {
+        match self {
+            Refusal::Calls(_) => Verdict::CALLS,
+            Refusal::Names(_) => Verdict::NAMES,
+        }
+    }
+
+    // The token where it stands.
+    pub fn token(self) -> u64
+        ensures { result ≡ refusal_token self }
+    {
+        match self {
+            Refusal::Calls(t) => t,
+            Refusal::Names(t) => t,
+        }
+    }
 }
 
 // ---- the state
-
-// Stores a name that is bound.
-fn put_binding(bindings: &mut [u64; Checker::NAMES * Entry::WORDS], row: usize, e: Entry)
-    requires { row < most_names }
-    ensures { bindings.new ≡ stored most_names bindings.old row e }
-{
-    let at = Checker::NAMES + 7 * row;
-    bindings[row] = e.key;
-    bindings[at] = e.start;
-    bindings[at + 1] = e.end;
-    bindings[at + 2] = e.token;
-    bindings[at + 3] = e.form;
-    bindings[at + 4] = e.kind;
-    bindings[at + 5] = e.lo;
-    bindings[at + 6] = e.hi;
-}
-
-// Stores a name that is imported.
-fn put_import(imports: &mut [u64; Checker::IMPORTS * Entry::WORDS], row: usize, e: Entry)
-    requires { row < most_imports }
-    ensures { imports.new ≡ stored most_imports imports.old row e }
-{
-    let at = Checker::IMPORTS + 7 * row;
-    imports[row] = e.key;
-    imports[at] = e.start;
-    imports[at + 1] = e.end;
-    imports[at + 2] = e.token;
-    imports[at + 3] = e.form;
-    imports[at + 4] = e.kind;
-    imports[at + 5] = e.lo;
-    imports[at + 6] = e.hi;
-}
 
 // The name at the token t, with its key and what it stands for.
 fn entry(tok: Token, t: u64, key: u64, v: Term) -> Entry
@@ -245,8 +236,8 @@ fn tell(
     ensures { (s : List ℕ) → TokenTable s toks.now → Tells s t v next counts diags.old stmts.old result diags.new stmts.new }
 {
     match values::narrow(v) {
-        Narrowed::Fits(w) => does(toks, diags, stmts, t, w, next, counts),
-        Narrowed::TooLarge => {
+        Some(w) => does(toks, diags, stmts, t, w, next, counts),
+        None => {
             let tok = rows::token_at(toks, t);
             findings::report(diags, counts, Diagnostic::at(tok, What::IntegralTooLarge))
         }
@@ -255,37 +246,33 @@ fn tell(
 
 // An expression as a statement: row i.
 fn expr_stmt(
-    source: &[u8],
-    toks: &[u64],
-    nodes: &[u64],
-    bindings: &[u64],
-    imports: &[u64],
+    scope: &Scope,
     diags: &mut [u64],
     stmts: &mut [u64],
     i: usize,
     counts: Counts,
-) -> Turn
-    requires ready { Ready source.now toks.now bindings.now imports.now counts }
-    requires stmt_fits { StmtFits nodes.now i counts × (node_width * i + node_width ≤ length nodes.now) }
-    ensures { (n : ℕ) (k : Known) (e : Expr) → n ≡ counts.number → Knows source.now bindings.now imports.now counts k
-        → RepAt nodes.now (node_word nodes.now i 2) e
-        → Turns source.now n k (expr' e) counts diags.old stmts.old result diags.new stmts.new }
+) -> Result<Turn, Refusal>
+    requires ready { Ready scope.now.source.now scope.now.toks.now scope.now.bindings.now scope.now.imports.now counts }
+    requires stmt_fits { StmtFits scope.now.nodes.now i counts × (node_width * i + node_width ≤ length scope.now.nodes.now) }
+    ensures { (n : ℕ) (k : Known) (e : Expr) → n ≡ counts.number → Knows scope.now.source.now scope.now.bindings.now scope.now.imports.now counts k
+        → RepAt scope.now.nodes.now (node_word scope.now.nodes.now i 2) e
+        → Turns scope.now.source.now n k (expr' e) counts diags.old stmts.old result diags.new stmts.new }
 {
-    let e = rows::node_word(nodes, i, NodeRow::FIRST) as usize;
+    let e = rows::node_word(scope.nodes, i, NodeRow::FIRST) as usize;
     let at = counts.statements;
-    let step = judging::judge(
-        source, toks, nodes, bindings, imports, diags, stmts, e, at, counts,
-    );
+    let step = judging::judge(scope, diags, stmts, e, at, counts);
     let out = step.out;
     let found = step.counts;
     match out {
-        Judged::Val(v) => {
-            let t = rows::node_word(nodes, e, NodeRow::TOKEN);
-            Turn::Went(tell(toks, diags, stmts, t, v, step.next, found))
+        Ok(v) => {
+            let t = rows::node_word(scope.nodes, e, NodeRow::TOKEN);
+            Ok(Turn::Went(tell(scope.toks, diags, stmts, t, v, step.next, found)))
         }
-        Judged::Err(d) => Turn::Went(findings::report(diags, found, d)),
-        Judged::Poisoned => Turn::Went(found),
-        Judged::Stopped(p) => Turn::Refused(Verdict::CALLS, p),
+        Err(halt) => match halt {
+            Halt::Found(d) => Ok(Turn::Went(findings::report(diags, found, d))),
+            Halt::Poisoned => Ok(Turn::Went(found)),
+            Halt::Stopped(p) => Err(Refusal::Calls(p)),
+        },
     }
 }
 
@@ -302,40 +289,33 @@ fn module_named(name: &[u8]) -> u64
 }
 
 // `import` of the name at the token t. Where there is no such module, the name is imported as failed.
-fn import(
-    source: &[u8],
-    toks: &[u64],
-    imports: &[u64],
-    diags: &mut [u64],
-    t: u64,
-    counts: Counts,
-) -> Turn
-    requires token_table { TokenTable source.now toks.now × (counts.imported ≤ length imports.now / name_width) × Keyed source.now imports.now counts.imported }
+fn import(scope: &Scope, diags: &mut [u64], t: u64, counts: Counts) -> Result<Turn, Refusal>
+    requires token_table { TokenTable scope.now.source.now scope.now.toks.now × (counts.imported ≤ length scope.now.imports.now / name_width) × Keyed scope.now.source.now scope.now.imports.now counts.imported }
     requires room { Room counts }
-    ensures { (n : ℕ) (k : Known) (b u : List ℕ) → n ≡ counts.number → Knows source.now b imports.now counts k
-        → Turns source.now n k (import' t) counts diags.old u result diags.new u }
+    ensures { (n : ℕ) (k : Known) (b u : List ℕ) → n ≡ counts.number → Knows scope.now.source.now b scope.now.imports.now counts k
+        → Turns scope.now.source.now n k (import' t) counts diags.old u result diags.new u }
 {
-    let tok = rows::token_at(toks, t);
-    let name = rows::name_at(source, tok);
+    let tok = rows::token_at(scope.toks, t);
+    let name = rows::name_at(scope.source, tok);
     let key = names::key_of(name);
-    let found = names::find(source, imports, counts.imported, key, name);
+    let found = names::find(scope.source, scope.imports, counts.imported, key, name);
     if found.at < counts.imported {
-        return Turn::Went(findings::report(
+        return Ok(Turn::Went(findings::report(
             diags,
             counts,
             Diagnostic::at(tok, What::MultipleImports),
-        ));
+        )));
     }
     if Checker::IMPORTS <= counts.imported {
-        return Turn::Refused(Verdict::NAMES, t);
+        return Err(Refusal::Names(t));
     }
     let kind = module_named(name);
     let e = entry(tok, t, key, no_value(kind));
     if kind == 0 {
         let more = findings::report(diags, counts, Diagnostic::at(tok, What::UnknownModule));
-        return Turn::Imports(more, e);
+        return Ok(Turn::Imports(more, e));
     }
-    Turn::Imports(counts, e)
+    Ok(Turn::Imports(counts, e))
 }
 
 // ---- lets
@@ -346,14 +326,12 @@ fn value_of(toks: &[u64], step: Step) -> Step
     ensures { (s : List ℕ) → TokenTable s toks.now → Values s step result }
 {
     let out = step.out;
-    let counts = step.counts;
-    match out {
-        Judged::Val(v) => Step {
-            out: values::used(toks, v),
-            counts,
-            next: step.next,
-        },
-        _ => step,
+    let Ok(v) = out else {
+        return step;
+    };
+    Step {
+        out: values::used(toks, v),
+        ..step
     }
 }
 
@@ -367,13 +345,13 @@ fn bind_value(
     v: Term,
     next: usize,
     counts: Counts,
-) -> Turn
+) -> Result<Turn, Refusal>
     requires token_width_in_bounds { token_width ≤ length toks.now }
     requires room { Room counts }
     ensures { (s : List ℕ) → TokenTable s toks.now → BindsValue s tok t key v next counts stmts.old result stmts.new }
 {
     if v.form <= Term::SLOT {
-        return Turn::Binds(counts, entry(tok, t, key, v));
+        return Ok(Turn::Binds(counts, entry(tok, t, key, v)));
     }
     let slot = counts.slots as u64;
     holding::put(
@@ -393,7 +371,7 @@ fn bind_value(
         lo: slot,
         hi: ty.entry,
     };
-    Turn::Binds(slot_made(counts, next), entry(tok, t, key, made))
+    Ok(Turn::Binds(slot_made(counts, next), entry(tok, t, key, made)))
 }
 
 // The name at the token t is bound to what its value came to; where that failed, to nothing.
@@ -405,7 +383,7 @@ fn bind(
     t: u64,
     key: u64,
     step: Step,
-) -> Turn
+) -> Result<Turn, Refusal>
     requires token_width_in_bounds { token_width ≤ length toks.now }
     requires room { Room step.counts }
     ensures { (s : List ℕ) → TokenTable s toks.now → Binds s tok t key step diags.old stmts.old result diags.new stmts.new }
@@ -413,13 +391,15 @@ fn bind(
     let out = step.out;
     let counts = step.counts;
     match out {
-        Judged::Val(v) => bind_value(toks, stmts, tok, t, key, v, step.next, counts),
-        Judged::Err(d) => {
-            let more = findings::report(diags, counts, d);
-            Turn::Binds(more, entry(tok, t, key, no_value(0)))
-        }
-        Judged::Poisoned => Turn::Binds(counts, entry(tok, t, key, no_value(0))),
-        Judged::Stopped(p) => Turn::Refused(Verdict::CALLS, p),
+        Ok(v) => bind_value(toks, stmts, tok, t, key, v, step.next, counts),
+        Err(halt) => match halt {
+            Halt::Found(d) => {
+                let more = findings::report(diags, counts, d);
+                Ok(Turn::Binds(more, entry(tok, t, key, no_value(0))))
+            }
+            Halt::Poisoned => Ok(Turn::Binds(counts, entry(tok, t, key, no_value(0)))),
+            Halt::Stopped(p) => Err(Refusal::Calls(p)),
+        },
     }
 }
 
@@ -439,80 +419,72 @@ fn bound_twice(toks: &[u64], diags: &mut [u64], tok: Token, first: u64, counts: 
 
 // `let` in row i. `AlreadyBound` is found before the value is read.
 fn let_stmt(
-    source: &[u8],
-    toks: &[u64],
-    nodes: &[u64],
-    bindings: &[u64],
-    imports: &[u64],
+    scope: &Scope,
     diags: &mut [u64],
     stmts: &mut [u64],
     i: usize,
     counts: Counts,
-) -> Turn
-    requires ready { Ready source.now toks.now bindings.now imports.now counts }
-    requires stmt_fits { StmtFits nodes.now i counts × (node_width * i + node_width ≤ length nodes.now) }
-    ensures { (n : ℕ) (k : Known) (e : Expr) → n ≡ counts.number → Knows source.now bindings.now imports.now counts k
-        → RepAt nodes.now (node_word nodes.now i 2) e
-        → Turns source.now n k (let' (node_word nodes.now i 1) e) counts diags.old stmts.old
+) -> Result<Turn, Refusal>
+    requires ready { Ready scope.now.source.now scope.now.toks.now scope.now.bindings.now scope.now.imports.now counts }
+    requires stmt_fits { StmtFits scope.now.nodes.now i counts × (node_width * i + node_width ≤ length scope.now.nodes.now) }
+    ensures { (n : ℕ) (k : Known) (e : Expr) → n ≡ counts.number → Knows scope.now.source.now scope.now.bindings.now scope.now.imports.now counts k
+        → RepAt scope.now.nodes.now (node_word scope.now.nodes.now i 2) e
+        → Turns scope.now.source.now n k (let' (node_word scope.now.nodes.now i 1) e) counts diags.old stmts.old
         result diags.new stmts.new }
 {
-    let t = rows::node_word(nodes, i, NodeRow::TOKEN);
-    let tok = rows::token_at(toks, t);
-    let name = rows::name_at(source, tok);
+    let t = rows::node_word(scope.nodes, i, NodeRow::TOKEN);
+    let tok = rows::token_at(scope.toks, t);
+    let name = rows::name_at(scope.source, tok);
     let key = names::key_of(name);
-    let found = names::find(source, bindings, counts.used, key, name);
+    let found = names::find(scope.source, scope.bindings, counts.used, key, name);
     let then = findings::searched(counts, found.compared);
     let first = found.at;
     if first < counts.used {
-        let bound = names::word(bindings, first, Entry::TOKEN);
-        return Turn::Went(bound_twice(toks, diags, tok, bound, then));
+        let bound = names::word(scope.bindings, first, Entry::TOKEN);
+        return Ok(Turn::Went(bound_twice(scope.toks, diags, tok, bound, then)));
     }
     if Checker::NAMES <= counts.used {
-        return Turn::Refused(Verdict::NAMES, t);
+        return Err(Refusal::Names(t));
     }
-    let e = rows::node_word(nodes, i, NodeRow::FIRST) as usize;
+    let e = rows::node_word(scope.nodes, i, NodeRow::FIRST) as usize;
     let at = then.statements;
-    let step = judging::judge(
-        source, toks, nodes, bindings, imports, diags, stmts, e, at, then,
-    );
-    bind(toks, diags, stmts, tok, t, key, value_of(toks, step))
+    let step = judging::judge(scope, diags, stmts, e, at, then);
+    bind(
+        scope.toks,
+        diags,
+        stmts,
+        tok,
+        t,
+        key,
+        value_of(scope.toks, step),
+    )
 }
 
 // Row i: a statement takes its turn, a row of an expression is passed.
-fn stmt<'a>(
-    source: &[u8],
-    toks: &[u64],
-    nodes: &[u64],
-    bindings: &'a [u64],
-    imports: &'a [u64],
+fn stmt(
+    scope: &Scope,
     diags: &mut [u64],
     stmts: &mut [u64],
     i: usize,
     counts: Counts,
-) -> Turn
-    requires ready { Ready source.now toks.now bindings.now imports.now counts }
-    requires row_fits { RowFits nodes.now i counts × (node_width * i + node_width ≤ length nodes.now) }
-    ensures { (n : ℕ) (k : Known) (ss : List Stmt) → n ≡ counts.number + 1 → Knows source.now bindings.now imports.now counts k
-        → StmtsAt nodes.now i ss
-        → RowTurns source.now nodes.now i n k counts diags.old stmts.old result diags.new stmts.new ss }
+) -> Result<Turn, Refusal>
+    requires ready { Ready scope.now.source.now scope.now.toks.now scope.now.bindings.now scope.now.imports.now counts }
+    requires row_fits { RowFits scope.now.nodes.now i counts × (node_width * i + node_width ≤ length scope.now.nodes.now) }
+    ensures { (n : ℕ) (k : Known) (ss : List Stmt) → n ≡ counts.number + 1 → Knows scope.now.source.now scope.now.bindings.now scope.now.imports.now counts k
+        → StmtsAt scope.now.nodes.now i ss
+        → RowTurns scope.now.source.now scope.now.nodes.now i n k counts diags.old stmts.old result diags.new stmts.new ss }
 {
     let then = begun(counts);
-    match rows::node_word(nodes, i, NodeRow::KIND) {
+    match rows::node_word(scope.nodes, i, NodeRow::KIND) {
         NodeKind::IMPORT => import(
-            source,
-            toks,
-            imports,
+            scope,
             diags,
-            rows::node_word(nodes, i, NodeRow::TOKEN),
+            rows::node_word(scope.nodes, i, NodeRow::TOKEN),
             then,
         ),
-        NodeKind::LET => let_stmt(
-            source, toks, nodes, bindings, imports, diags, stmts, i, then,
-        ),
-        NodeKind::EXPRESSION => expr_stmt(
-            source, toks, nodes, bindings, imports, diags, stmts, i, then,
-        ),
-        _ => Turn::Went(counts),
+        NodeKind::LET => let_stmt(scope, diags, stmts, i, then),
+        NodeKind::EXPRESSION => expr_stmt(scope, diags, stmts, i, then),
+        _ => Ok(Turn::Went(counts)),
     }
 }
 
@@ -543,7 +515,7 @@ pub fn run(
     nodes: &[u64],
     diags: &mut [u64],
     stmts: &mut [u64],
-) -> Outcome
+) -> Result<Counts, Refusal>
     requires token_table { TokenTable source.now toks.now }
     requires row_fits { RowFits nodes.now 0 no_counts }
     ensures { (ss : List Stmt) → StmtsAt nodes.now 0 ss → AllSound (contents (tokens source.now)) ss
@@ -552,35 +524,26 @@ pub fn run(
     let mut checker = Checker::new();
     let mut counts = Checker::start();
     let rows = nodes.len() / NodeRow::WORDS;
-    let mut i: usize = 0;
-    while i < rows {
-        match stmt(
+    for i in 0..rows {
+        let scope = Scope {
             source,
             toks,
             nodes,
-            &checker.bindings,
-            &checker.imports,
-            diags,
-            stmts,
-            i,
-            counts,
-        ) {
-            Turn::Went(then) => {
-                counts = then;
-                i += 1;
-            }
+            bindings: &checker.bindings,
+            imports: &checker.imports,
+        };
+        let turn = stmt(&scope, diags, stmts, i, counts)?;
+        match turn {
+            Turn::Went(then) => counts = then,
             Turn::Binds(then, e) => {
-                put_binding(&mut checker.bindings, then.used, e);
+                names::put(&mut checker.bindings, then.used, e);
                 counts = named_one(then);
-                i += 1;
             }
             Turn::Imports(then, e) => {
-                put_import(&mut checker.imports, then.imported, e);
+                names::put(&mut checker.imports, then.imported, e);
                 counts = imported_one(then);
-                i += 1;
             }
-            Turn::Refused(number, t) => return Outcome::Refused(number, t),
         }
     }
-    Outcome::Judged(counts)
+    Ok(counts)
 }

@@ -3,10 +3,11 @@ use mathlib.Core.Path.{◌≡◌, refl, sym, ap, ◌∙◌}
 use mathlib.Core.Option.{Option, none, some}
 use Prim.Native.Nat.{ℕ, ◌+◌, ◌*◌, ◌%◌, ◌^◌, ◌<◌}
 use native.Mathlib.Omega.{arith}
-use borrow.Author.Tests.{ne_eqb}
+use Rattle.std.specs.Prelude as code
+use Rattle.std.specs.Prelude.{Some, None}
 use Rattle.wide.specs.Wide.{size_of}
 use Rattle.wide.specs.declared.Size.{Size}
-use Rattle.wide.specs.declared.Size.TheVariants.{U8, U16, U32, U64, TooLarge}
+use Rattle.wide.specs.declared.Size.TheVariants.{U8, U16, U32, U64}
 use Rattle.language.specs.Integers.{IntType, u8, u16, u32, u64, bits, smallest}
 use Rattle.language.specs.Tables as tables
 use Rattle.language.specs.Values as values
@@ -19,17 +20,15 @@ use Rattle.language.proofs.Integers.{smallest_holds}
 use Rattle.language.proofs.Forms.{ValueOf, of_integer, value_form}
 use Rattle.language.proofs.Tests.{never}
 use Rattle.rows.specs.declared.types.Text.{Text}
-use Rattle.rows.specs.declared.types.Type.{«Type»}
 use Rattle.findings.specs.Findings.{type_text}
 use Rattle.values.specs.declared.Term.{Term}
-use Rattle.values.specs.declared.Narrowed.TheVariants as narrow
-use Rattle.values.specs.Values.{constant_as, term_as, constant_type, shown_constant, narrowed_as, shown_as}
-use Rattle.values.proofs.Values.{TermOf, of_constant, of_slot, term_form, constant_function, whole}
+use Rattle.values.specs.Values.{constant_as, term_as, shown_constant, narrowed_as, shown_as}
+use Rattle.values.proofs.Values.{TermOf, of_constant, of_slot, term_form, whole}
 
 -- ---- narrowing
 
 -- a value that is not known before the run
-run_narrowed : (e : terms.Term) → ((term_as e).form ≡ 1 → ⊥) → narrow.Fits (term_as e) ≡ narrowed_as (narrowed e)
+run_narrowed : (e : terms.Term) → ((term_as e).form ≡ 1 → ⊥) → Some (term_as e) ≡ narrowed_as (narrowed e)
 unfolding narrowed
 run_narrowed (atom p (constant v)) h = absurd (h refl)
 run_narrowed (atom p (slot s t)) h = refl
@@ -37,7 +36,7 @@ run_narrowed (called p c f vs) h = refl
 run_narrowed (divided p a b) h = refl
 
 -- a constant that has a size, or is no integer
-sized_narrowed : (p : ℕ) (v : values.Value) → (value_kind v ≡ 16 → ⊥) → narrow.Fits (constant_as p v) ≡ narrowed_as (narrowed (atom p (constant v)))
+sized_narrowed : (p : ℕ) (v : values.Value) → (value_kind v ≡ 16 → ⊥) → Some (constant_as p v) ≡ narrowed_as (narrowed (atom p (constant v)))
 unfolding narrowed
 sized_narrowed p (is_integer n) h = absurd (h refl)
 sized_narrowed p (is_bool b) h = refl
@@ -48,45 +47,45 @@ sized_narrowed p (is_string t) h = refl
 sized_narrowed p (is_text a b) h = refl
 sized_narrowed p (is_function k) h = refl
 
-constant_narrowed : {e : terms.Term} → TermOf 1 e → ((term_as e).kind ≡ 16 → ⊥) → narrow.Fits (term_as e) ≡ narrowed_as (narrowed e)
+constant_narrowed : {e : terms.Term} → TermOf 1 e → ((term_as e).kind ≡ 16 → ⊥) → Some (term_as e) ≡ narrowed_as (narrowed e)
 constant_narrowed (of_constant {p = p} {v = v}) h = sized_narrowed p v h
 
 module _ {v : Term} (e : terms.Term) (q : v ≡ term_as e) where
-  pub narrow_run : (v.form ≡ 1 → ⊥) → narrow.Fits v ≡ narrowed_as (narrowed e)
-  narrow_run h = ap narrow.Fits q ∙ run_narrowed e (λ z. h (ap (λ (w : Term). w.form) q ∙ z))
+  pub narrow_run : (v.form ≡ 1 → ⊥) → Some v ≡ narrowed_as (narrowed e)
+  narrow_run h = ap Some q ∙ run_narrowed e (λ z. h (ap (λ (w : Term). w.form) q ∙ z))
 
-  pub narrow_same : v.form ≡ 1 → (v.kind ≡ 16 → ⊥) → narrow.Fits v ≡ narrowed_as (narrowed e)
-  narrow_same f h = ap narrow.Fits q ∙ constant_narrowed (term_form e q f) (λ z. h (ap (λ (w : Term). w.kind) q ∙ z))
+  pub narrow_same : v.form ≡ 1 → (v.kind ≡ 16 → ⊥) → Some v ≡ narrowed_as (narrowed e)
+  narrow_same f h = ap Some q ∙ constant_narrowed (term_form e q f) (λ z. h (ap (λ (w : Term). w.kind) q ∙ z))
 
-is_u8 : (o : Option IntType) → U8 ≡ size_of o → o ≡ some u8
+is_u8 : (o : Option IntType) → Some U8 ≡ size_of o → o ≡ some u8
 is_u8 (some u8) e = refl
 is_u8 (some u16) e = never (cc)
 is_u8 (some u32) e = never (cc)
 is_u8 (some u64) e = never (cc)
 is_u8 none e = never (cc)
 
-is_u16 : (o : Option IntType) → U16 ≡ size_of o → o ≡ some u16
+is_u16 : (o : Option IntType) → Some U16 ≡ size_of o → o ≡ some u16
 is_u16 (some u8) e = never (cc)
 is_u16 (some u16) e = refl
 is_u16 (some u32) e = never (cc)
 is_u16 (some u64) e = never (cc)
 is_u16 none e = never (cc)
 
-is_u32 : (o : Option IntType) → U32 ≡ size_of o → o ≡ some u32
+is_u32 : (o : Option IntType) → Some U32 ≡ size_of o → o ≡ some u32
 is_u32 (some u8) e = never (cc)
 is_u32 (some u16) e = never (cc)
 is_u32 (some u32) e = refl
 is_u32 (some u64) e = never (cc)
 is_u32 none e = never (cc)
 
-is_u64 : (o : Option IntType) → U64 ≡ size_of o → o ≡ some u64
+is_u64 : (o : Option IntType) → Some U64 ≡ size_of o → o ≡ some u64
 is_u64 (some u8) e = never (cc)
 is_u64 (some u16) e = never (cc)
 is_u64 (some u32) e = never (cc)
 is_u64 (some u64) e = refl
 is_u64 none e = never (cc)
 
-is_large : (o : Option IntType) → TooLarge ≡ size_of o → o ≡ none
+is_large : (o : Option IntType) → None ≡ size_of o → o ≡ none
 is_large (some u8) e = never (cc)
 is_large (some u16) e = never (cc)
 is_large (some u32) e = never (cc)
@@ -109,23 +108,23 @@ module _ (p n : ℕ) where
   narrowed_by_lem e = ap (λ (o : Option IntType). narrowed_as (sized_as o)) (sym e)
 
   sized : (t : IntType) → smallest n ≡ some t
-      → narrow.Fits (record { at = p; form = 1; kind = int_kind t; lo = n % tables.word_limit; hi = 0 }) ≡ narrowed_as (narrowed (atom p (constant (is_integer n))))
+      → Some (record { at = p; form = 1; kind = int_kind t; lo = n % tables.word_limit; hi = 0 }) ≡ narrowed_as (narrowed (atom p (constant (is_integer n))))
   sized t e =
       let l : n < tables.word_limit = small t n (smallest_holds.0 n t e).0 in
       let q : n % tables.word_limit ≡ n = omega (arith, l) in
-      ap (λ (m : ℕ). narrow.Fits (record { at = p; form = 1; kind = int_kind t; lo = m; hi = 0 })) q ∙ narrowed_by_lem e
+      ap (λ (m : ℕ). Some (record { at = p; form = 1; kind = int_kind t; lo = m; hi = 0 })) q ∙ narrowed_by_lem e
 
-module _ {v : Term} {z : Size} (f : v.form ≡ 1) (k : v.kind ≡ 16) (o : z ≡ size_of (smallest (v.hi * tables.word_limit + v.lo))) where
+module _ {v : Term} {z : code.Option Size} (f : v.form ≡ 1) (k : v.kind ≡ 16) (o : z ≡ size_of (smallest (v.hi * tables.word_limit + v.lo))) where
   -- the number that such a term is
   number : (p n : ℕ) → v ≡ constant_as p (is_integer n) → smallest n ≡ smallest (v.hi * tables.word_limit + v.lo)
   number p n e = ap smallest (sym (whole n)) ∙ ap (λ (w : Term). smallest (w.hi * tables.word_limit + w.lo)) (sym e)
 
   fits_value : (t : IntType) → smallest (v.hi * tables.word_limit + v.lo) ≡ some t → (p : ℕ) (u : values.Value) → v ≡ constant_as p u → ValueOf 16 u
-      → narrow.Fits (record { at = v.at; form = 1; kind = int_kind t; lo = v.lo; hi = 0 }) ≡ narrowed_as (narrowed (atom p (constant u)))
+      → Some (record { at = v.at; form = 1; kind = int_kind t; lo = v.lo; hi = 0 }) ≡ narrowed_as (narrowed (atom p (constant u)))
   fits_value t q p u e (of_integer {n = n}) =
-      ap (λ (w : Term). narrow.Fits (record { at = w.at; form = 1; kind = int_kind t; lo = w.lo; hi = 0 })) e ∙ sized p n t (number p n e ∙ q)
+      ap (λ (w : Term). Some (record { at = w.at; form = 1; kind = int_kind t; lo = w.lo; hi = 0 })) e ∙ sized p n t (number p n e ∙ q)
 
-  large_value : z ≡ TooLarge → (p : ℕ) (u : values.Value) → v ≡ constant_as p u → ValueOf 16 u → narrow.TooLarge ≡ narrowed_as (narrowed (atom p (constant u)))
+  large_value : z ≡ None → (p : ℕ) (u : values.Value) → v ≡ constant_as p u → ValueOf 16 u → None ≡ narrowed_as (narrowed (atom p (constant u)))
   large_value q p u e (of_integer {n = n}) = narrowed_by_lem p n (number p n e ∙ is_large _ (sym q ∙ o))
 
   -- what holds of an integer constant holds of this term
@@ -138,44 +137,27 @@ module _ {v : Term} {z : Size} (f : v.form ≡ 1) (k : v.kind ≡ 16) (o : z ≡
 
   module _ (e : terms.Term) (q : v ≡ term_as e) {w : Term} where
     fits_by : (t : IntType) → smallest (v.hi * tables.word_limit + v.lo) ≡ some t
-        → w ≡ record { at = v.at; form = 1; kind = int_kind t; lo = v.lo; hi = 0 } → narrow.Fits w ≡ narrowed_as (narrowed e)
+        → w ≡ record { at = v.at; form = 1; kind = int_kind t; lo = v.lo; hi = 0 } → Some w ≡ narrowed_as (narrowed e)
     fits_by t h r =
-        ap narrow.Fits r
-        ∙ of_integers (λ e. narrow.Fits (record { at = v.at; form = 1; kind = int_kind t; lo = v.lo; hi = 0 }) ≡ narrowed_as (narrowed e)) (fits_value t h) e q
+        ap Some r
+        ∙ of_integers (λ e. Some (record { at = v.at; form = 1; kind = int_kind t; lo = v.lo; hi = 0 }) ≡ narrowed_as (narrowed e)) (fits_value t h) e q
 
-    pub narrow_u8 : z ≡ U8 → w ≡ record { at = v.at; form = 1; kind = 3; lo = v.lo; hi = 0 } → narrow.Fits w ≡ narrowed_as (narrowed e)
+    pub narrow_u8 : z ≡ Some U8 → w ≡ record { at = v.at; form = 1; kind = 3; lo = v.lo; hi = 0 } → Some w ≡ narrowed_as (narrowed e)
     narrow_u8 h r = fits_by u8 (is_u8 _ (sym h ∙ o)) r
 
-    pub narrow_u16 : z ≡ U16 → w ≡ record { at = v.at; form = 1; kind = 4; lo = v.lo; hi = 0 } → narrow.Fits w ≡ narrowed_as (narrowed e)
+    pub narrow_u16 : z ≡ Some U16 → w ≡ record { at = v.at; form = 1; kind = 4; lo = v.lo; hi = 0 } → Some w ≡ narrowed_as (narrowed e)
     narrow_u16 h r = fits_by u16 (is_u16 _ (sym h ∙ o)) r
 
-    pub narrow_u32 : z ≡ U32 → w ≡ record { at = v.at; form = 1; kind = 5; lo = v.lo; hi = 0 } → narrow.Fits w ≡ narrowed_as (narrowed e)
+    pub narrow_u32 : z ≡ Some U32 → w ≡ record { at = v.at; form = 1; kind = 5; lo = v.lo; hi = 0 } → Some w ≡ narrowed_as (narrowed e)
     narrow_u32 h r = fits_by u32 (is_u32 _ (sym h ∙ o)) r
 
-    pub narrow_u64 : z ≡ U64 → w ≡ record { at = v.at; form = 1; kind = 6; lo = v.lo; hi = 0 } → narrow.Fits w ≡ narrowed_as (narrowed e)
+    pub narrow_u64 : z ≡ Some U64 → w ≡ record { at = v.at; form = 1; kind = 6; lo = v.lo; hi = 0 } → Some w ≡ narrowed_as (narrowed e)
     narrow_u64 h r = fits_by u64 (is_u64 _ (sym h ∙ o)) r
 
-  pub narrow_large : (e : terms.Term) → v ≡ term_as e → z ≡ TooLarge → narrow.TooLarge ≡ narrowed_as (narrowed e)
-  narrow_large e q h = of_integers (λ e. narrow.TooLarge ≡ narrowed_as (narrowed e)) (large_value h) e q
+  pub narrow_large : (e : terms.Term) → v ≡ term_as e → z ≡ None → None ≡ narrowed_as (narrowed e)
+  narrow_large e q h = of_integers (λ e. None ≡ narrowed_as (narrowed e)) (large_value h) e q
 
 -- ---- what is shown of a constant
-
-module _ (k l h : ℕ) where
-  pub shown_function : {ty : «Type»} {r : Text} → k ≡ 14 → ty ≡ constant_type k l → r ≡ type_text ty → r ≡ shown_constant k l h
-  unfolding shown_constant
-  shown_function e p q = q ∙ ap type_text (p ∙ sym (constant_function k l e)) ∙ rw e
-
-  pub shown_table : k ≡ 17 → record { from = 2; start = l; end = h } ≡ shown_constant k l h
-  unfolding shown_constant
-  shown_table e = rw e
-
-  pub shown_string : k ≡ 9 → record { from = 1; start = l; end = h } ≡ shown_constant k l h
-  unfolding shown_constant
-  shown_string e = rw e
-
-  pub shown_none : (k ≡ 14 → ⊥) → (k ≡ 17 → ⊥) → (k ≡ 9 → ⊥) → record { from = 0; start = l; end = h } ≡ shown_constant k l h
-  unfolding shown_constant
-  shown_none p q o = rw (ne_eqb k 14 p, ne_eqb k 17 q, ne_eqb k 9 o)
 
 value_shown : (v : values.Value) → shown_constant (value_kind v) (value_low v) (value_high v) ≡ record { from = value_text v; start = shown_low v; end = shown_high v }
 unfolding shown_constant type_text

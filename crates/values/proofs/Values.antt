@@ -1,12 +1,13 @@
 -- Terms as words: what is read back, what a form or a kind says of a term, literals, and what is used.
 use mathlib.Core.Path.{◌≡◌, refl, sym, ap, subst, ◌∙◌}
-use mathlib.Core.Bool.{Bool, true, false, ◌&&◌, ◌||◌}
+use mathlib.Core.Bool.{true, false}
 use mathlib.Core.Option.{Option, none, some}
 use mathlib.Core.List.{List}
 use Prim.Native.Nat.{ℕ, ◌+◌, ◌*◌, ◌/◌, ◌%◌}
 use native.Mathlib.Omega.{arith}
 use borrow.Author.Tests.{eq-eqb, ne_eqb}
-use lib.Dec.{eqb, leb}
+use lib.Dec.{eqb}
+use Rattle.std.specs.Prelude.{Ok, Err}
 use Rattle.language.specs.Integers.{u8, u16, u32, u64}
 use Rattle.language.specs.Lexemes.{l_paren, r_paren, dot, double_colon, colon, semi_colon, equals, comma, slash, import_keyword, let_keyword, identifier, boolean_literal, ipv4_literal, hex_literal, dec_literal}
 use Rattle.language.specs.Tables as tables
@@ -33,9 +34,8 @@ use Rattle.findings.specs.declared.What.TheVariants.{VoidValue}
 use Rattle.findings.specs.Findings.{type_as, what_as, at_token}
 use Rattle.findings.proofs.Texts.{at_token_lem}
 use Rattle.values.specs.declared.Term.{Term}
-use Rattle.values.specs.declared.Judged.{Judged}
-use Rattle.values.specs.declared.Judged.TheVariants.{Val, Err, Poisoned}
-use Rattle.values.specs.Values.{constant_as, term_as, sock4_as, form_of, kind_of, low_of, high_of, value_of, ty_of, opened, Canon, held_as, is_integral, is_number, constant_type, judged_as}
+use Rattle.values.specs.declared.Halt.TheVariants.{Found}
+use Rattle.values.specs.Values.{Judged, constant_as, term_as, form_of, kind_of, low_of, high_of, value_of, ty_of, opened, Canon, held_as, is_integral, is_number, constant_type, judged_as}
 
 -- ---- words read back
 
@@ -114,14 +114,6 @@ kind_as_lem (divided p a b) h = refl
 
 -- ---- what a name stands for
 
-pub held_none : (t f k l h : ℕ) → f ≡ 0 → Poisoned ≡ held_as t f k l h
-unfolding held_as
-held_none t f k l h e = rw (eq-eqb f 0 e)
-
-pub held_some : (t f k l h : ℕ) → (f ≡ 0 → ⊥) → Val (record { at = t; form = f; kind = k; lo = l; hi = h }) ≡ held_as t f k l h
-unfolding held_as
-held_some t f k l h n = rw (ne_eqb f 0 n)
-
 held_own : (s : List ℕ) (t : ℕ) (o : Option Atom)
     → held_as t (form_of o) (kind_of o) (low_of o) (high_of o) ≡ judged_as s (elim o [ some a ↦ val (atom t a) | none ↦ poisoned ])
 unfolding held_as
@@ -138,22 +130,10 @@ held_canon s t {f} {k} {l} {h} c = rw (c.form, c.kind, c.low, c.high) at (held_o
 
 -- an error at a token
 pub judged_err : (s : List ℕ) (at : ℕ) (w : judgements.What) {tok : Token} {what : What} → tok ≡ token_as (token_of s at) → what ≡ what_as (token_of s) w
-    → Err (at_token tok what) ≡ judged_as s (err at w)
-judged_err s at w e q = ap Err (at_token_lem s at w e q)
+    → Err (Found (at_token tok what)) ≡ judged_as s (err at w)
+judged_err s at w e q = ap (λ d. Err (Found d)) (at_token_lem s at w e q)
 
 -- ---- types
-
-pub constant_text : (k l : ℕ) → k ≡ 17 → record { kind = 9; entry = 0 } ≡ constant_type k l
-unfolding constant_type
-constant_text k l e = rw e
-
-pub constant_function : (k l : ℕ) → k ≡ 14 → record { kind = 14; entry = l } ≡ constant_type k l
-unfolding constant_type
-constant_function k l e = rw e
-
-pub constant_other : (k l : ℕ) → (k ≡ 17 → ⊥) → (k ≡ 14 → ⊥) → record { kind = k; entry = 0 } ≡ constant_type k l
-unfolding constant_type
-constant_other k l p q = rw (ne_eqb k 17 p, ne_eqb k 14 q)
 
 value_type : (v : values.Value) → constant_type (value_kind v) (value_low v) ≡ type_as (type_of v)
 unfolding constant_type
@@ -248,14 +228,6 @@ module _ {r : «Type»} (e : terms.Term) (q : r ≡ type_as (term_type e)) where
   callee_not h = function_not (term_type e) (λ z. h (kind_shown ∙ z))
 
 -- ---- kinds
-
-pub integral_is : (k : ℕ) → leb 2 k && leb k 6 ≡ is_integral k
-unfolding is_integral
-integral_is k = refl
-
-pub number_is : {b : Bool} (k : ℕ) → b ≡ is_integral k → b || eqb k 16 ≡ is_number k
-unfolding is_number
-number_is k e = rw e
 
 -- types that have bits
 pub integral_type : (t : Ty) → is_integral (ty_kind t) ≡ values.is_integral t
@@ -376,7 +348,7 @@ not_void (called p c f vs) h = ne_eqb 1 (ty_kind (entry_at f).gives) (λ z. h (s
 not_void (divided p a b) h = refl
 
 module _ (s : List ℕ) {v : Term} (e : terms.Term) (q : v ≡ term_as e) where
-  pub used_void : {tok : Token} {r : Judged} → tok ≡ token_as (token_of s v.at) → v.kind ≡ 1 → r ≡ Err (at_token tok VoidValue)
+  pub used_void : {tok : Token} {r : Judged} → tok ≡ token_as (token_of s v.at) → v.kind ≡ 1 → r ≡ Err (Found (at_token tok VoidValue))
       → r ≡ judged_as s (used e).out
   unfolding used
   used_void p k o =
@@ -384,9 +356,9 @@ module _ (s : List ℕ) {v : Term} (e : terms.Term) (q : v ≡ term_as e) where
       o ∙ judged_err s v.at void_value p refl
       ∙ rw (at, is_void e (sym (ap (λ (w : Term). w.kind) q) ∙ k))
 
-  pub used_value : (v.kind ≡ 1 → ⊥) → Val v ≡ judged_as s (used e).out
+  pub used_value : (v.kind ≡ 1 → ⊥) → Ok v ≡ judged_as s (used e).out
   unfolding used
-  used_value h = ap Val q ∙ rw (not_void e (λ z. h (ap (λ (w : Term). w.kind) q ∙ z)))
+  used_value h = ap Ok q ∙ rw (not_void e (λ z. h (ap (λ (w : Term). w.kind) q ∙ z)))
 
 -- ---- literals
 
@@ -450,7 +422,3 @@ module _ (t : ℕ) where
         → (tok.kind ≡ 16 → ⊥) → v ≡ constant_as t (literal_at (contents (tokens.tokens s)) t)
     literal_other h p q r =
         is_at (h ∙ rw e (other_literal (token_of s t).content (λ z. p (kind_is ∙ z)) (λ z. q (kind_is ∙ z)) (λ z. r (kind_is ∙ z))))
-
-pub sock4_is : (t : ℕ) {a p : Token} {v : Term} (x y : tokens.Token) → a ≡ token_as x → p ≡ token_as y
-    → v ≡ record { at = t; form = 1; kind = 8; lo = a.lo; hi = p.lo } → v ≡ sock4_as t x y
-sock4_is t x y e f h = h ∙ rw (e, f)

@@ -1,5 +1,6 @@
 -- How a term's words stand for what an expression comes to, and what is shown of one.
-use Rattle.std.specs.Prelude.{ℕ, ◌+◌, ◌*◌, ◌≡◌, Bool, ◌&&◌, ◌||◌, List, eqb, leb}
+use Rattle.std.specs.Prelude as prelude
+use Rattle.std.specs.Prelude.{ℕ, ◌+◌, ◌*◌, ◌≡◌, Bool, ◌&&◌, ◌||◌, List, eqb, leb, Result, Some, None, Ok, Err}
 use Rattle.std.proofs.Math.Option.{Option, none, some}
 use Rattle.language.specs.Choice.{if'}
 use Rattle.language.specs.Integers.{u8, u16, u32, u64}
@@ -16,10 +17,12 @@ use Rattle.rows.specs.declared.types.Text.{Text}
 use Rattle.rows.specs.declared.types.Type.{«Type»}
 use Rattle.findings.specs.Findings.{type_as, type_text, function_type, diagnostic_as}
 use Rattle.values.specs.declared.Term.{Term}
-use Rattle.values.specs.declared.Judged.{Judged}
-use Rattle.values.specs.declared.Judged.TheVariants.{Val, Err, Poisoned, Stopped}
-use Rattle.values.specs.declared.Narrowed.{Narrowed}
-use Rattle.values.specs.declared.Narrowed.TheVariants as narrow
+use Rattle.values.specs.declared.Halt.{Halt}
+use Rattle.values.specs.declared.Halt.TheVariants.{Found, Poisoned, Stopped}
+
+-- what judging an expression comes to
+abbrev pub Judged : Type 0
+Judged = Result Term Halt
 
 -- ---- terms
 
@@ -100,7 +103,7 @@ pub record Canon (f k l h : ℕ) : Type 0 where
   pub high : high_of (opened f k l h) ≡ h
 
 unfoldable pub held_as : ℕ → ℕ → ℕ → ℕ → ℕ → Judged
-held_as t f k l h = if' (eqb f 0) Poisoned (Val (record { at = t; form = f; kind = k; lo = l; hi = h }))
+held_as t f k l h = if' (eqb f 0) (Err Poisoned) (Ok (record { at = t; form = f; kind = k; lo = l; hi = h }))
 
 -- ---- kinds
 
@@ -134,20 +137,20 @@ pub record Shown (v : Term) (r : Text) : Type 0 where
 
 -- ---- narrowing
 
-abbrev pub narrowed_as : Option terms.Term → Narrowed
-narrowed_as (some e) = narrow.Fits (term_as e)
-narrowed_as none = narrow.TooLarge
+abbrev pub narrowed_as : Option terms.Term → prelude.Option Term
+narrowed_as (some e) = Some (term_as e)
+narrowed_as none = None
 
-pub record Narrow (v : Term) (r : Narrowed) : Type 0 where
+pub record Narrow (v : Term) (r : prelude.Option Term) : Type 0 where
   pub is : (e : terms.Term) → v ≡ term_as e → r ≡ narrowed_as (narrowed e)
 
 -- ---- judgements
 
 abbrev pub judged_as : List ℕ → judgements.Judged terms.Term → Judged
-judged_as s (val e) = Val (term_as e)
-judged_as s (err at w) = Err (diagnostic_as s at w)
-judged_as s poisoned = Poisoned
-judged_as s (stopped t) = Stopped t
+judged_as s (val e) = Ok (term_as e)
+judged_as s (err at w) = Err (Found (diagnostic_as s at w))
+judged_as s poisoned = Err Poisoned
+judged_as s (stopped t) = Err (Stopped t)
 
 -- a value that is used
 pub record Used (s : List ℕ) (v : Term) (r : Judged) : Type 0 where

@@ -1,13 +1,14 @@
 #![tactic(auto)]
 // Terms: what an expression comes to, as its place, its form and a value in three words. Ports check.rs `Value` and what it does
 // with constants: literals, the type that is shown, and the smallest type.
-ghost use Rattle.std.specs.Prelude.{◌≡◌, List, ℕ, ◌+◌, ◌≤◌, length};
+ghost use Rattle.std.specs.Prelude.{◌≡◌, List, ℕ, ◌+◌, ◌≤◌, length, Err};
 ghost use Rattle.language.specs.Tables.{token_width};
 ghost use Rattle.language.specs.Tokens.{tokens, contents};
 ghost use Rattle.language.specs.Numbers.{token_of};
 ghost use Rattle.language.specs.Judgements.{literal_at};
 ghost use Rattle.rows.specs.Tokens.{TokenTable};
 ghost use Rattle.findings.specs.Findings.{at_token};
+ghost use Rattle.values.specs.declared.Halt.TheVariants.{Found};
 ghost use Rattle.values.specs.Values.{constant_as, sock4_as, held_as, constant_type, is_integral, is_number, TypeShown, Used, Narrow, shown_constant, Shown};
 
 use findings::{Counts, Diagnostic, What};
@@ -39,15 +40,17 @@ impl Term {
     pub const SLASH: u64 = 4;
 }
 
-// What judging an expression comes to. A name whose `let` or `import` failed poisons what it stands in; a call with a named argument
+// Why an expression comes to no value. A name whose `let` or `import` failed poisons what it stands in; a call with a named argument
 // stops everything, at the token of its `(`.
 #[derive(Clone, Copy)]
-pub enum Judged {
-    Val(Term),
-    Err(Diagnostic),
+pub enum Halt {
+    Found(Diagnostic),
     Poisoned,
     Stopped(u64),
 }
+
+// What judging an expression comes to.
+pub type Judged = Result<Term, Halt>;
 
 // The same, and the counts then.
 #[derive(Clone, Copy)]
@@ -56,28 +59,22 @@ pub struct Judgement {
     pub counts: Counts,
 }
 
-// An integer with the smallest type that holds it, if any does.
-#[derive(Clone, Copy)]
-pub enum Narrowed {
-    Fits(Term),
-    TooLarge,
-}
-
 // An error at a token.
 pub fn error(tok: Token, what: What) -> Judged
-    ensures { result ≡ Judged.Err (at_token tok what) }
+    ensures { result ≡ Err (Found (at_token tok what)) }
 {
-    Judged::Err(Diagnostic::at(tok, what))
+    Err(Halt::Found(Diagnostic::at(tok, what)))
 }
 
 // What a name at the token t stands for, by the form and the three words of its entry.
+#[tactic(auto, unfolding(crate::specs::Values::held_as))]
 pub fn held(t: u64, form: u64, kind: u64, lo: u64, hi: u64) -> Judged
     ensures { result ≡ held_as t form kind lo hi }
 {
     if form == Term::NONE {
-        return Judged::Poisoned;
+        return Err(Halt::Poisoned);
     }
-    Judged::Val(Term {
+    Ok(Term {
         at: t,
         form,
         kind,
@@ -88,6 +85,7 @@ pub fn held(t: u64, form: u64, kind: u64, lo: u64, hi: u64) -> Judged
 
 // ---- literals
 
+#[tactic(auto, using(crate::proofs::Values::literal_bool, crate::proofs::Values::literal_ip4, crate::proofs::Values::literal_string, crate::proofs::Values::literal_other))]
 pub fn literal(toks: &[u64], t: u64) -> Term
     requires { token_width ≤ length toks.now }
     ensures { (s : List ℕ) → TokenTable s toks.now → result ≡ constant_as t (literal_at (contents (tokens s)) t) }
@@ -128,6 +126,7 @@ pub fn sock4(toks: &[u64], t: u64) -> Term
 // ---- types
 
 // The type of a constant: bytes are one type, wherever they are, and a function's has its entry.
+#[tactic(auto, unfolding(crate::specs::Values::constant_type))]
 fn constant_type(v: Term) -> Type
     ensures { result ≡ constant_type v.kind v.lo }
 {
@@ -146,6 +145,7 @@ fn constant_type(v: Term) -> Type
 }
 
 // The type of what an expression comes to.
+#[tactic(auto, using(crate::proofs::Values::type_constant, crate::proofs::Values::type_slot, crate::proofs::Values::type_other))]
 pub fn type_of(v: Term) -> Type
     ensures { TypeShown v result }
 {
@@ -164,6 +164,7 @@ pub fn type_of(v: Term) -> Type
 }
 
 // Types that have bits: bools, and integers with a size.
+#[tactic(auto, unfolding(crate::specs::Values::is_integral))]
 pub fn is_integral(kind: u64) -> bool
     ensures { result ≡ is_integral kind }
 {
@@ -171,6 +172,7 @@ pub fn is_integral(kind: u64) -> bool
 }
 
 // Kinds of constants that are numbers: the same, and integers with no size.
+#[tactic(auto, unfolding(crate::specs::Values::is_number))]
 pub fn is_number(kind: u64) -> bool
     ensures { result ≡ is_number kind }
 {
@@ -178,6 +180,7 @@ pub fn is_number(kind: u64) -> bool
 }
 
 // A value that is used must not be void.
+#[tactic(auto, using(crate::proofs::Values::used_void, crate::proofs::Values::used_value))]
 pub fn used(toks: &[u64], v: Term) -> Judged
     requires { token_width ≤ length toks.now }
     ensures { (s : List ℕ) → TokenTable s toks.now → Used s v result }
@@ -185,30 +188,32 @@ pub fn used(toks: &[u64], v: Term) -> Judged
     if v.kind == Ty::VOID {
         return error(rows::token_at(toks, v.at), What::VoidValue);
     }
-    Judged::Val(v)
+    Ok(v)
 }
 
-// An integer with no size takes the smallest type that holds it. Any other value stays as it is.
-pub fn narrow(v: Term) -> Narrowed
+// An integer with no size takes the smallest type that holds it, if any does. Any other value stays as it is.
+#[tactic(auto, using(crate::proofs::Narrowing::narrow_run, crate::proofs::Narrowing::narrow_same, crate::proofs::Narrowing::narrow_u8, crate::proofs::Narrowing::narrow_u16, crate::proofs::Narrowing::narrow_u32, crate::proofs::Narrowing::narrow_u64, crate::proofs::Narrowing::narrow_large))]
+pub fn narrow(v: Term) -> Option<Term>
     ensures { Narrow v result }
 {
     if v.form != Term::CONSTANT {
-        return Narrowed::Fits(v);
+        return Some(v);
     }
     if v.kind != Ty::INTEGER {
-        return Narrowed::Fits(v);
+        return Some(v);
     }
     let n = Wide { hi: v.hi, lo: v.lo };
     match n.smallest() {
-        Size::U8 => Narrowed::Fits(constant(v.at, Ty::U8, v.lo, 0)),
-        Size::U16 => Narrowed::Fits(constant(v.at, Ty::U16, v.lo, 0)),
-        Size::U32 => Narrowed::Fits(constant(v.at, Ty::U32, v.lo, 0)),
-        Size::U64 => Narrowed::Fits(constant(v.at, Ty::U64, v.lo, 0)),
-        Size::TooLarge => Narrowed::TooLarge,
+        Some(Size::U8) => Some(constant(v.at, Ty::U8, v.lo, 0)),
+        Some(Size::U16) => Some(constant(v.at, Ty::U16, v.lo, 0)),
+        Some(Size::U32) => Some(constant(v.at, Ty::U32, v.lo, 0)),
+        Some(Size::U64) => Some(constant(v.at, Ty::U64, v.lo, 0)),
+        None => None,
     }
 }
 
 // What a statement's row shows of a constant: which text, and two words.
+#[tactic(auto, unfolding(crate::specs::Values::shown_constant, crate::specs::Values::constant_type))]
 fn shown_constant(v: Term) -> Text
     ensures { result ≡ shown_constant v.kind v.lo v.hi }
 {
@@ -234,6 +239,7 @@ fn shown_constant(v: Term) -> Text
 }
 
 // What a statement's row shows of any term.
+#[tactic(auto, using(crate::proofs::Narrowing::shown_constant_lem, crate::proofs::Narrowing::shown_slot, crate::proofs::Narrowing::shown_other))]
 pub fn shown(v: Term) -> Text
     ensures { Shown v result }
 {

@@ -31,15 +31,15 @@ abbrev pub decreases-step : goal.decreases-step
 decreases-step l = 5 * l.i + 2
 
 abbrev pub invariant-call-loop-next : goal.invariant-call-loop-next
-invariant-call-loop-next l = (length l.diags ≡ length l.initial.diags) × (length l.stmts ≡ length l.initial.stmts) × Ready l.source l.toks l.bindings l.imports l.then × ArgsFit l.nodes l.i l.next l.row l.then × Near l.kept × ((n : ℕ) (k : Known) (ps : List Passed) → n ≡ l.initial.then.number → Knows l.source l.bindings l.imports l.initial.then k → ArgsAt l.nodes l.i l.initial.next ps
-    → Walk l.source n k l.nodes l.i l.initial.row l.initial.then l.initial.diags l.initial.stmts ps l.kept l.row l.then l.next l.diags l.stmts)
+invariant-call-loop-next l = (length l.diags ≡ length l.initial.diags) × (length l.stmts ≡ length l.initial.stmts) × Ready l.scope.source.now l.scope.toks.now l.scope.bindings.now l.scope.imports.now l.then × ArgsFit l.scope.nodes.now l.i l.next l.row l.then × Near l.kept × ((n : ℕ) (k : Known) (ps : List Passed) → n ≡ l.initial.then.number → Knows l.scope.source.now l.scope.bindings.now l.scope.imports.now l.initial.then k → ArgsAt l.scope.nodes.now l.i l.initial.next ps
+    → Walk l.scope.source.now n k l.scope.nodes.now l.i l.initial.row l.initial.then l.initial.diags l.initial.stmts ps l.kept l.row l.then l.next l.diags l.stmts)
 
 abbrev pub decreases-call-loop-next : goal.decreases-call-loop-next
 decreases-call-loop-next l = left l.i l.next
 
 abbrev pub invariant-climb-loop-depth : goal.invariant-climb-loop-depth
-invariant-climb-loop-depth l = (length l.diags ≡ length l.initial.diags) × (length l.stmts ≡ length l.initial.stmts) × (l.depth ≤ 64) × Ready l.source l.toks l.bindings l.imports l.then.counts × ((n : ℕ) (k : Known) (e d : Expr) (row : ℕ) (x u : List ℕ) (co : Counts) → n ≡ co.number → Knows l.source l.bindings l.imports co k → RepAt l.nodes l.i e → Down l.nodes l.rows l.i e l.initial.depth row d
-    → Agrees l.source l.initial.then x l.initial.diags u l.initial.stmts co (l.at + l.initial.depth) (judge' (contents (tokens l.source)) n k d) → Climbs l.source n k l.nodes l.rows l.i e l.depth l.at l.then x l.diags u l.stmts co)
+invariant-climb-loop-depth l = (length l.diags ≡ length l.initial.diags) × (length l.stmts ≡ length l.initial.stmts) × (l.depth ≤ 64) × Ready l.scope.source.now l.scope.toks.now l.scope.bindings.now l.scope.imports.now l.then.counts × ((n : ℕ) (k : Known) (e d : Expr) (row : ℕ) (x u : List ℕ) (co : Counts) → n ≡ co.number → Knows l.scope.source.now l.scope.bindings.now l.scope.imports.now co k → RepAt l.scope.nodes.now l.i e → Down l.scope.nodes.now l.rows l.i e l.initial.depth row d
+    → Agrees l.scope.source.now l.initial.then x l.initial.diags u l.initial.stmts co (l.at + l.initial.depth) (judge' (contents (tokens l.scope.source.now)) n k d) → Climbs l.scope.source.now n k l.scope.nodes.now l.rows l.i e l.depth l.at l.then x l.diags u l.stmts co)
 
 abbrev pub decreases-climb-loop-depth : goal.decreases-climb-loop-depth
 decreases-climb-loop-depth l = l.depth

@@ -13,13 +13,13 @@ searched-then-requires c = let few = found_few _ _ _ _ c.find-found.ensures in o
 pub returns-then-i-counts : goal.returns-then-i-counts
 returns-then-i-counts c =
     record {
-      is = λ e k. local_found _ (contents (tokens c.args.source.now)) c.args.t _ _ _ _ _ c.find-found.ensures.at (c.name_at-name.ensures c.args.t e) c.if-i-counts.true k (c.held.ensures ∙ rw (c.word.ensures, c.word-then-i-counts.ensures, c.word-then-i-counts-2.ensures, c.word-then-i-counts-3.ensures));
+      is = λ e k. local_found _ (contents (tokens c.args.scope.now.source.now)) c.args.t _ _ _ _ _ c.find-found.ensures.at (c.name_at-name.ensures c.args.t e) c.if-i-counts.true k (c.held.ensures ∙ rw (c.word.ensures, c.word-then-i-counts.ensures, c.word-then-i-counts-2.ensures, c.word-then-i-counts-3.ensures));
       counted = λ e. counted_look _ _ _ c.args.counts c.searched-then.ensures c.find-found.ensures.compared (c.name_at-name.ensures c.args.t e);
     }
 
 pub returns : goal.returns
 returns c =
     record {
-      is = λ e k. local_lost _ (contents (tokens c.args.source.now)) c.args.t _ _ _ _ _ c.find-found.ensures.at (c.name_at-name.ensures c.args.t e) c.if-i-counts.false (c.error.ensures ∙ judged_err _ c.args.t unknown_name e refl);
+      is = λ e k. local_lost _ (contents (tokens c.args.scope.now.source.now)) c.args.t _ _ _ _ _ c.find-found.ensures.at (c.name_at-name.ensures c.args.t e) c.if-i-counts.false (c.error.ensures ∙ judged_err _ c.args.t unknown_name e refl);
       counted = λ e. counted_look _ _ _ c.args.counts c.searched-then.ensures c.find-found.ensures.compared (c.name_at-name.ensures c.args.t e);
     }

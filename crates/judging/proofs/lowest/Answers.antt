@@ -14,4 +14,4 @@ pub overflow_add-next : goal.overflow_add-next
 overflow_add-next c = omega (arith, some_node c.requires.fits.0.tree, c.requires.fits.0.rows)
 
 pub returns : goal.returns
-returns c = λ n k e x u kn rep. leaf_step _ (c.leaf-found.ensures n k e _ kn rep c.requires.fits.1) (leaf_parts c.args.source.now n k rep c.requires.fits.1) refl
+returns c = λ n k e x u kn rep. leaf_step _ (c.leaf-found.ensures n k e _ kn rep c.requires.fits.1) (leaf_parts c.args.scope.now.source.now n k rep c.requires.fits.1) refl

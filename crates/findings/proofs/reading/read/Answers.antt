@@ -1,8 +1,9 @@
+use mathlib.Core.Path.{◌∙◌}
 use Rattle.findings.proofs.Guesses.{read_was, read_nothing}
 use Rattle.findings.proofs.reading.read.Goals as goal
 
-pub returns-in-Is : goal.returns-in-Is
-returns-in-Is c = read_was _ c.guessed-was.ensures c.in-Is.is c.placed.ensures c.confirmed.ensures
+pub returns-in_err-what : goal.returns-in_err-what
+returns-in_err-what c = c.from_residual.ensures ∙ read_nothing _ c.guessed.ensures c.in_err-what.was
 
-pub returns-in-Nothing : goal.returns-in-Nothing
-returns-in-Nothing c = read_nothing _ c.guessed-was.ensures c.in-Nothing.is
+pub returns : goal.returns
+returns c = read_was _ c.guessed.ensures c.in_ok-what.was c.placed.ensures c.confirmed.ensures
