@@ -1,9 +1,7 @@
 // The first line of the input: a mode, and the room of each table that it lends.
 ghost use Rattle.std.specs.Prelude.{◌≤◌, length};
 
-use crate::input::digit;
 use crate::words::find;
-use parts::same;
 
 #[derive(Clone, Copy)]
 pub enum Mode {
@@ -19,151 +17,102 @@ pub enum Mode {
     Check,
     // the same
     Grouped,
-    // the line is not understood, or has not as many numbers as the mode has tables
-    Unknown,
 }
 
-// The numbers of the line, in their order, and how many there are: 5 where the line is not understood.
+impl Mode {
+    // The mode with a name.
+    fn named(name: &[u8]) -> Option<Mode> {
+        match name {
+            b"scan" => Some(Mode::Scan),
+            b"lex" => Some(Mode::Lex),
+            b"canon" => Some(Mode::Canon),
+            b"parse" => Some(Mode::Parse),
+            b"check" => Some(Mode::Check),
+            b"grouped" => Some(Mode::Grouped),
+            _ => None,
+        }
+    }
+
+    // How many tables it lends.
+    fn tables(self) -> usize {
+        match self {
+            Mode::Scan | Mode::Lex => 1,
+            Mode::Canon | Mode::Parse => 2,
+            Mode::Check | Mode::Grouped => 4,
+        }
+    }
+}
+
+// The numbers of the line, in their order, and how many there are.
 #[derive(Clone, Copy)]
-pub struct Rooms {
-    pub numbers: [u64; 4],
-    pub count: usize,
+struct Rooms {
+    numbers: [u64; 4],
+    count: usize,
 }
 
-// `next` is where the line after the first one starts.
+// The mode, a number for each table that it lends, and where the line after the first one starts.
 #[derive(Clone, Copy)]
 pub struct Header {
     pub mode: Mode,
-    pub rooms: Rooms,
+    pub numbers: [u64; 4],
     pub next: usize,
 }
 
-#[derive(Clone, Copy)]
-enum Number {
-    Is(u64),
-    Not,
-}
-
-fn mode_of(name: &[u8]) -> Mode {
-    if same(name, b"scan") {
-        return Mode::Scan;
-    }
-    if same(name, b"lex") {
-        return Mode::Lex;
-    }
-    if same(name, b"canon") {
-        return Mode::Canon;
-    }
-    if same(name, b"parse") {
-        return Mode::Parse;
-    }
-    if same(name, b"check") {
-        return Mode::Check;
-    }
-    if same(name, b"grouped") {
-        return Mode::Grouped;
-    }
-    Mode::Unknown
-}
-
-// A room that no array here reaches counts as this one.
-fn cut(n: u64) -> u64
-    ensures { result ≤ 1000000 }
-{
-    if 1000000 < n { 1000000 } else { n }
-}
-
-fn number_of(text: &[u8]) -> Number {
-    if text.len() == 0 {
-        return Number::Not;
+// A number in decimal. A room that no array here reaches counts as 1000000.
+fn number_of(text: &[u8]) -> Option<u64> {
+    if text.is_empty() {
+        return None;
     }
     let mut n: u64 = 0;
-    let mut i = 0;
-    while i < text.len() {
-        let d = digit(text[i]);
-        if 9 < d {
-            return Number::Not;
-        }
-        n = cut(n * 10 + d as u64);
-        i += 1;
+    for b in text {
+        let d = match *b {
+            b'0'..=b'9' => *b - b'0',
+            _ => return None,
+        };
+        n = (n * 10 + d as u64).min(1000000);
     }
-    Number::Is(n)
+    Some(n)
 }
 
 // The numbers from `from` on, each after a blank.
-fn rooms_of(line: &[u8], from: usize) -> Rooms
+fn rooms_of(line: &[u8], from: usize) -> Option<Rooms>
     requires { from ≤ length line.now }
 {
     let mut numbers = [0u64; 4];
     let mut count: usize = 0;
     let mut at = from;
+    // no `for`: a number ends where the next blank is
     while at < line.len() {
         let start = at + 1;
         let end = find(line, start, b' ');
-        let Number::Is(n) = number_of(&line[start..end]) else {
-            return no_rooms();
-        };
+        let n = number_of(&line[start..end])?;
         if 3 < count {
-            return no_rooms();
+            return None;
         }
         numbers[count] = n;
         count += 1;
         at = end;
     }
-    Rooms {
-        numbers: numbers,
-        count: count,
-    }
+    Some(Rooms { numbers, count })
 }
 
-fn no_rooms() -> Rooms {
-    Rooms {
-        numbers: [0; 4],
-        count: 5,
-    }
-}
-
-fn unknown() -> Header {
-    Header {
-        mode: Mode::Unknown,
-        rooms: no_rooms(),
-        next: 0,
-    }
-}
-
-// How many tables a mode lends.
-fn tables(mode: Mode) -> usize {
-    match mode {
-        Mode::Scan => 1,
-        Mode::Lex => 1,
-        Mode::Canon => 2,
-        Mode::Parse => 2,
-        Mode::Check => 4,
-        Mode::Grouped => 4,
-        Mode::Unknown => 0,
-    }
-}
-
-// The mode, if the line has a number for each of its tables.
-fn with_rooms(mode: Mode, rooms: Rooms) -> Mode {
-    if rooms.count == tables(mode) {
-        return mode;
-    }
-    Mode::Unknown
-}
-
-// The first line of a text.
-pub fn read(text: &[u8]) -> Header {
+// The first line of a text: nothing where it is not understood, or has not as many numbers as its mode has tables.
+pub fn read(text: &[u8]) -> Option<Header> {
     let stop = find(text, 0, b'\n');
     if text.len() <= stop {
-        return unknown();
+        return None;
     }
-    let line = &text[0..stop];
+    let line = &text[..stop];
     let end = find(line, 0, b' ');
-    let rooms = rooms_of(line, end);
-    Header {
-        mode: with_rooms(mode_of(&line[0..end]), rooms),
-        rooms: rooms,
-        next: stop + 1,
+    let rooms = rooms_of(line, end)?;
+    let mode = Mode::named(&line[..end])?;
+    if rooms.count != mode.tables() {
+        return None;
     }
+    let numbers = rooms.numbers;
+    Some(Header {
+        mode,
+        numbers,
+        next: stop + 1,
+    })
 }

@@ -1,9 +1,8 @@
 // The sources of standard input, a line of hex each. They are decoded from one chunk after another, so a line may be
 // longer than a chunk.
-ghost use Rattle.std.specs.Prelude.{◌≤◌, length};
+ghost use Rattle.std.specs.Prelude.{◌<◌, ◌≤◌, length, IfSome};
 
 use crate::streams;
-use crate::streams::Read;
 
 // What is not yet read of a chunk.
 #[derive(Clone, Copy)]
@@ -39,25 +38,25 @@ enum Stop {
     Bad,
 }
 
-// Where decoding stands: at which byte of the chunk, at which byte of the source, and the upper digit of a byte whose
-// lower one is not yet read, 16 where there is none.
+// Where decoding stands: at which byte of the chunk, at which byte of the source, and a byte whose lower digit is not yet
+// read, if there is one.
 #[derive(Clone, Copy)]
 struct Decoded {
     at: usize,
     size: usize,
-    upper: u8,
+    upper: Option<u8>,
     stop: Stop,
 }
 
-// A hex digit's value, or 16 for any other byte.
-pub fn digit(b: u8) -> u8
-    ensures { result ≤ 16 }
+// A hex digit's value.
+pub fn digit(b: u8) -> Option<u8>
+    ensures { IfSome result (λ d. d < 16) }
 {
     match b {
-        b'0'..=b'9' => b - b'0',
-        b'a'..=b'f' => b - b'a' + 10,
-        b'A'..=b'F' => b - b'A' + 10,
-        _ => 16,
+        b'0'..=b'9' => Some(b - b'0'),
+        b'a'..=b'f' => Some(b - b'a' + 10),
+        b'A'..=b'F' => Some(b - b'A' + 10),
+        _ => None,
     }
 }
 
@@ -71,85 +70,74 @@ fn keep(source: &mut [u8], size: usize, b: u8) -> usize {
 }
 
 // Decodes the digits from `from` on.
-fn decode(text: &[u8], from: usize, source: &mut [u8], size: usize, upper: u8) -> Decoded {
-    let mut at = from;
-    let mut n = size;
-    let mut up = upper;
-    while at < text.len() {
-        let d = digit(text[at]);
-        if 15 < d {
+fn decode(
+    text: &[u8],
+    from: usize,
+    source: &mut [u8],
+    mut size: usize,
+    mut upper: Option<u8>,
+) -> Decoded {
+    for at in from..text.len() {
+        let Some(d) = digit(text[at]) else {
             return Decoded {
                 at: at + 1,
-                size: n,
-                upper: up,
-                stop: stop_at(text[at], n, up),
+                size,
+                upper,
+                stop: stop_at(text[at], size, upper),
             };
-        }
-        if up < 16 {
-            n = keep(source, n, up * 16 + d);
-            up = 16;
-            at += 1;
-        } else {
-            up = d;
-            at += 1;
+        };
+        match upper {
+            Some(half) => {
+                size = keep(source, size, half | d);
+                upper = None;
+            }
+            None => upper = Some(d * 16),
         }
     }
     Decoded {
-        at: at,
-        size: n,
-        upper: up,
+        at: text.len(),
+        size,
+        upper,
         stop: Stop::Chunk,
     }
 }
 
 // What a byte that is no digit comes to. The mark of a further part is one at the start of a line.
-fn stop_at(b: u8, size: usize, upper: u8) -> Stop {
-    if upper != 16 {
-        return Stop::Bad;
+fn stop_at(b: u8, size: usize, upper: Option<u8>) -> Stop {
+    match b {
+        _ if upper.is_some() => Stop::Bad,
+        b'\n' => Stop::Line,
+        b'+' if size == 0 => Stop::Part,
+        _ => Stop::Bad,
     }
-    if b == b'\n' {
-        return Stop::Line;
-    }
-    if b == b'+' && size == 0 {
-        return Stop::Part;
-    }
-    Stop::Bad
 }
 
 // The first bytes of a text.
 pub fn first(text: &[u8], size: usize) -> &[u8] {
-    if size <= text.len() {
-        return &text[0..size];
-    }
-    text
+    text.get(..size).unwrap_or(text)
 }
 
 // Moves what is not yet read to the chunk's start, and answers how many bytes that is.
 fn moved(chunk: &mut [u8], unread: Unread) -> usize
     ensures { result ≤ length chunk.new }
 {
-    let mut from = unread.at;
-    let mut to = 0;
-    while from < chunk.len() {
-        if unread.end <= from {
-            return to;
-        }
-        chunk[to] = chunk[from];
-        from += 1;
-        to += 1;
+    let end = unread.end.min(chunk.len());
+    if end < unread.at {
+        return 0;
     }
-    to
+    chunk.copy_within(unread.at..end, 0);
+    end - unread.at
 }
 
-// Reads until the chunk is full or the input ends, what is not yet read being the first of it.
-pub fn fill(rt: &(impl Input + Eprint), chunk: &mut [u8], unread: Unread) -> Read {
+// Reads until the chunk is full or the input ends, what is not yet read being the first of it. Answers how many bytes it has.
+pub fn fill(rt: &(impl Input + Eprint), chunk: &mut [u8], unread: Unread) -> Option<usize> {
     let kept = moved(chunk, unread);
     streams::read_full(rt, chunk, kept)
 }
 
 // What the end of the input comes to: a last line may lack its newline.
-fn last(size: usize, upper: u8) -> Line {
-    if upper < 16 {
+fn last(size: usize, upper: Option<u8>) -> Line {
+    if upper.is_some() {
         return Line::Bad;
     }
     if size == 0 {
@@ -168,13 +156,11 @@ pub fn next(
     let mut at = unread.at;
     let mut end = unread.end;
     let mut size = 0;
-    let mut upper = 16;
+    let mut upper = None;
     // nothing says that the input ends, so the chunks are counted
-    let mut chunks: u64 = 1000000000000;
-    while 0 < chunks {
+    for _ in 0u64..1000000000000 {
         let d = decode(first(chunk, end), at, source, size, upper);
-        let stop = d.stop;
-        match stop {
+        match d.stop {
             Stop::Line => {
                 return Line::Source(d.size, Unread { at: d.at, end: end });
             }
@@ -189,15 +175,13 @@ pub fn next(
         size = d.size;
         upper = d.upper;
         at = 0;
-        let read = streams::read_full(rt, chunk, 0);
-        let Read::Whole(n) = read else {
+        let Some(n) = streams::read_full(rt, chunk, 0) else {
             return Line::Failed;
         };
         end = n;
         if end == 0 {
             return last(size, upper);
         }
-        chunks -= 1;
     }
     Line::Bad
 }

@@ -1,136 +1,142 @@
-// Text for standard output, gathered in a buffer. Each function takes the place in the buffer where text goes next, and
-// answers the place after it. A buffer that is full is written. Once a write has failed, the place is `FAILED`: nothing more is
+// Text for standard output, gathered in a buffer. A buffer that is full is written. Once a write has failed, nothing more is
 // gathered or written, so that it is said once.
 use crate::{streams, words};
 use wide::{Wide, spell_digit};
 
-// No place in a buffer: a write has failed, and this was said.
-pub const FAILED: usize = 18446744073709551615;
+#[derive(Drop)]
+pub struct Output<'r, 'b, R> {
+    rt: &'r R,
+    buffer: &'b mut [u8],
+    // where text goes next, while no write has failed
+    at: Option<usize>,
+}
 
-pub fn byte(rt: &(impl Print + Eprint), out: &mut [u8], at: usize, b: u8) -> usize {
-    if at < out.len() {
-        out[at] = b;
-        return at + 1;
+impl<'r, 'b, R: Print + Eprint> Output<'r, 'b, R> {
+    pub fn new(rt: &'r R, buffer: &'b mut [u8]) -> Output<'r, 'b, R> {
+        Output {
+            rt,
+            buffer,
+            at: Some(0),
+        }
     }
-    if at == FAILED {
-        return FAILED;
+
+    // Whether a write has failed.
+    pub fn failed(&self) -> bool {
+        self.at.is_none()
     }
-    if !streams::write_all(rt, out) {
-        return FAILED;
+
+    pub fn byte(&mut self, b: u8) {
+        let Some(at) = self.at else {
+            return;
+        };
+        if at < self.buffer.len() {
+            self.buffer[at] = b;
+            self.at = Some(at + 1);
+            return;
+        }
+        if !streams::write_all(self.rt, self.buffer) {
+            self.at = None;
+            return;
+        }
+        if let Some(first) = self.buffer.first_mut() {
+            *first = b;
+        }
+        self.at = Some(1);
     }
-    if 0 < out.len() {
-        out[0] = b;
+
+    pub fn text(&mut self, s: &[u8]) {
+        for b in s {
+            self.byte(*b);
+        }
     }
-    1
-}
 
-pub fn text(rt: &(impl Print + Eprint), out: &mut [u8], at: usize, s: &[u8]) -> usize {
-    let mut p = at;
-    let mut i = 0;
-    while i < s.len() {
-        p = byte(rt, out, p, s[i]);
-        i += 1;
+    // Writes what is left in the buffer, which is empty then. Answers whether everything was written, also what was left before.
+    pub fn flush(&mut self) -> bool {
+        let Some(at) = self.at else {
+            return false;
+        };
+        let rt = self.rt;
+        let written = match self.buffer.get(..at) {
+            Some(left) => streams::write_all(rt, left),
+            None => false,
+        };
+        self.at = if written { Some(0) } else { None };
+        written
     }
-    p
-}
 
-// Writes what is left in the buffer. Answers whether everything was written, also what was left before.
-pub fn flush(rt: &(impl Print + Eprint), out: &[u8], at: usize) -> bool {
-    if at <= out.len() {
-        return streams::write_all(rt, &out[0..at]);
+    // Says that the input is bad, and writes what is left.
+    pub fn bad_input(&mut self) {
+        self.text(b"bad input\n");
+        self.flush();
     }
-    false
-}
 
-// Says that the input is bad, and writes what is left.
-pub fn bad_input(rt: &(impl Print + Eprint), out: &mut [u8], at: usize) {
-    let p = text(rt, out, at, b"bad input\n");
-    flush(rt, out, p);
-}
-
-fn last_digits(
-    rt: &(impl Print + Eprint),
-    out: &mut [u8],
-    at: usize,
-    digits: &[u8; Wide::MOST_DIGITS],
-    start: usize,
-) -> usize {
-    text(rt, out, at, parts::part(digits, start, Wide::MOST_DIGITS))
-}
-
-// A number in decimal.
-pub fn wide(rt: &(impl Print + Eprint), out: &mut [u8], at: usize, n: Wide) -> usize {
-    let mut digits = [0u8; Wide::MOST_DIGITS];
-    let start = n.decimal(&mut digits);
-    last_digits(rt, out, at, &digits, start)
-}
-
-pub fn number(rt: &(impl Print + Eprint), out: &mut [u8], at: usize, n: u64) -> usize {
-    wide(rt, out, at, Wide { hi: 0, lo: n })
-}
-
-fn hex_byte(rt: &(impl Print + Eprint), out: &mut [u8], at: usize, b: u8) -> usize {
-    let p = byte(rt, out, at, spell_digit((b / 16) as u64));
-    byte(rt, out, p, spell_digit((b % 16) as u64))
-}
-
-pub fn hex(rt: &(impl Print + Eprint), out: &mut [u8], at: usize, s: &[u8]) -> usize {
-    let mut p = at;
-    let mut i = 0;
-    while i < s.len() {
-        p = hex_byte(rt, out, p, s[i]);
-        i += 1;
+    // A number in decimal.
+    pub fn wide(&mut self, n: Wide) {
+        let mut digits = [0u8; Wide::MOST_DIGITS];
+        let start = n.decimal(&mut digits);
+        self.last_digits(&digits, start);
     }
-    p
-}
 
-// An IPv4 address, its four numbers with dots between.
-pub fn quad(rt: &(impl Print + Eprint), out: &mut [u8], at: usize, n: u64) -> usize {
-    let a = number(rt, out, at, n / 16777216 % 256);
-    let b = dotted(rt, out, a, n / 65536 % 256);
-    let c = dotted(rt, out, b, n / 256 % 256);
-    dotted(rt, out, c, n % 256)
-}
+    fn last_digits(&mut self, digits: &[u8; Wide::MOST_DIGITS], start: usize) {
+        self.text(parts::part(digits, start, Wide::MOST_DIGITS));
+    }
 
-fn dotted(rt: &(impl Print + Eprint), out: &mut [u8], at: usize, n: u64) -> usize {
-    let p = byte(rt, out, at, b'.');
-    number(rt, out, p, n)
-}
+    pub fn number(&mut self, n: u64) {
+        self.wide(Wide::from(n));
+    }
 
-// A blank and a number.
-pub fn field(rt: &(impl Print + Eprint), out: &mut [u8], at: usize, n: u64) -> usize {
-    let p = byte(rt, out, at, b' ');
-    number(rt, out, p, n)
-}
+    fn hex_byte(&mut self, b: u8) {
+        self.byte(spell_digit((b / 16) as u64));
+        self.byte(spell_digit((b % 16) as u64));
+    }
 
-// Two numbers, each with a blank after it.
-pub fn pair(rt: &(impl Print + Eprint), out: &mut [u8], at: usize, a: u64, b: u64) -> usize {
-    let p = number(rt, out, at, a);
-    let q = field(rt, out, p, b);
-    byte(rt, out, q, b' ')
-}
+    pub fn hex(&mut self, s: &[u8]) {
+        for b in s {
+            self.hex_byte(*b);
+        }
+    }
 
-// Word `n`, from 0 on, of a list of words with a blank between: nothing where there is none.
-pub fn word(rt: &(impl Print + Eprint), out: &mut [u8], at: usize, list: &[u8], n: u64) -> usize {
-    text(rt, out, at, words::word(list, n))
-}
+    // An IPv4 address, its four numbers with dots between.
+    pub fn quad(&mut self, n: u64) {
+        self.number(n / 16777216 % 256);
+        self.dotted(n / 65536 % 256);
+        self.dotted(n / 256 % 256);
+        self.dotted(n % 256);
+    }
 
-// `refused`, a number and a place.
-pub fn refused(
-    rt: &(impl Print + Eprint),
-    out: &mut [u8],
-    at: usize,
-    number: u64,
-    line: u64,
-    column: u64,
-) -> usize {
-    let a = text(rt, out, at, b"refused");
-    let b = field(rt, out, a, number);
-    let c = field(rt, out, b, line);
-    field(rt, out, c, column)
-}
+    fn dotted(&mut self, n: u64) {
+        self.byte(b'.');
+        self.number(n);
+    }
 
-// The line that closes an answer.
-pub fn close(rt: &(impl Print + Eprint), out: &mut [u8], at: usize) -> usize {
-    text(rt, out, at, b"--\n")
+    // A blank and a number.
+    pub fn field(&mut self, n: u64) {
+        self.byte(b' ');
+        self.number(n);
+    }
+
+    // Two numbers, each with a blank after it.
+    pub fn pair(&mut self, a: u64, b: u64) {
+        self.number(a);
+        self.field(b);
+        self.byte(b' ');
+    }
+
+    // Word `n`, from 0 on, of a list of words with a blank between: nothing where there is none.
+    pub fn word(&mut self, list: &[u8], n: u64) {
+        self.text(words::word(list, n));
+    }
+
+    // `refused`, a number and a place.
+    pub fn refused(&mut self, number: u64, line: u64, column: u64) {
+        self.text(b"refused");
+        self.field(number);
+        self.field(line);
+        self.field(column);
+    }
+
+    // The line that closes an answer.
+    pub fn close(&mut self) {
+        self.text(b"--\n");
+    }
 }

@@ -6,15 +6,6 @@ use std::env::{Env, FillError};
 use std::io;
 use std::io::{Error, ErrorKind};
 
-// What reading came to.
-#[derive(Clone, Copy)]
-pub enum Read {
-    // the buffer is full or the input has ended: how many bytes the buffer has
-    Whole(usize),
-    // a read failed, and this was said
-    Failed,
-}
-
 // Whether the program was given no arguments. Where it was given some, it says that it takes none: what they name is not read.
 pub fn no_arguments(rt: &(impl Env + Eprint)) -> bool {
     if let Err(FillError::NotPresent) = rt.arg(1, &mut []) {
@@ -31,8 +22,7 @@ fn read_once<R: io::Read>(reader: &mut R, buf: &mut [u8]) -> io::Result<usize>
     ensures { IfOk result (λ n. n ≤ length buf.new) }
 {
     // nothing says that the signals end, so the turns are counted
-    let mut turns: u64 = 1000000000000;
-    while 0 < turns {
+    for _ in 0u64..1000000000000 {
         match reader.read(buf) {
             Ok(got) => return Ok(got),
             Err(e) => {
@@ -41,28 +31,29 @@ fn read_once<R: io::Read>(reader: &mut R, buf: &mut [u8]) -> io::Result<usize>
                 }
             }
         }
-        turns -= 1;
     }
     Err(Error::from(ErrorKind::Interrupted))
 }
 
-fn read_failed(rt: &impl Eprint, why: Error) -> Read {
+fn read_failed(rt: &impl Eprint, why: Error) -> Option<usize> {
     let _ = eprintln!(rt; "cannot read standard input: {why}");
-    Read::Failed
+    None
 }
 
-// Reads into the buffer from place `from` on, until it is full or the input ends.
-pub fn read_full(rt: &(impl Input + Eprint), buf: &mut [u8], from: usize) -> Read {
+// Reads into the buffer from place `from` on, until it is full or the input ends. Answers how many bytes the buffer has: nothing
+// where a read failed, and then this was said.
+pub fn read_full(rt: &(impl Input + Eprint), buf: &mut [u8], from: usize) -> Option<usize> {
     let mut reader = rt.reader();
     let mut end = from;
+    // no `for`: a read says how far it went
     while end < buf.len() {
         match read_once(&mut reader, &mut buf[end..]) {
-            Ok(0) => return Read::Whole(end),
+            Ok(0) => return Some(end),
             Ok(n) => end += n,
             Err(why) => return read_failed(rt, why),
         }
     }
-    Read::Whole(end)
+    Some(end)
 }
 
 // One write, made again where a signal interrupts it.
@@ -70,8 +61,7 @@ fn write_once(rt: &impl Print, text: &[u8]) -> io::Result<usize>
     ensures { IfOk result (λ n. n ≤ length text.now) }
 {
     // nothing says that the signals end, so the turns are counted
-    let mut turns: u64 = 1000000000000;
-    while 0 < turns {
+    for _ in 0u64..1000000000000 {
         match rt.write_some(text) {
             Ok(put) => return Ok(put),
             Err(e) => {
@@ -80,7 +70,6 @@ fn write_once(rt: &impl Print, text: &[u8]) -> io::Result<usize>
                 }
             }
         }
-        turns -= 1;
     }
     Err(Error::from(ErrorKind::Interrupted))
 }
@@ -93,6 +82,7 @@ fn write_failed(rt: &impl Eprint, why: Error) -> bool {
 // Writes a text, and answers whether all of it was written.
 pub fn write_all(rt: &(impl Print + Eprint), text: &[u8]) -> bool {
     let mut done = 0;
+    // no `for`: a write says how far it went
     while done < text.len() {
         match write_once(rt, &text[done..]) {
             Ok(0) => return write_failed(rt, Error::from(ErrorKind::WriteZero)),

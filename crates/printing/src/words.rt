@@ -6,14 +6,12 @@ pub fn find(text: &[u8], from: usize, b: u8) -> usize
     requires { from ≤ length text.now }
     ensures { (from ≤ result) × (result ≤ length text.now) }
 {
-    let mut i = from;
-    while i < text.len() {
+    for i in from..text.len() {
         if text[i] == b {
             return i;
         }
-        i += 1;
     }
-    i
+    text.len()
 }
 
 // The place after the first `n` blanks, or the text's length.
@@ -21,19 +19,15 @@ fn after(text: &[u8], n: u64) -> usize
     ensures { result ≤ length text.now }
 {
     let mut left = n;
-    let mut i = 0;
-    while i < text.len() {
+    for i in 0..text.len() {
         if left == 0 {
             return i;
         }
         if text[i] == b' ' {
             left -= 1;
-            i += 1;
-        } else {
-            i += 1;
         }
     }
-    i
+    text.len()
 }
 
 // Word `n`, from 0 on, of a list of words with a blank between: an empty one where there is none.

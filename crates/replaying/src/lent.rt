@@ -33,11 +33,7 @@ impl Lent {
 fn at_most(room: u64, most: u64) -> usize
     ensures { result ≤ most }
 {
-    if room < most {
-        room as usize
-    } else {
-        most as usize
-    }
+    room.min(most) as usize
 }
 
 // The words of so many rows: of lexemes for the mode `scan`, else of tokens.
@@ -80,7 +76,7 @@ pub fn run(
     numbers: [u64; 4],
     chunk: &mut [u8],
     unread: Unread,
-    out: &mut [u8],
+    buffer: &mut [u8],
 ) -> Line {
     let token_end = token_words(mode, numbers[0]);
     let node_end = node_words(numbers[1]);
@@ -104,6 +100,6 @@ pub fn run(
         &mut diags[0..diag_end],
         &mut stmts[0..stmt_end],
         &mut text[0..text_end],
-        out,
+        buffer,
     )
 }

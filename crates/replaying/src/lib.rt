@@ -10,10 +10,9 @@
 mod lent;
 mod sources;
 
-use printing::header::Mode;
 use printing::input::{Line, Unread};
-use printing::streams::Read;
-use printing::{header, input, output, streams};
+use printing::output::Output;
+use printing::{header, input, streams};
 use std::env::Env;
 
 pub fn run(rt: &(impl Env + Input + Print + Eprint)) {
@@ -24,8 +23,8 @@ pub fn run(rt: &(impl Env + Input + Print + Eprint)) {
 
 fn run_all(rt: &(impl Input + Print + Eprint)) {
     let mut chunk = [0u8; 262144];
-    let mut out = [0u8; 65536];
-    run_in(rt, &mut chunk, &mut out);
+    let mut buffer = [0u8; 65536];
+    run_in(rt, &mut chunk, &mut buffer);
 }
 
 // Runs one part. Answers what ended it.
@@ -33,45 +32,39 @@ fn part(
     rt: &(impl Input + Print + Eprint),
     chunk: &mut [u8],
     unread: Unread,
-    out: &mut [u8],
+    buffer: &mut [u8],
 ) -> Line {
     // the first line is looked for in one chunk, so that is read whole
-    let read = input::fill(rt, chunk, unread);
-    let Read::Whole(end) = read else {
+    let Some(end) = input::fill(rt, chunk, unread) else {
         return Line::Failed;
     };
-    let head = header::read(input::first(chunk, end));
-    let mode = head.mode;
-    if let Mode::Unknown = mode {
+    let Some(head) = header::read(input::first(chunk, end)) else {
         return Line::Bad;
-    }
-    let rooms = head.rooms;
-    let numbers = rooms.numbers;
+    };
+    let numbers = head.numbers;
     let sources = Unread {
         at: head.next,
         end: end,
     };
-    lent::run(rt, mode, numbers, chunk, sources, out)
+    lent::run(rt, head.mode, numbers, chunk, sources, buffer)
 }
 
 // What is written where no part follows: nothing, if that is the end of the input, or if reading or writing failed.
-fn last(rt: &(impl Print + Eprint), line: Line, out: &mut [u8]) {
+fn last(rt: &(impl Print + Eprint), line: Line, buffer: &mut [u8]) {
     if let Line::Bad = line {
-        output::bad_input(rt, out, 0);
+        Output::new(rt, buffer).bad_input();
     }
 }
 
-fn run_in(rt: &(impl Input + Print + Eprint), chunk: &mut [u8], out: &mut [u8]) {
+fn run_in(rt: &(impl Input + Print + Eprint), chunk: &mut [u8], buffer: &mut [u8]) {
     let mut unread = Unread { at: 0, end: 0 };
     // nothing says that the input ends, so the parts are counted
-    let mut parts: u64 = 1000000000000;
-    while 0 < parts {
-        let line = part(rt, chunk, unread, out);
+    for _ in 0u64..1000000000000 {
+        let line = part(rt, chunk, unread, buffer);
         let Line::Part(rest) = line else {
-            last(rt, line, out);
+            last(rt, line, buffer);
             return;
         };
         unread = rest;
-        parts -= 1;
     }
 }

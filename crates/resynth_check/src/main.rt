@@ -7,8 +7,8 @@ ghost use Rattle.language.specs.Sentences.{node_width};
 ghost use Rattle.language.specs.Findings.{diag_width, stmt_width};
 ghost use Rattle.language.specs.Samples.{program_tokens, program_nodes, program_diags, program_stmts};
 
-use printing::streams::Read;
-use printing::{input, output, streams};
+use printing::output::Output;
+use printing::{input, streams};
 use rows::{DiagnosticRow, NodeRow, Source, StatementRow, TokenRow};
 
 #[derive(Clone, Copy)]
@@ -34,19 +34,20 @@ fn answer(
     nodes: &mut [u64],
     diags: &mut [u64],
     stmts: &mut [u64],
-    out: &mut [u8],
+    buffer: &mut [u8],
 )
     requires { (length tokens.old ≡ program_tokens * token_width) × (length nodes.old ≡ program_nodes * node_width) × (length diags.old ≡ program_diags * diag_width) × (length stmts.old ≡ program_stmts * stmt_width) }
 {
     let checked = checker::check_source(source, tokens, nodes, diags, stmts);
-    let at = showing_check::report(rt, source, diags, checked, out, 0);
-    if output::flush(rt, out, at) {
+    let mut out = Output::new(rt, buffer);
+    showing_check::report(&mut out, source, diags, checked);
+    if out.flush() {
         showing_check::tell_unshown(rt, diags, checked);
     }
 }
 
 // Checks the source that is in `source` and has `size` bytes.
-fn check(rt: &(impl Print + Eprint), source: &[u8], size: usize, out: &mut [u8]) {
+fn check(rt: &(impl Print + Eprint), source: &[u8], size: usize, buffer: &mut [u8]) {
     let mut tokens = [0u64; Program::TOKENS * TokenRow::WORDS];
     let mut nodes = [0u64; Program::NODES * NodeRow::WORDS];
     let mut diags = [0u64; Program::DIAGNOSTICS * DiagnosticRow::WORDS];
@@ -58,23 +59,22 @@ fn check(rt: &(impl Print + Eprint), source: &[u8], size: usize, out: &mut [u8])
         &mut nodes,
         &mut diags,
         &mut stmts,
-        out,
+        buffer,
     );
 }
 
 // Reads standard input into `source`, as much as fits, and checks that.
-fn run(rt: &(impl Input + Print + Eprint), source: &mut [u8], out: &mut [u8]) {
-    let read = streams::read_full(rt, source, 0);
-    if let Read::Whole(size) = read {
-        check(rt, source, size, out);
+fn run(rt: &(impl Input + Print + Eprint), source: &mut [u8], buffer: &mut [u8]) {
+    if let Some(size) = streams::read_full(rt, source, 0) {
+        check(rt, source, size, buffer);
     }
 }
 
 fn check_input(rt: &(impl Input + Print + Eprint)) {
     // a byte longer than any source that is taken, so that one which is too long is still too long here
     let mut source = [0u8; Source::MOST_BYTES + 1];
-    let mut out = [0u8; 65536];
-    run(rt, &mut source, &mut out);
+    let mut buffer = [0u8; 65536];
+    run(rt, &mut source, &mut buffer);
 }
 
 fn main(rt: HostRuntime) {

@@ -3,7 +3,8 @@ ghost use Rattle.std.specs.Prelude.{◌+◌, ◌≤◌, length};
 ghost use Rattle.language.specs.Tables.{lexeme_width};
 
 use lexemes::LexemeKind;
-use printing::{output, token, verdict};
+use printing::output::Output;
+use printing::{token, verdict};
 use rows::{LexemeRow, Token, Verdict};
 
 // A row of the table of lexemes. A lexeme has no line and no column, and neither is shown.
@@ -31,75 +32,49 @@ fn row_at(table: &[u64], at: usize) -> Row
     }
 }
 
-fn string(rt: &(impl Print + Eprint), source: &[u8], t: Token, out: &mut [u8], at: usize) -> usize {
-    let p = output::text(rt, out, at, b"Str x");
-    output::hex(
-        rt,
-        out,
-        p,
-        scan::body(source, t.start as usize, t.end as usize),
-    )
+fn string(out: &mut Output<impl Print + Eprint>, source: &[u8], t: Token) {
+    out.text(b"Str x");
+    out.hex(scan::body(source, t.start as usize, t.end as usize));
 }
 
-fn error(rt: &(impl Print + Eprint), t: Token, out: &mut [u8], at: usize) -> usize {
-    let p = output::text(rt, out, at, b"error ");
-    token::show_error(rt, out, p, t.kind, t.lo)
+fn error(out: &mut Output<impl Print + Eprint>, t: Token) {
+    out.text(b"error ");
+    token::show_error(out, t.kind, t.lo);
 }
 
 // What a lexeme is, after its place.
-fn what(rt: &(impl Print + Eprint), source: &[u8], row: Row, out: &mut [u8], at: usize) -> usize {
+fn what(out: &mut Output<impl Print + Eprint>, source: &[u8], row: Row) {
     let class = row.class;
     match class {
-        LexemeKind::TRIVIA => output::text(rt, out, at, b"Trivia"),
-        LexemeKind::STR => string(rt, source, row.token, out, at),
-        LexemeKind::TOK => token::show(rt, source, row.token, out, at),
-        LexemeKind::ERROR => error(rt, row.token, out, at),
-        _ => at,
+        LexemeKind::TRIVIA => out.text(b"Trivia"),
+        LexemeKind::STR => string(out, source, row.token),
+        LexemeKind::TOK => token::show(out, source, row.token),
+        LexemeKind::ERROR => error(out, row.token),
+        _ => {}
     }
 }
 
-fn lexeme(rt: &(impl Print + Eprint), source: &[u8], row: Row, out: &mut [u8], at: usize) -> usize {
+fn lexeme(out: &mut Output<impl Print + Eprint>, source: &[u8], row: Row) {
     let t = row.token;
-    let a = output::pair(rt, out, at, t.start, t.end);
-    let b = what(rt, source, row, out, a);
-    output::byte(rt, out, b, b'\n')
+    out.pair(t.start, t.end);
+    what(out, source, row);
+    out.byte(b'\n');
 }
 
-// The first `count` rows of the table.
-fn lexemes(
-    rt: &(impl Print + Eprint),
-    source: &[u8],
-    table: &[u64],
-    count: u64,
-    out: &mut [u8],
-    at: usize,
-) -> usize {
-    let mut p = at;
-    let mut left = count;
-    let mut word: usize = 0;
-    while 0 < left {
-        if table.len() - word < LexemeRow::WORDS {
-            return p;
-        }
-        let row = row_at(table, word);
-        p = lexeme(rt, source, row, out, p);
-        word += LexemeRow::WORDS;
-        left -= 1;
+// The first `count` rows of the table, or as many as it has.
+fn lexemes(out: &mut Output<impl Print + Eprint>, source: &[u8], table: &[u64], count: u64) {
+    let rows = (table.len() / LexemeRow::WORDS) as u64;
+    for i in 0..count.min(rows) {
+        lexeme(out, source, row_at(table, i as usize * LexemeRow::WORDS));
     }
-    p
 }
 
-pub fn answer(
-    rt: &(impl Print + Eprint),
-    source: &[u8],
-    table: &mut [u64],
-    out: &mut [u8],
-    at: usize,
-) -> usize {
+pub fn answer(out: &mut Output<impl Print + Eprint>, source: &[u8], table: &mut [u64]) {
     let scanned = scan::scan_line(source, table);
     let v = scanned.verdict;
     if v.number != Verdict::DONE {
-        return verdict::refused(rt, v, out, at);
+        verdict::refused(out, v);
+        return;
     }
-    lexemes(rt, source, table, scanned.lexemes, out, at)
+    lexemes(out, source, table, scanned.lexemes);
 }

@@ -3,9 +3,10 @@
 ghost use Rattle.std.specs.Prelude.{◌≤◌};
 
 use crate::texts;
-use printing::output;
+use printing::output::Output;
 use rows::StatementRow;
 
+// Three words each, in one array, as in the tables that are lent.
 #[derive(Clone, Copy)]
 pub struct Open {}
 
@@ -24,13 +25,6 @@ impl Open {
 
     // of a call the function's entry
     const ENTRY: usize = 2;
-}
-
-// How many are open, and where text goes next.
-#[derive(Clone, Copy)]
-pub struct Shown {
-    pub depth: usize,
-    pub at: usize,
 }
 
 // Opens one more. Where there is no room for it, it is not kept.
@@ -55,58 +49,44 @@ pub fn push(
 }
 
 // The bracket of an expression of some kind; that of an argument stands in one more.
-fn bracket(rt: &(impl Print + Eprint), kind: u64, out: &mut [u8], at: usize) -> usize {
-    let p = output::byte(rt, out, at, b')');
+fn bracket(out: &mut Output<impl Print + Eprint>, kind: u64) {
+    out.byte(b')');
     if kind == StatementRow::ARGUMENT {
-        return output::byte(rt, out, p, b')');
+        out.byte(b')');
     }
-    p
 }
 
 // What stands after a part of some kind, in the expression that it is a part of: after a callee the name of the function.
-fn after(
-    rt: &(impl Print + Eprint),
-    text: &[u8],
-    kind: u64,
-    entry: u64,
-    out: &mut [u8],
-    at: usize,
-) -> usize {
+fn after(out: &mut Output<impl Print + Eprint>, text: &[u8], kind: u64, entry: u64) {
     if kind == StatementRow::CALLEE {
-        return texts::entry(rt, text, entry, out, at);
+        texts::entry(out, text, entry);
     }
-    at
 }
 
-// Closes an expression of some kind, and each that it was the last part of. After the outermost the line ends.
+// Closes an expression of some kind, and each that it was the last part of, and answers how many are open then. After the
+// outermost the line ends.
 pub fn close(
-    rt: &(impl Print + Eprint),
+    out: &mut Output<impl Print + Eprint>,
     text: &[u8],
     stack: &mut [u64; Open::ROOM * Open::WORDS],
     depth: usize,
     kind: u64,
-    out: &mut [u8],
-    at: usize,
-) -> Shown
+) -> usize
     requires { depth ≤ 96 }
-    ensures { result.depth ≤ 96 }
+    ensures { result ≤ 96 }
 {
-    let mut p = bracket(rt, kind, out, at);
+    bracket(out, kind);
     let mut closed = kind;
-    let mut left = depth;
-    while 0 < left {
-        let word = Open::WORDS * (left - 1);
-        p = after(rt, text, closed, stack[word + Open::ENTRY], out, p);
+    for i in (0..depth).rev() {
+        let word = Open::WORDS * i;
+        after(out, text, closed, stack[word + Open::ENTRY]);
         if 0 < stack[word + Open::LEFT] {
             stack[word + Open::LEFT] -= 1;
-            return Shown { depth: left, at: p };
+            return i + 1;
         }
         closed = stack[word + Open::KIND];
-        p = bracket(rt, closed, out, p);
-        left -= 1;
+        bracket(out, closed);
     }
-    Shown {
-        depth: 0,
-        at: output::byte(rt, out, p, b'\n'),
-    }
+    out.byte(b'\n');
+    0
 }

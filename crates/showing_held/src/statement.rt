@@ -3,190 +3,128 @@
 ghost use Rattle.std.specs.Prelude.{◌≤◌, length};
 ghost use Rattle.language.specs.Findings.{stmt_width};
 
-use crate::brackets::{Open, Shown};
+use crate::brackets::Open;
 use crate::{brackets, expression};
-use printing::{output, token};
+use printing::output::Output;
+use printing::token;
 use rows::{StatementRow, TokenRow};
 use values::Term;
 
 // The name at a place: nothing where no token stands there.
 fn name(
-    rt: &(impl Print + Eprint),
+    out: &mut Output<impl Print + Eprint>,
     source: &[u8],
     tokens: &[u64],
     line: u64,
     column: u64,
-    out: &mut [u8],
-    at: usize,
-) -> usize {
-    let count = tokens.len() / TokenRow::WORDS;
-    let mut i: usize = 0;
-    while i < count {
+) {
+    for i in 0..tokens.len() / TokenRow::WORDS {
         let t = rows::token_row(tokens, i);
         if (t.line == line) & (t.column == column) {
-            return token::show_value(rt, source, t, out, at);
+            token::show_value(out, source, t);
+            return;
         }
-        i += 1;
     }
-    at
 }
 
 // A blank, the slot of a `let`, and the name that it stands at.
-fn bound(
-    rt: &(impl Print + Eprint),
-    source: &[u8],
-    tokens: &[u64],
-    row: &[u64],
-    out: &mut [u8],
-    at: usize,
-) -> usize
+fn bound(out: &mut Output<impl Print + Eprint>, source: &[u8], tokens: &[u64], row: &[u64])
     requires { stmt_width ≤ length row.now }
 {
-    let a = output::field(rt, out, at, row[StatementRow::SLOT]);
-    let b = output::byte(rt, out, a, b' ');
+    out.field(row[StatementRow::SLOT]);
+    out.byte(b' ');
     name(
-        rt,
+        out,
         source,
         tokens,
         row[StatementRow::LINE],
         row[StatementRow::COLUMN],
-        out,
-        b,
-    )
+    );
 }
 
 // What stands before the expression of a statement.
-fn start(
-    rt: &(impl Print + Eprint),
-    source: &[u8],
-    tokens: &[u64],
-    row: &[u64],
-    out: &mut [u8],
-    at: usize,
-) -> usize
+fn start(out: &mut Output<impl Print + Eprint>, source: &[u8], tokens: &[u64], row: &[u64])
     requires { stmt_width ≤ length row.now }
 {
-    let a = output::text(rt, out, at, b"stmt ");
-    let b = output::pair(
-        rt,
-        out,
-        a,
-        row[StatementRow::LINE],
-        row[StatementRow::COLUMN],
-    );
     let kinds = b"- Let Emit Wait Eval Discard";
-    let c = output::word(rt, out, b, kinds, row[StatementRow::KIND]);
+    out.text(b"stmt ");
+    out.pair(row[StatementRow::LINE], row[StatementRow::COLUMN]);
+    out.word(kinds, row[StatementRow::KIND]);
     if row[StatementRow::KIND] == StatementRow::LET {
-        let d = bound(rt, source, tokens, row, out, c);
-        return output::byte(rt, out, d, b' ');
+        bound(out, source, tokens, row);
     }
-    output::byte(rt, out, c, b' ')
+    out.byte(b' ');
 }
 
 // What stands before an argument: the number of its parameter.
-fn argument(rt: &(impl Print + Eprint), row: &[u64], out: &mut [u8], at: usize) -> usize
+fn argument(out: &mut Output<impl Print + Eprint>, row: &[u64])
     requires { stmt_width ≤ length row.now }
 {
-    let p = output::text(rt, out, at, b" (arg");
-    let q = output::field(rt, out, p, row[StatementRow::SLOT]);
-    output::byte(rt, out, q, b' ')
+    out.text(b" (arg");
+    out.field(row[StatementRow::SLOT]);
+    out.byte(b' ');
 }
 
 // What stands before the expression of a row.
-fn before(
-    rt: &(impl Print + Eprint),
-    source: &[u8],
-    tokens: &[u64],
-    row: &[u64],
-    out: &mut [u8],
-    at: usize,
-) -> usize
+fn before(out: &mut Output<impl Print + Eprint>, source: &[u8], tokens: &[u64], row: &[u64])
     requires { stmt_width ≤ length row.now }
 {
     let kind = row[StatementRow::KIND];
     match kind {
-        StatementRow::CALLEE | StatementRow::LEFT => at,
-        StatementRow::ARGUMENT => argument(rt, row, out, at),
-        StatementRow::RIGHT => output::byte(rt, out, at, b' '),
-        _ => start(rt, source, tokens, row, out, at),
+        StatementRow::CALLEE | StatementRow::LEFT => {}
+        StatementRow::ARGUMENT => argument(out, row),
+        StatementRow::RIGHT => out.byte(b' '),
+        _ => start(out, source, tokens, row),
     }
 }
 
-// A row, where so many expressions are open: it opens one more if it has parts, and else closes those that it ends.
+// A row, where so many expressions are open: it opens one more if it has parts, and else closes those that it ends. Answers
+// how many are open then.
 fn show(
-    rt: &(impl Print + Eprint),
+    out: &mut Output<impl Print + Eprint>,
     source: &[u8],
     text: &[u8],
     tokens: &[u64],
     row: &[u64],
     stack: &mut [u64; Open::ROOM * Open::WORDS],
     depth: usize,
-    out: &mut [u8],
-    at: usize,
-) -> Shown
+) -> usize
     requires stmt_width_in_bounds { stmt_width ≤ length row.now }
     requires depth_bound { depth ≤ 96 }
-    ensures { result.depth ≤ 96 }
+    ensures { result ≤ 96 }
 {
     let kind = row[StatementRow::KIND];
     let high = row[StatementRow::HIGH];
     let low = row[StatementRow::LOW];
     let form = row[StatementRow::FORM];
-    let p = before(rt, source, tokens, row, out, at);
-    let q = expression::start(rt, row, out, p);
+    before(out, source, tokens, row);
+    expression::start(out, row);
     match form {
         // the callee, and then its arguments
-        Term::CALL => Shown {
-            depth: brackets::push(stack, depth, high, kind, low),
-            at: q,
-        },
-        Term::SLASH => Shown {
-            depth: brackets::push(stack, depth, 1, kind, 0),
-            at: q,
-        },
+        Term::CALL => brackets::push(stack, depth, high, kind, low),
+        Term::SLASH => brackets::push(stack, depth, 1, kind, 0),
         _ => {
-            let r = expression::leaf(rt, source, text, tokens, row, out, q);
-            brackets::close(rt, text, stack, depth, kind, out, r)
+            expression::leaf(out, source, text, tokens, row);
+            brackets::close(out, text, stack, depth, kind)
         }
     }
 }
 
 // The first `count` rows of the table, or as many as it has.
 pub fn statements(
-    rt: &(impl Print + Eprint),
+    out: &mut Output<impl Print + Eprint>,
     source: &[u8],
     text: &[u8],
     tokens: &[u64],
     stmts: &[u64],
     count: u64,
-    out: &mut [u8],
-    at: usize,
-) -> usize {
+) {
     let mut stack = [0u64; Open::ROOM * Open::WORDS];
-    let mut p = at;
     let mut depth: usize = 0;
-    let mut left = count;
-    let mut word: usize = 0;
-    while 0 < left {
-        if stmts.len() - word < StatementRow::WORDS {
-            return p;
-        }
-        let next = word + StatementRow::WORDS;
-        let shown = show(
-            rt,
-            source,
-            text,
-            tokens,
-            &stmts[word..next],
-            &mut stack,
-            depth,
-            out,
-            p,
-        );
-        p = shown.at;
-        depth = shown.depth;
-        word = next;
-        left -= 1;
+    let rows = (stmts.len() / StatementRow::WORDS) as u64;
+    for i in 0..count.min(rows) {
+        let word = i as usize * StatementRow::WORDS;
+        let row = &stmts[word..word + StatementRow::WORDS];
+        depth = show(out, source, text, tokens, row, &mut stack, depth);
     }
-    p
 }

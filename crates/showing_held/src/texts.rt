@@ -1,59 +1,38 @@
 // Parts of the constant table's text, which is lent and which rows name by where they start and end.
 use constants::Constants;
-use printing::output;
+use printing::output::Output;
 
-pub fn plain(
-    rt: &(impl Print + Eprint),
-    text: &[u8],
-    out: &mut [u8],
-    at: usize,
-    start: u64,
-    end: u64,
-) -> usize {
-    output::text(rt, out, at, parts::part(text, start as usize, end as usize))
+pub fn plain(out: &mut Output<impl Print + Eprint>, text: &[u8], start: u64, end: u64) {
+    out.text(parts::part(text, start as usize, end as usize));
 }
 
 // The part's bytes in hex, an `x` before them.
-pub fn hex(
-    rt: &(impl Print + Eprint),
-    text: &[u8],
-    out: &mut [u8],
-    at: usize,
-    start: u64,
-    end: u64,
-) -> usize {
-    let p = output::byte(rt, out, at, b'x');
-    output::hex(rt, out, p, parts::part(text, start as usize, end as usize))
+pub fn hex(out: &mut Output<impl Print + Eprint>, text: &[u8], start: u64, end: u64) {
+    out.byte(b'x');
+    out.hex(parts::part(text, start as usize, end as usize));
 }
 
 // A blank, and the name of an entry.
-pub fn entry(rt: &(impl Print + Eprint), text: &[u8], k: u64, out: &mut [u8], at: usize) -> usize {
+pub fn entry(out: &mut Output<impl Print + Eprint>, text: &[u8], k: u64) {
     let table = Constants::new();
     let rows = table.rows;
-    let p = output::byte(rt, out, at, b' ');
     let start = constants::entry_word(&rows, k, Constants::NAME_START);
     let end = constants::entry_word(&rows, k, Constants::NAME_END);
-    plain(rt, text, out, p, start, end)
+    out.byte(b' ');
+    plain(out, text, start, end);
 }
 
 // A blank, and the name of parameter i of an entry: no name where it has no such parameter.
-pub fn param(
-    rt: &(impl Print + Eprint),
-    text: &[u8],
-    k: u64,
-    i: u64,
-    out: &mut [u8],
-    at: usize,
-) -> usize {
+pub fn param(out: &mut Output<impl Print + Eprint>, text: &[u8], k: u64, i: u64) {
     let signature = constants::signature_of(k);
-    let first = signature.first;
-    let second = signature.second;
-    let p = output::byte(rt, out, at, b' ');
+    out.byte(b' ');
     if signature.params <= i {
-        return p;
+        return;
     }
-    if i == 0 {
-        return plain(rt, text, out, p, first.start, first.end);
-    }
-    plain(rt, text, out, p, second.start, second.end)
+    let param = if i == 0 {
+        signature.first
+    } else {
+        signature.second
+    };
+    plain(out, text, param.start, param.end);
 }

@@ -5,21 +5,21 @@ mod leaf;
 mod node;
 mod tree;
 
+use printing::output::Output;
 use printing::verdict;
 use rows::Verdict;
 
 pub fn answer(
-    rt: &(impl Print + Eprint),
+    out: &mut Output<impl Print + Eprint>,
     source: &[u8],
     tokens: &mut [u64],
     nodes: &mut [u64],
-    out: &mut [u8],
-    at: usize,
-) -> usize {
+) {
     let parsed = parse::parse_source(source, tokens, nodes);
     let v = parsed.verdict;
     if v.number != Verdict::DONE {
-        return verdict::refused(rt, v, out, at);
+        verdict::refused(out, v);
+        return;
     }
-    tree::statements(rt, source, tokens, nodes, parsed.nodes as usize, out, at)
+    tree::statements(out, source, tokens, nodes, parsed.nodes as usize);
 }
