@@ -1,5 +1,8 @@
 // Text for standard output, gathered in a buffer. A buffer that is full is written. Once a write has failed, nothing more is
 // gathered or written, so that it is said once.
+ghost use Rattle.std.specs.Prelude.{◌≡◌, Some};
+ghost use Rattle.std.specs.Option.{is_none};
+
 use crate::{streams, words};
 use wide::{Wide, spell_digit};
 
@@ -12,7 +15,9 @@ pub struct Output<'r, 'b, R> {
 }
 
 impl<'r, 'b, R: Print + Eprint> Output<'r, 'b, R> {
-    pub fn new(rt: &'r R, buffer: &'b mut [u8]) -> Output<'r, 'b, R> {
+    pub fn new(rt: &'r R, buffer: &'b mut [u8]) -> Output<'r, 'b, R>
+        ensures { result.at ≡ Some 0 }
+    {
         Output {
             rt,
             buffer,
@@ -21,7 +26,9 @@ impl<'r, 'b, R: Print + Eprint> Output<'r, 'b, R> {
     }
 
     // Whether a write has failed.
-    pub fn failed(&self) -> bool {
+    pub fn failed(&self) -> bool
+        ensures { result ≡ is_none self.now.at }
+    {
         self.at.is_none()
     }
 
