@@ -1,7 +1,6 @@
 -- Binding: one argument, then the next, to at most two parameters.
 use mathlib.Core.Path.{◌≡◌, refl, sym, ap, subst, ◌∙◌}
 use mathlib.Core.List.{List, [], ◌∷◌, ◌++◌, append-nil}
-use mathlib.Core.Logic.{inl, inr}
 use Prim.Native.Nat.{ℕ, ◌+◌, ◌≤◌, ◌<◌}
 use native.Mathlib.Omega.{arith}
 use borrow.Author.Tests.{lt-ltb, le-ltb}
@@ -28,10 +27,10 @@ use Rattle.findings.proofs.Rows.{no_rows}
 use Rattle.findings.proofs.Adds.{adds_none, adds_then, adds_number}
 use Rattle.values.specs.declared.Term.{Term}
 use Rattle.values.specs.declared.Halt.TheVariants.{Found}
-use Rattle.values.specs.declared.Judgement.{Judgement}
+use Rattle.values.specs.Values.{Judgement}
 use Rattle.values.specs.Values.{Judged, term_as, TypeShown, judged_as}
 use Rattle.values.proofs.Values.{judged_err}
-use Rattle.holding.specs.declared.Step.{Step}
+use Rattle.holding.specs.Holding.{Step, step}
 use Rattle.holding.specs.Holding.{put_held, Judges, Puts}
 use Rattle.holding.proofs.Rows.{held_own, held_two}
 use Rattle.holding.proofs.Holding.{term_at_lem}
@@ -39,9 +38,9 @@ use Rattle.fitting.specs.Fitting.{Fits}
 use Rattle.fitting.proofs.Keeping.{fit_keeps}
 use Rattle.arguments.specs.declared.Given.{Given}
 use Rattle.arguments.specs.declared.Kept.{Kept}
-use Rattle.arguments.specs.Arguments.{given_as, after, end, spread, Keeps, fitted_as, WrongType, Placed, Takes, step, call_as, finished, follows, Bound}
+use Rattle.arguments.specs.Arguments.{given_as, after, end, spread, Keeps, fitted_as, WrongType, Placed, Takes, call_as, finished, Bound, Binds}
 use Rattle.arguments.proofs.Then.{NoValue, failed, failed_twice, failed_stops, fails, goes, same_out, then_then}
-use Rattle.arguments.proofs.Outs.{HasNone, has_value, has_none, failed_as, which}
+use Rattle.arguments.proofs.Outs.{HasNone, has_value, has_none, failed_as}
 
 -- ---- one argument
 
@@ -181,7 +180,7 @@ module _ (k : ℕ) (a : Arg) (e : terms.Term) (p : parts e ≡ parts a.term) whe
 
 -- ---- the end
 
-module _ (s : List ℕ) (at f m w over row : ℕ) (c : Counts) {r : Step} (g : r ≡ finished s at f m w over row c) where
+module _ (s : List ℕ) (at f m w over row : ℕ) (c : Counts) {r : Step} (g : r ≡ step (finished s at f m w over) c row) where
   within : m ≤ w → r ≡ step (Ok (call_as at f w)) c row
   unfolding finished
   within h = g ∙ rw (le-ltb w m h)
@@ -191,30 +190,19 @@ module _ (s : List ℕ) (at f m w over row : ℕ) (c : Counts) {r : Step} (g : r
   beyond h = g ∙ rw (lt-ltb w m h)
 
 -- the same as the code has it
-pub too_many_lem : (s : List ℕ) (at f m w over row : ℕ) {c : Counts} {tok : Token} {o : Judged} → w < m → tok ≡ token_as (token_of s over)
-    → o ≡ Err (Found (at_token tok (what_is.TooManyArgs f m w))) → step o c row ≡ finished s at f m w over row c
+pub too_many_lem : (s : List ℕ) (at f m w over : ℕ) {tok : Token} {o : Judged} → w < m → tok ≡ token_as (token_of s over)
+    → o ≡ Err (Found (at_token tok (what_is.TooManyArgs f m w))) → o ≡ finished s at f m w over
 unfolding finished
-too_many_lem s at f m w over row {c} h p e =
-    rw (lt-ltb w m h) (ap (λ (q : Judged). step q c row) (e ∙ judged_err s over (too_many_args f m w) p refl))
+too_many_lem s at f m w over h p e = rw (lt-ltb w m h) (e ∙ judged_err s over (too_many_args f m w) p refl)
 
-pub too_few : (s : List ℕ) (f m w at row : ℕ) {c : Counts} {tok : Token} {o : Judged} → tok ≡ token_as (token_of s at)
-    → o ≡ Err (Found (at_token tok (what_is.TooFewArgs f m w))) → step o c row ≡ step (judged_as s (err at (too_few_args f m w))) c row
-too_few s f m w at row {c} p e = ap (λ (q : Judged). step q c row) (e ∙ judged_err s at (too_few_args f m w) p refl)
+pub too_few : (s : List ℕ) (f m w at : ℕ) {tok : Token} {o : Judged} → tok ≡ token_as (token_of s at)
+    → o ≡ Err (Found (at_token tok (what_is.TooFewArgs f m w))) → o ≡ judged_as s (err at (too_few_args f m w))
+too_few s f m w at p e = e ∙ judged_err s at (too_few_args f m w) p refl
 
-pub enough : (s : List ℕ) (at f m w over row : ℕ) {kind : ℕ} {c : Counts} → m ≤ w → kind ≡ ty_kind (entry_at f).gives
-    → step (Ok (record { at = at; form = 3; kind = kind; lo = f; hi = w })) c row ≡ finished s at f m w over row c
+pub enough : (s : List ℕ) (at f m w over : ℕ) {kind : ℕ} → m ≤ w → kind ≡ ty_kind (entry_at f).gives
+    → Ok (record { at = at; form = 3; kind = kind; lo = f; hi = w }) ≡ finished s at f m w over
 unfolding finished
-enough s at f m w over row h e = rw (le-ltb w m h, e)
-
--- with a value, and with none
-pub follows_value : {o : Judged} {v : Term} (a b : Step) → o ≡ Ok v → follows o a b ≡ a
-unfolding follows
-follows_value a b e = rw e
-
-pub follows_none : (o : Judged) (a b : Step) → HasNone o → follows o a b ≡ b
-unfolding follows
-follows_none (Ok v) a b h = absurd (h v refl)
-follows_none (Err h') a b h = refl
+enough s at f m w over h e = rw (le-ltb w m h, e)
 
 -- ---- to no parameter, to one, to two
 
@@ -230,7 +218,7 @@ Binding n at f ps gs = bind_from n at f (length gs) (length ps) 0 ps gs
 
 module _ (s : List ℕ) (n at f : ℕ) {kept : Kept} {k row w : ℕ} {x t u : List ℕ} {c : Counts} where
   pub none_0 : {r : Step} (ps : List Param) (gs : List Arg) → Start s kept k row w t u ps gs → w ≡ 0
-      → r ≡ finished s at f kept.count w kept.first.first row c → Bound s r x x u t c at f k (Binding n at f ps gs)
+      → r ≡ step (finished s at f kept.count w kept.first.first) c row → Bound s r x x u t c at f k (Binding n at f ps gs)
   unfolding bind_from end spread arg_parts
   none_0 [] [] b z g =
       is_bound s at f k u no_more (within s at f kept.count w _ row c g (omega (arith, b.keeps.count))) b.wanted (b.free ∙ omega arith)
@@ -260,8 +248,8 @@ module _ (s : List ℕ) (n at f : ℕ) {kept : Kept} {k row w : ℕ} {x t u : Li
 
     -- and has a value
     module _ {o : Term} (h : r₁.out ≡ Ok o) where
-      none_1 : {r : Step} (ps : List Param) (gs : List Arg) → Start s kept k row w t u ps gs → Takes s f 0 ps kept.first c x t r₁ y v → w ≡ 1
-          → (kept.count ≡ 0 → ⊥) → r ≡ finished s at f kept.count w kept.second.first row r₁.counts
+      pub none_1 : {r : Step} (ps : List Param) (gs : List Arg) → Start s kept k row w t u ps gs → Takes s f 0 ps kept.first c x t r₁ y v → w ≡ 1
+          → (kept.count ≡ 0 → ⊥) → r ≡ step (finished s at f kept.count w kept.second.first) r₁.counts row
           → Bound s r x y u v c at f k (Binding n at f ps gs)
       unfolding bind_from and_then end spread
       none_1 [] gs b F z l g = absurd (omega (arith, b.wanted))
@@ -296,7 +284,7 @@ module _ (s : List ℕ) (n at f : ℕ) {kept : Kept} {k row w : ℕ} {x t u : Li
 
       -- and the second was fitted
       module _ {r₂ : Judgement} {y' v' : List ℕ} where
-        bad_2 : (ps : List Param) (gs : List Arg) → Start s kept k row w t u ps gs → Takes s f 0 ps kept.first c x t r₁ y v
+        pub bad_2 : (ps : List Param) (gs : List Arg) → Start s kept k row w t u ps gs → Takes s f 0 ps kept.first c x t r₁ y v
             → Takes s f 1 ps kept.second r₁.counts y v r₂ y' v' → (w ≡ 0 → ⊥) → (w ≡ 1 → ⊥) → (kept.count ≡ 0 → ⊥) → (kept.count ≡ 1 → ⊥)
             → HasNone r₂.out → Bound s (step r₂.out r₂.counts row) x y' u v' c at f k (Binding n at f ps gs)
         unfolding bind_from
@@ -312,10 +300,10 @@ module _ (s : List ℕ) (n at f : ℕ) {kept : Kept} {k row w : ℕ} {x t u : Li
             (subst (Bound s (step r₂.out r₂.counts row) y y' u v' r₁.counts at f k) (sym (then_then (fitted_as n f 1 p' a') _ _))
             (is_stopped (fitted_as n f 1 p' a') _ d'.judges (has_none s (fitted_as n f 1 p' a').out d'.judges.out q)))
 
-        none_2 : {o' : Term} {r : Step} (ps : List Param) (gs : List Arg) → Start s kept k row w t u ps gs
+        pub none_2 : {o' : Term} {r : Step} (ps : List Param) (gs : List Arg) → Start s kept k row w t u ps gs
             → Takes s f 0 ps kept.first c x t r₁ y v → Takes s f 1 ps kept.second r₁.counts y v r₂ y' v' → w ≤ 2 → (w ≡ 0 → ⊥) → (w ≡ 1 → ⊥)
             → (kept.count ≡ 0 → ⊥) → (kept.count ≡ 1 → ⊥) → r₂.out ≡ Ok o'
-            → r ≡ finished s at f kept.count w kept.third row r₂.counts → Bound s r x y' u v' c at f k (Binding n at f ps gs)
+            → r ≡ step (finished s at f kept.count w kept.third) r₂.counts row → Bound s r x y' u v' c at f k (Binding n at f ps gs)
         unfolding bind_from and_then end spread
         none_2 [] gs b F G z i j l m q g = absurd (i b.wanted)
         none_2 (p ∷ []) gs b F G z i j l m q g = absurd (j b.wanted)
@@ -348,25 +336,10 @@ module _ (s : List ℕ) (n at f : ℕ) {kept : Kept} {k row w : ℕ} {x t u : Li
             (beyond s at f kept.count w _ row r₂.counts g (omega (arith, b.keeps.count, b.wanted)))
             (b.keeps.third a a' a'' gs refl) b.keeps.count b.wanted)))
 
-        pub last_2 : {r : Step} (ps : List Param) (gs : List Arg) → Start s kept k row w t u ps gs → Takes s f 0 ps kept.first c x t r₁ y v
-            → Takes s f 1 ps kept.second r₁.counts y v r₂ y' v' → w ≤ 2 → (w ≡ 0 → ⊥) → (w ≡ 1 → ⊥) → (kept.count ≡ 0 → ⊥)
-            → (kept.count ≡ 1 → ⊥)
-            → r ≡ follows r₂.out (finished s at f kept.count w kept.third row r₂.counts) (step r₂.out r₂.counts row)
-            → Bound s r x y' u v' c at f k (Binding n at f ps gs)
-        last_2 ps gs b F G z i j l m g = elim (which r₂.out) [
-          | inl q ↦ none_2 ps gs b F G z i j l m q.is (g ∙ follows_value _ _ q.is)
-          | inr q ↦
-              subst (λ (o : Step). Bound s o x y' u v' c at f k (Binding n at f ps gs)) (sym (g ∙ follows_none r₂.out _ _ q))
-              (bad_2 ps gs b F G i j l m q)
-        ]
-
-    pub last_1 : {r : Step} (ps : List Param) (gs : List Arg) → Start s kept k row w t u ps gs → Takes s f 0 ps kept.first c x t r₁ y v → w ≡ 1
-        → (kept.count ≡ 0 → ⊥)
-        → r ≡ follows r₁.out (finished s at f kept.count w kept.second.first row r₁.counts) (step r₁.out r₁.counts row)
-        → Bound s r x y u v c at f k (Binding n at f ps gs)
-    last_1 ps gs b F z l g = elim (which r₁.out) [
-      | inl q ↦ none_1 q.is ps gs b F z l (g ∙ follows_value _ _ q.is)
-      | inr q ↦
-          subst (λ (o : Step). Bound s o x y u v c at f k (Binding n at f ps gs)) (sym (g ∙ follows_none r₁.out _ _ q))
-          (bad_1 ps gs b F (λ e. omega arith) l q)
-    ]
+-- what holds of any arguments that were kept is what binding promises
+pub binds : (s : List ℕ) (at f : ℕ) {kept : Kept} {row w : ℕ} {c : Counts} {x t : List ℕ} {r : Step} {y v : List ℕ} → w ≡ length (entry_at f).params
+    → ((n k : ℕ) (u : List ℕ) (gs : List Arg) → n ≡ c.number → Start s kept k row w t u (entry_at f).params gs
+    → Bound s r x y u v c at f k (Binding n at f (entry_at f).params gs))
+    → Binds s at f kept row c x t r y v
+binds s at f e h =
+    record { is = λ n k u gs num keeps free table. h n k u gs num (record { wanted = e; keeps = keeps; free = free; table = table }) }

@@ -1,7 +1,6 @@
 -- What the code's judgement says of the language's.
 use mathlib.Core.Path.{◌≡◌, refl}
 use mathlib.Core.List.{List}
-use mathlib.Core.Logic.{◌⊎◌, inl, inr}
 use Prim.Native.Nat.{ℕ}
 use Rattle.std.specs.Prelude.{Ok, Err}
 use Rattle.language.specs.Terms as terms
@@ -44,14 +43,6 @@ module _ (s : List ℕ) {r : Judged} where
   failed_as (stopped t) h g = g
 
 -- ---- of the code's alone: whether it has a value
-
-pub record Has (r : Judged) : Type 0 where
-  pub value : Term
-  pub is : r ≡ Ok value
-
-pub which : (r : Judged) → Has r ⊎ HasNone r
-which (Ok v) = inl (record { value = v; is = refl })
-which (Err h) = inr (λ v e. never cc)
 
 pub halted : {r : Judged} {h : Halt} → r ≡ Err h → HasNone r
 halted e v q = never cc

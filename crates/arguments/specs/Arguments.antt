@@ -1,5 +1,5 @@
 -- Arguments that are judged and not yet fitted: what is kept of them, the rows of their parts, and what fitting them comes to.
-use Rattle.std.specs.Prelude.{ℕ, ◌+◌, ◌<◌, ◌≡◌, List, [], ◌∷◌, ltb, length, get_or, Ok, Err}
+use Rattle.std.specs.Prelude.{ℕ, ◌+◌, ◌<◌, ◌≡◌, List, [], ◌∷◌, ltb, length, get_or, Ok}
 use Rattle.table.specs.Table.{put_row}
 use Rattle.language.specs.Choice.{if'}
 use Rattle.language.specs.Values.{Ty, ty_kind, Param, entry_at}
@@ -13,10 +13,9 @@ use Rattle.constants.specs.Constants.{no_param}
 use Rattle.findings.specs.declared.Counts.{Counts}
 use Rattle.findings.specs.Findings.{Adds}
 use Rattle.values.specs.declared.Term.{Term}
-use Rattle.values.specs.declared.Judgement.{Judgement}
+use Rattle.values.specs.Values.{Judgement}
 use Rattle.values.specs.Values.{Judged, term_as, judged_as}
-use Rattle.holding.specs.declared.Step.{Step}
-use Rattle.holding.specs.Holding.{most_rows, put_held, Judges}
+use Rattle.holding.specs.Holding.{Step, most_rows, put_held, Judges}
 use Rattle.arguments.specs.declared.Given.{Given}
 use Rattle.arguments.specs.declared.Kept.{Kept}
 
@@ -70,24 +69,14 @@ pub record Takes (s : List ℕ) (f i : ℕ) (ps : List Param) (g : Given) (c : C
 
 -- ---- all of them
 
-abbrev pub step : Judged → Counts → ℕ → Step
-step o c next = record { out = o; counts = c; next = next }
-
 -- the call at the token `at` of the function f, with its arguments
 abbrev pub call_as : ℕ → ℕ → ℕ → Term
 call_as at f many = record { at = at; form = 3; kind = ty_kind (entry_at f).gives; lo = f; hi = many }
 
 -- after the last of the `wanted` parameters of the function f, which is given `many` arguments: the call at the token `at`, or an error
 -- at the token `over`, where the first argument that is too many starts
-unfoldable pub finished : List ℕ → ℕ → ℕ → ℕ → ℕ → ℕ → ℕ → Counts → Step
-finished s at f many wanted over row c =
-    if' (ltb wanted many) (step (judged_as s (err over (too_many_args f many wanted))) c row)
-    (step (Ok (call_as at f wanted)) c row)
-
--- what follows on an argument that came to o
-unfoldable pub follows : Judged → Step → Step → Step
-follows (Ok v) done other = done
-follows (Err h) done other = other
+unfoldable pub finished : List ℕ → ℕ → ℕ → ℕ → ℕ → ℕ → Judged
+finished s at f many wanted over = if' (ltb wanted many) (judged_as s (err over (too_many_args f many wanted))) (Ok (call_as at f wanted))
 
 -- what binding comes to, from the row k on
 pub record Bound (s : List ℕ) (r : Step) (x y u v : List ℕ) (c : Counts) (at f k : ℕ) (j : judgements.Judgement Terms) : Type 0 where

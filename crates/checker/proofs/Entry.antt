@@ -170,11 +170,11 @@ module _ {s toks tree : List ℕ} {count rows : ℕ} (p : Parses s toks tree cou
 
     -- a refusal by a statement
     pub refused_stmt : {f : Refusal} {w : Verdict} → r ≡ Err f
-        → ((z : List ℕ) → TokenTable z (take (token_width * count) toks) → w ≡ verdict_as (placed (refusal_number f) (token_place z (refusal_token f))))
+        → w ≡ verdict_as (placed (refusal_number f) (token_place s (refusal_token f)))
         → Concludes s toks tree (length x) (length u) (Err w) y v
     refused_stmt {f} i l =
         λ q a b e h g. gave_up s (length toks) (length tree) (length x) (length u) (placed (refusal_number f) (token_place s (refusal_token f)))
-        (judged_as_lem p (length u / 11) ∙ rw (refused_at i came)) (some_number s (refused_at i came)) (l s (lexed_part p)) g
+        (judged_as_lem p (length u / 11) ∙ rw (refused_at i came)) (some_number s (refused_at i came)) l g
 
 -- ---- a source
 

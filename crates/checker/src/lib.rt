@@ -12,7 +12,7 @@ ghost use Rattle.rows.specs.Rows.{verdict_as};
 ghost use Rattle.checker.specs.Entry.{refusal, GivesUp, Parses, CheckSource, Concludes};
 
 use findings::Counts;
-use rows::{NodeRow, StatementRow, TokenRow, Verdict};
+use rows::{NodeRow, StatementRow, TokenRow, Tokens, Verdict};
 use statements::Refusal;
 
 #[repr(C)]
@@ -76,13 +76,11 @@ fn give_up(
     refused(verdict)
 }
 
-// What C sees of a refusal, of `count` tokens: its number, and where it stands.
-fn placed(toks: &[u64], count: usize, refusal: Refusal) -> Verdict
-    requires { (1 ≤ count) × (token_width * count ≤ length toks.now) }
-    ensures { (s : List ℕ) → TokenTable s (take (token_width * count) toks.now) → result ≡ verdict_as (placed (refusal_number refusal) (token_place s (refusal_token refusal))) }
+// What C sees of a refusal: its number, and where it stands.
+fn placed(toks: &Tokens, refusal: Refusal) -> Verdict
+    ensures { result ≡ verdict_as (placed (refusal_number refusal) (token_place toks.now (refusal_token refusal))) }
 {
-    let rows = TokenRow::WORDS * count;
-    let tok = rows::token_at(&toks[..rows], refusal.token());
+    let tok = toks.at(refusal.token());
     Verdict::new(refusal.number(), tok.line, tok.column)
 }
 
@@ -124,15 +122,10 @@ fn judge(
 {
     let token_words = TokenRow::WORDS * count;
     let node_words = NodeRow::WORDS * rows;
-    match statements::run(
-        source,
-        &toks[..token_words],
-        &nodes[..node_words],
-        diags,
-        stmts,
-    ) {
+    let lexed = Tokens::new(source, &toks[..token_words]);
+    match statements::run(&lexed, &nodes[..node_words], diags, stmts) {
         Ok(counts) => conclude(counts, count, rows, stmts),
-        Err(refusal) => Err(placed(toks, count, refusal)),
+        Err(refusal) => Err(placed(&lexed, refusal)),
     }
 }
 

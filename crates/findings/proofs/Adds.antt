@@ -1,10 +1,9 @@
 -- What steps add, one after the other.
-use mathlib.Core.Path.{◌≡◌, refl, sym, ap, subst, ◌∙◌}
+use mathlib.Core.Path.{◌≡◌, refl, ap, subst, ◌∙◌}
 use mathlib.Core.Bool.{Bool, true, false}
 use mathlib.Core.List.{List, [], ◌∷◌, ◌++◌, append-nil}
 use Prim.Native.Nat.{ℕ, ◌+◌}
 use native.Mathlib.Omega.{arith}
-use borrow.Author.Tests.{eq-eqb, ne_eqb}
 use lib.ListN.{length, length-append}
 use Rattle.table.specs.Table.{put_row}
 use Rattle.language.specs.Choice.{if'}
@@ -39,15 +38,6 @@ counts c e w m =
       number = c.number;
       comparisons = m;
     }
-
-module _ (c : Counts) (w : What) {k s : ℕ} (a : k ≡ kind_number w) (b : s ≡ severity_number k) where
-  pub one_error : s ≡ 1 → counts c (c.errors + 1) c.warnings c.comparisons ≡ plus_finding c w
-  unfolding plus_finding
-  one_error h = rw (eq-eqb (severity_number (kind_number w)) 1 (sym (b ∙ ap severity_number a) ∙ h))
-
-  pub one_warning : (s ≡ 1 → ⊥) → counts c c.errors (c.warnings + 1) c.comparisons ≡ plus_finding c w
-  unfolding plus_finding
-  one_warning h = rw (ne_eqb (severity_number (kind_number w)) 1 (λ e. h (b ∙ ap severity_number a ∙ e)))
 
 -- ---- counts
 

@@ -2,6 +2,5 @@
 pub mod Rows
 pub mod Texts
 pub mod Adds
-pub mod Guesses
 pub mod ReadingClaims
 pub mod Examples

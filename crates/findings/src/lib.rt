@@ -17,6 +17,7 @@ pub enum Side {
     Right,
 }
 
+// C reads the numbers of sides, kinds and severities in rows: they are part of its interface.
 impl Side {
     pub const LEFT: u64 = 1;
 
@@ -175,20 +176,20 @@ pub struct Counts {
 }
 
 // The severity of a kind.
+#[tactic(auto, unfolding(crate::specs::Findings::severity_number))]
 pub fn severity(kind: u64) -> u64
     ensures { result ≡ severity_number kind }
 {
-    if (kind == What::MULTIPLE_IMPORTS)
-        | (kind == What::DISCARDED_VALUE)
-        | (kind == What::TRUNCATED)
-        | (kind == What::OVERFLOW)
-    {
-        return Diagnostic::WARNING;
+    match kind {
+        What::MULTIPLE_IMPORTS | What::DISCARDED_VALUE | What::TRUNCATED | What::OVERFLOW => {
+            Diagnostic::WARNING
+        }
+        _ => Diagnostic::ERROR,
     }
-    Diagnostic::ERROR
 }
 
 // Whether a kind shows the name of its token. The others show a type or nothing.
+#[tactic(auto, unfolding(crate::specs::Findings::shows_name))]
 fn shows_name(kind: u64) -> bool
     ensures { result ≡ shows_name kind }
 {
@@ -196,6 +197,7 @@ fn shows_name(kind: u64) -> bool
 }
 
 // A finding at a place, with the span of its name where its kind shows one.
+#[tactic(auto, unfolding(crate::specs::Findings::placed))]
 fn placed(line: u64, column: u64, start: u64, end: u64, what: What) -> Diagnostic
     ensures { result ≡ placed line column start end what }
 {
@@ -220,15 +222,12 @@ fn placed(line: u64, column: u64, start: u64, end: u64, what: What) -> Diagnosti
 // ---- rows
 
 // The text that a type shows: a function's name, in the constant table's text.
+#[tactic(auto, using(crate::proofs::Texts::shown_text), unfolding(crate::specs::Findings::type_text))]
 pub fn type_text(ty: Type) -> Text
     ensures { result ≡ type_text ty }
 {
     if ty.kind != Ty::FUNCTION {
-        return Text {
-            from: Text::NONE,
-            start: 0,
-            end: 0,
-        };
+        return Text::default();
     }
     let table = Constants::new();
     let rows = table.rows;
@@ -284,12 +283,7 @@ fn typed(d: Diagnostic, ty: Type, first: u64, second: u64, third: u64) -> Diagno
 fn bare(d: Diagnostic) -> DiagnosticRow
     ensures { result ≡ bare_row d }
 {
-    let text = Text {
-        from: Text::NONE,
-        start: 0,
-        end: 0,
-    };
-    shown(d, text, Ty::NONE, 0, 0, 0)
+    shown(d, Text::default(), Ty::NONE, 0, 0, 0)
 }
 
 // The type of a function, by its entry.
@@ -303,6 +297,7 @@ fn function(f: u64) -> Type
 }
 
 // A finding's row but for the number of its statement, which is 0 here.
+#[tactic(auto, unfolding(crate::specs::Findings::row_of))]
 pub fn row_of(d: Diagnostic) -> DiagnosticRow
     ensures { result ≡ row_of d }
 {
@@ -328,6 +323,7 @@ pub fn row_of(d: Diagnostic) -> DiagnosticRow
 // ---- reporting
 
 // One error or one warning more.
+#[tactic(auto, unfolding(crate::specs::Findings::plus_finding))]
 fn counted(counts: Counts, what: What) -> Counts
     requires { counts.errors + counts.warnings < 4294967296 }
     ensures { result ≡ plus_finding counts what }
@@ -345,21 +341,21 @@ fn counted(counts: Counts, what: What) -> Counts
 }
 
 // A search that compared so many names.
-pub fn searched(counts: Counts, compared: usize) -> Counts
-    requires { counts.comparisons + compared ≤ most_compared }
-    ensures { result ≡ plus_search counts compared }
+pub fn searched(counts: &mut Counts, compared: usize)
+    requires { counts.old.comparisons + compared ≤ most_compared }
+    ensures { counts.new ≡ plus_search counts.old compared }
 {
-    Counts {
-        comparisons: counts.comparisons + compared,
-        ..counts
-    }
+    counts.comparisons += compared;
 }
 
 // Counts a finding of the statement that is judged and stores its row, where the table has room for it.
-pub fn report(diags: &mut [u64], counts: Counts, d: Diagnostic) -> Counts
-    requires { counts.errors + counts.warnings < 4294967296 }
-    ensures { Reports counts d diags.old result diags.new }
+// The table stands beside its counts, and not in a struct with them: each function that is lent such a struct would promise besides
+// that it holds the same table still.
+pub fn report(diags: &mut [u64], counts: &mut Counts, d: Diagnostic)
+    requires { counts.old.errors + counts.old.warnings < 4294967296 }
+    ensures { Reports counts.old d diags.old counts.new diags.new }
 {
+    let so_far = *counts;
     let row = row_of(d);
     let words: [u64; DiagnosticRow::WORDS] = [
         row.line,
@@ -373,9 +369,8 @@ pub fn report(diags: &mut [u64], counts: Counts, d: Diagnostic) -> Counts
         row.first,
         row.second,
         row.third,
-        counts.number,
+        so_far.number,
     ];
-    table::put_row(diags, counts.errors + counts.warnings, &words);
-    let what = d.what;
-    counted(counts, what)
+    table::put_row(diags, so_far.errors + so_far.warnings, &words);
+    *counts = counted(so_far, d.what);
 }

@@ -11,12 +11,14 @@ use wide::Wide;
 // ---- which findings rows can show
 
 // Whether a number is that of a type that shows no entry.
+#[tactic(auto, unfolding(crate::specs::Reading::is_plain))]
 fn is_plain(n: u64) -> bool
     ensures { result ≡ is_plain n }
 {
     ((Ty::VOID <= n) & (n <= Ty::TIME_JUMP)) | (n == Ty::INTEGER)
 }
 
+#[tactic(auto, unfolding(crate::specs::Reading::is_type))]
 fn is_type(n: u64) -> bool
     ensures { result ≡ is_type n }
 {
@@ -32,6 +34,7 @@ fn is_sound_function(k: u64) -> bool
 }
 
 // A function's type has its entry, any other none.
+#[tactic(auto, unfolding(crate::specs::Reading::sound_type))]
 fn is_sound_type(ty: Type) -> bool
     ensures { result ≡ sound_type ty }
 {
@@ -71,6 +74,7 @@ fn is_sound_what(what: What) -> bool
 }
 
 // And where the kind shows no name there is no span.
+#[tactic(auto, unfolding(crate::specs::Reading::sound_diagnostic))]
 fn is_sound(d: Diagnostic) -> bool
     ensures { result ≡ sound_diagnostic d }
 {
@@ -82,23 +86,18 @@ fn is_sound(d: Diagnostic) -> bool
 // ---- what a row was
 
 // The same row, but for the number of the statement, which can be any.
+#[tactic(auto, unfolding(crate::specs::Reading::same_row))]
 fn same_row(a: DiagnosticRow, b: DiagnosticRow) -> bool
     ensures { result ≡ same_row a b }
 {
-    (a.line == b.line)
-        & (a.column == b.column)
-        & (a.severity == b.severity)
-        & (a.kind == b.kind)
-        & (a.text == b.text)
-        & (a.start == b.start)
-        & (a.end == b.end)
-        & (a.ty == b.ty)
-        & (a.first == b.first)
-        & (a.second == b.second)
-        & (a.third == b.third)
+    a == DiagnosticRow {
+        statement: a.statement,
+        ..b
+    }
 }
 
 // The type that a row shows, a function by its name.
+#[tactic(auto, unfolding(crate::specs::Reading::type_in))]
 fn type_in(row: DiagnosticRow) -> Type
     ensures { result ≡ type_in row }
 {
@@ -117,6 +116,7 @@ fn type_in(row: DiagnosticRow) -> Type
 }
 
 // An operand's finding, by its side.
+#[tactic(auto, unfolding(crate::specs::Reading::operand_in))]
 fn operand_in(row: DiagnosticRow) -> Option<What>
     ensures { result ≡ operand_in row }
 {
@@ -131,6 +131,7 @@ fn operand_in(row: DiagnosticRow) -> Option<What>
 }
 
 // What a row can have been, by its kind.
+#[tactic(auto, unfolding(crate::specs::Reading::guess_by))]
 fn guessed(row: DiagnosticRow) -> Option<What>
     ensures { result ≡ guess_of row }
 {
@@ -162,6 +163,7 @@ fn guessed(row: DiagnosticRow) -> Option<What>
     }
 }
 
+#[tactic(auto, unfolding(crate::specs::Reading::truncated_in))]
 fn truncated_in(row: DiagnosticRow) -> Option<What>
     ensures { result ≡ truncated_in row }
 {
@@ -173,6 +175,7 @@ fn truncated_in(row: DiagnosticRow) -> Option<What>
 }
 
 // A finding that rows can show and that has this row.
+#[tactic(auto, unfolding(crate::specs::Reading::confirmed))]
 fn confirmed(row: DiagnosticRow, d: Diagnostic) -> Option<Diagnostic>
     ensures { result ≡ confirmed row d }
 {
@@ -180,6 +183,7 @@ fn confirmed(row: DiagnosticRow, d: Diagnostic) -> Option<Diagnostic>
 }
 
 // What a row was, or that no finding has such a row.
+#[tactic(auto, unfolding(crate::specs::Reading::read_of))]
 pub fn read(row: DiagnosticRow) -> Option<Diagnostic>
     ensures { result ≡ read_of row }
 {

@@ -34,7 +34,7 @@ use Rattle.findings.proofs.Texts.{at_token_lem}
 use Rattle.findings.proofs.Adds.{adds_none, adds_reported}
 use Rattle.values.specs.declared.Term.{Term}
 use Rattle.values.specs.declared.Halt.TheVariants.{Found}
-use Rattle.values.specs.declared.Judgement.{Judgement}
+use Rattle.values.specs.Values.{Judgement}
 use Rattle.values.specs.Values.{Judged, constant_as, term_as, is_integral, is_number, TypeShown, Narrow, narrowed_as, judged_as}
 use Rattle.values.proofs.Values.{TermOf, of_constant, term_form, kind_as_lem, judged_err, number_as, whole, unsized_not, integer_is, integer_not, integral_type}
 use Rattle.holding.specs.Holding.{Judges}

@@ -18,10 +18,6 @@ use Rattle.fitting.specs.Fitting.{bits_by, low_by, fits_by}
 
 -- ---- bits
 
-pub bits_none : (k : ℕ) → (k ≡ 2 → ⊥) → (k ≡ 3 → ⊥) → (k ≡ 4 → ⊥) → (k ≡ 5 → ⊥) → (k ≡ 6 → ⊥) → 0 ≡ bits_by k
-unfolding bits_by
-bits_none k a b c d e = rw (ne_eqb k 2 a, ne_eqb k 3 b, ne_eqb k 4 c, ne_eqb k 5 d, ne_eqb k 6 e)
-
 pub bits_as : (t : Ty) → bits_by (ty_kind t) ≡ bits_of t
 unfolding bits_by
 bits_as ty_void = refl
@@ -40,10 +36,6 @@ bits_as (ty_function k) = refl
 bits_as ty_integer = refl
 
 -- ---- low bits
-
-pub low_other : (k n : ℕ) → (k ≡ 3 → ⊥) → (k ≡ 4 → ⊥) → (k ≡ 5 → ⊥) → n ≡ low_by k n
-unfolding low_by
-low_other k n a b c = rw (ne_eqb k 3 a, ne_eqb k 4 b, ne_eqb k 5 c)
 
 -- the upper word never counts
 pub low_as : (t : IntType) (hi lo : ℕ) → lo < word_limit → low_bits t (hi * word_limit + lo) ≡ low_by (int_kind t) lo
@@ -87,20 +79,6 @@ words_of hi lo h =
     rw (a, b)
 
 -- ---- what fits
-
-module _ (w k : ℕ) {a b : Bool} (p : a ≡ is_integral k) (q : b ≡ is_integral w) where
-  pub fits_integral : b ≡ true → a ≡ fits_by w k
-  unfolding fits_by
-  fits_integral h = p ∙ rw (sym q ∙ h)
-
-  pub fits_bytes : w ≡ 9 → a || (eqb 9 k || (eqb 10 k || eqb 7 k)) ≡ fits_by w k
-  unfolding fits_by is_integral
-  fits_bytes h = ap (λ (c : Bool). c || (eqb 9 k || (eqb 10 k || eqb 7 k))) p ∙ ap (λ (n : ℕ). fits_by n k) (sym h)
-
-  pub fits_none : b ≡ false → (w ≡ 9 → ⊥) → (w ≡ 11 → ⊥) → (w ≡ 7 → ⊥) → (w ≡ 8 → ⊥) → (w ≡ 10 → ⊥) → (w ≡ 12 → ⊥) → false ≡ fits_by w k
-  unfolding fits_by
-  fits_none h c d e f g i =
-      rw (sym q ∙ h, ne_eqb w 9 c, ne_eqb w 11 d, ne_eqb w 7 e, ne_eqb w 8 f, ne_eqb w 10 g, ne_eqb w 12 i)
 
 pub fits_as : (t u : Ty) → fits_by (ty_kind t) (ty_kind u) ≡ values.fits t u
 unfolding fits_by is_integral

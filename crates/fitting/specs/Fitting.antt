@@ -13,7 +13,7 @@ use Rattle.findings.specs.declared.Counts.{Counts}
 use Rattle.findings.specs.declared.What.{What}
 use Rattle.findings.specs.Findings.{what_as, Adds}
 use Rattle.values.specs.declared.Term.{Term}
-use Rattle.values.specs.declared.Judgement.{Judgement}
+use Rattle.values.specs.Values.{Judgement}
 use Rattle.values.specs.Values.{Judged, term_as, is_integral, judged_as}
 use Rattle.holding.specs.Holding.{Judges}
 

@@ -1,19 +1,21 @@
 #![tactic(auto)]
 // Fitting a value to a type that is wanted. Ports check.rs `narrow_to` and `fit`.
-ghost use Rattle.std.specs.Prelude.{◌≡◌, List, ℕ, ◌+◌, ◌≤◌, ◌<◌, length};
+ghost use Rattle.std.specs.Prelude.{◌≡◌, List, ℕ, ◌+◌, ◌≤◌, ◌<◌, Ok, length};
 ghost use Rattle.language.specs.Tables.{token_width};
 ghost use Rattle.rows.specs.Tokens.{TokenTable};
+ghost use Rattle.values.specs.Values.{with_counts};
 ghost use Rattle.holding.specs.Holding.{most_rows};
 ghost use Rattle.fitting.specs.Fitting.{bits_by, low_by, fits_by, is_unsized, Warns, Cuts, Widens, Narrows, Unsized, Kept, Plain, Fits};
 
 use findings::{Counts, Diagnostic, What};
 use rows::{Ty, Type};
-use values::{Judged, Judgement, Term};
+use values::{Judged, Term};
 use wide::Wide;
 
 // ---- the numbers of types
 
 // How many bits a type has, 0 where it is neither an integer's nor a bool's.
+#[tactic(auto, unfolding(crate::specs::Fitting::bits_by))]
 fn bits(kind: u64) -> u64
     ensures { result ≡ bits_by kind }
 {
@@ -28,6 +30,7 @@ fn bits(kind: u64) -> u64
 }
 
 // What an integer type holds of a word.
+#[tactic(auto, unfolding(crate::specs::Fitting::low_by))]
 fn low_bits(wanted: u64, lo: u64) -> u64
     ensures { result ≡ low_by wanted lo }
 {
@@ -40,6 +43,7 @@ fn low_bits(wanted: u64, lo: u64) -> u64
 }
 
 // Whether a value of the second type can be passed, as it is, for a parameter of the first.
+#[tactic(auto, unfolding(crate::specs::Fitting::fits_by))]
 fn fits(wanted: u64, kind: u64) -> bool
     ensures { result ≡ fits_by wanted kind }
 {
@@ -61,96 +65,87 @@ fn fits(wanted: u64, kind: u64) -> bool
 // ---- integer types
 
 // Reports a finding at the token t.
-fn warn(toks: &[u64], diags: &mut [u64], t: u64, what: What, counts: Counts) -> Counts
-    requires { (token_width ≤ length toks.now) × (counts.errors + counts.warnings < most_rows) }
-    ensures by_index { (s : List ℕ) → TokenTable s toks.now → Warns s t what counts diags.old result diags.new }
-    ensures warnings_bound { result.errors + result.warnings ≤ counts.errors + counts.warnings + 1 }
+fn warn(toks: &[u64], diags: &mut [u64], counts: &mut Counts, t: u64, what: What)
+    requires { (token_width ≤ length toks.now) × (counts.old.errors + counts.old.warnings < most_rows) }
+    ensures by_index { (s : List ℕ) → TokenTable s toks.now → Warns s t what counts.old diags.old counts.new diags.new }
+    ensures warnings_bound { counts.new.errors + counts.new.warnings ≤ counts.old.errors + counts.old.warnings + 1 }
 {
-    findings::report(diags, counts, Diagnostic::at(rows::token_at(toks, t), what))
+    findings::report(diags, counts, Diagnostic::at(rows::token_at(toks, t), what));
 }
 
 // A constant that is a number, cut to an integer type.
-fn cut(toks: &[u64], diags: &mut [u64], wanted: u64, t: u64, v: Term, counts: Counts) -> Judgement
-    requires { (token_width ≤ length toks.now) × (counts.errors + counts.warnings < most_rows) }
-    ensures by_index { (s : List ℕ) → TokenTable s toks.now → Cuts s wanted t v counts diags.old result diags.new }
-    ensures warnings_bound { result.counts.errors + result.counts.warnings ≤ counts.errors + counts.warnings + 1 }
+#[tactic(auto, using(crate::proofs::Fitting::cut_same, crate::proofs::Fitting::cut_more))]
+fn cut(toks: &[u64], diags: &mut [u64], counts: &mut Counts, wanted: u64, t: u64, v: Term) -> Term
+    requires { (token_width ≤ length toks.now) × (counts.old.errors + counts.old.warnings < most_rows) }
+    ensures by_index { (s : List ℕ) → TokenTable s toks.now → Cuts s wanted t v counts.old diags.old (with_counts (Ok result) counts.new) diags.new }
+    ensures warnings_bound { counts.new.errors + counts.new.warnings ≤ counts.old.errors + counts.old.warnings + 1 }
 {
     let low = low_bits(wanted, v.lo);
-    let out = Ok(values::constant(v.at, wanted, low, 0));
+    let cut = values::constant(v.at, wanted, low, 0);
     if (v.hi == 0) & (low == v.lo) {
-        return Judgement { out, counts };
+        return cut;
     }
     let n = Wide { hi: v.hi, lo: v.lo };
     let ty = Type {
         kind: wanted,
         entry: 0,
     };
-    Judgement {
-        out,
-        counts: warn(toks, diags, t, What::Truncated(n, ty), counts),
-    }
+    warn(toks, diags, counts, t, What::Truncated(n, ty));
+    cut
 }
 
 // A value that is not known before the run stays as it is.
 fn widened(
     toks: &[u64],
     diags: &mut [u64],
+    counts: &mut Counts,
     wanted: u64,
     t: u64,
     v: Term,
-    counts: Counts,
-) -> Judgement
-    requires { (token_width ≤ length toks.now) × (counts.errors + counts.warnings < most_rows) }
-    ensures by_index { (s : List ℕ) → TokenTable s toks.now → Widens s wanted t v counts diags.old result diags.new }
-    ensures warnings_bound { result.counts.errors + result.counts.warnings ≤ counts.errors + counts.warnings + 1 }
+) -> Term
+    requires { (token_width ≤ length toks.now) × (counts.old.errors + counts.old.warnings < most_rows) }
+    ensures by_index { (s : List ℕ) → TokenTable s toks.now → Widens s wanted t v counts.old diags.old (with_counts (Ok result) counts.new) diags.new }
+    ensures warnings_bound { counts.new.errors + counts.new.warnings ≤ counts.old.errors + counts.old.warnings + 1 }
 {
     let ty = values::type_of(v);
-    let out = Ok(v);
     if bits(wanted) < bits(ty.kind) {
-        return Judgement {
-            out,
-            counts: warn(toks, diags, t, What::Overflow(ty, wanted), counts),
-        };
+        warn(toks, diags, counts, t, What::Overflow(ty, wanted));
     }
-    Judgement { out, counts }
+    v
 }
 
 // To an integer type: a constant is cut to it, with a warning where that changes it; a value that is not known stays as it is, with
 // a warning where its type is wider. What is no number comes to `otherwise`.
+#[tactic(auto, using(crate::proofs::Fitting::narrow_cut, crate::proofs::Fitting::narrow_other, crate::proofs::Fitting::narrow_wide, crate::proofs::Fitting::narrow_none))]
 pub fn narrow_to(
     toks: &[u64],
     diags: &mut [u64],
+    counts: &mut Counts,
     wanted: u64,
     t: u64,
     v: Term,
     otherwise: Judged,
-    counts: Counts,
-) -> Judgement
-    requires { (token_width ≤ length toks.now) × (counts.errors + counts.warnings < most_rows) }
-    ensures by_index { (s : List ℕ) → TokenTable s toks.now → Narrows s wanted t v otherwise counts diags.old result diags.new }
-    ensures warnings_bound { result.counts.errors + result.counts.warnings ≤ counts.errors + counts.warnings + 1 }
+) -> Judged
+    requires { (token_width ≤ length toks.now) × (counts.old.errors + counts.old.warnings < most_rows) }
+    ensures by_index { (s : List ℕ) → TokenTable s toks.now → Narrows s wanted t v otherwise counts.old diags.old (with_counts result counts.new) diags.new }
+    ensures warnings_bound { counts.new.errors + counts.new.warnings ≤ counts.old.errors + counts.old.warnings + 1 }
 {
     if v.form == Term::CONSTANT {
         if values::is_number(v.kind) {
-            return cut(toks, diags, wanted, t, v, counts);
+            return Ok(cut(toks, diags, counts, wanted, t, v));
         }
-        return Judgement {
-            out: otherwise,
-            counts,
-        };
+        return otherwise;
     }
     if values::is_integral(v.kind) {
-        return widened(toks, diags, wanted, t, v, counts);
+        return Ok(widened(toks, diags, counts, wanted, t, v));
     }
-    Judgement {
-        out: otherwise,
-        counts,
-    }
+    otherwise
 }
 
 // ---- other types
 
 // An integer with no size that stands for a bool: `true` unless it is 0.
+#[tactic(auto, using(crate::proofs::Fitting::bool_false, crate::proofs::Fitting::bool_true))]
 fn as_bool(v: Term) -> Judged
     ensures { (s : List ℕ) (t : ℕ) → Unsized s 2 t v result }
 {
@@ -172,6 +167,7 @@ fn as_bytes(toks: &[u64], t: u64, v: Term) -> Judged
 }
 
 // A value as it is, if it fits.
+#[tactic(auto, using(crate::proofs::Fitting::kept_fits, crate::proofs::Fitting::kept_not))]
 fn as_it_is(wanted: u64, v: Term, otherwise: Judged) -> Judged
     ensures { (s : List ℕ) → Kept s wanted v otherwise result }
 {
@@ -190,6 +186,7 @@ fn is_unsized(v: Term) -> bool
 }
 
 // To a type that is no integer's. That warns of nothing.
+#[tactic(auto, using(crate::proofs::Fitting::plain_bool, crate::proofs::Fitting::plain_bytes, crate::proofs::Fitting::plain_other, crate::proofs::Fitting::plain_sized))]
 fn plain(toks: &[u64], wanted: u64, t: u64, v: Term, otherwise: Judged) -> Judged
     requires { token_width ≤ length toks.now }
     ensures { (s : List ℕ) → TokenTable s toks.now → Plain s wanted t v otherwise result }
@@ -207,24 +204,22 @@ fn plain(toks: &[u64], wanted: u64, t: u64, v: Term, otherwise: Judged) -> Judge
 }
 
 // To the type of a parameter.
+#[tactic(auto, using(crate::proofs::Fitting::fit_int, crate::proofs::Fitting::fit_other))]
 pub fn fit(
     toks: &[u64],
     diags: &mut [u64],
+    counts: &mut Counts,
     wanted: u64,
     t: u64,
     v: Term,
     otherwise: Judged,
-    counts: Counts,
-) -> Judgement
-    requires { (token_width ≤ length toks.now) × (counts.errors + counts.warnings < most_rows) }
-    ensures by_index { (s : List ℕ) → TokenTable s toks.now → Fits s wanted t v otherwise counts diags.old result diags.new }
-    ensures warnings_bound { result.counts.errors + result.counts.warnings ≤ counts.errors + counts.warnings + 1 }
+) -> Judged
+    requires { (token_width ≤ length toks.now) × (counts.old.errors + counts.old.warnings < most_rows) }
+    ensures by_index { (s : List ℕ) → TokenTable s toks.now → Fits s wanted t v otherwise counts.old diags.old (with_counts result counts.new) diags.new }
+    ensures warnings_bound { counts.new.errors + counts.new.warnings ≤ counts.old.errors + counts.old.warnings + 1 }
 {
     if (Ty::U8 <= wanted) & (wanted <= Ty::U64) {
-        return narrow_to(toks, diags, wanted, t, v, otherwise, counts);
+        return narrow_to(toks, diags, counts, wanted, t, v, otherwise);
     }
-    Judgement {
-        out: plain(toks, wanted, t, v, otherwise),
-        counts,
-    }
+    plain(toks, wanted, t, v, otherwise)
 }

@@ -5,16 +5,14 @@ ghost use Rattle.language.specs.Tables.{token_width};
 ghost use Rattle.rows.specs.Tokens.{TokenTable};
 ghost use Rattle.holding.specs.Holding.{most_rows, Puts};
 
-use findings::Counts;
 use rows::StatementRow;
-use values::{Judged, Term};
+use values::Term;
 
-// What judging comes to, the counts then, and the next free row of the table of what is held. Where an expression comes to a value,
-// the rows of its parts were written; its own row is kept free, for whoever asked to write it.
+// The value of an expression, and the next free row of the table of what is held: the rows of its parts were written. Its own row is
+// kept free, for whoever asked to write it.
 #[derive(Clone, Copy)]
-pub struct Step {
-    pub out: Judged,
-    pub counts: Counts,
+pub struct Valued {
+    pub term: Term,
     pub next: usize,
 }
 

@@ -31,7 +31,7 @@ use Rattle.values.specs.declared.Halt.{Halt}
 use Rattle.values.specs.declared.Halt.TheVariants.{Found, Stopped}
 use Rattle.values.specs.Values.{judged_as, TypeShown}
 use Rattle.values.proofs.Values.{place_as, judged_err, callee_is, callee_not}
-use Rattle.holding.specs.declared.Step.{Step}
+use Rattle.holding.specs.Holding.{Step}
 use Rattle.holding.specs.Holding.{put_held, Puts, Agrees}
 use Rattle.holding.proofs.Rows.{held_own}
 use Rattle.arguments.proofs.Then.{then_then}

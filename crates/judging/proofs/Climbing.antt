@@ -20,12 +20,13 @@ use Rattle.findings.specs.declared.Counts.{Counts}
 use Rattle.findings.specs.Findings.{Adds}
 use Rattle.findings.proofs.Adds.{adds_count, adds_compared, adds_used, adds_imported, adds_slots}
 use Rattle.values.specs.declared.Term.{Term}
-use Rattle.std.specs.Prelude.{Ok}
-use Rattle.holding.specs.declared.Step.{Step}
-use Rattle.holding.specs.Holding.{Agrees}
+use Rattle.std.specs.Prelude.{Result, Ok}
+use Rattle.values.specs.declared.Halt.{Halt}
+use Rattle.holding.specs.declared.Valued.{Valued}
+use Rattle.holding.specs.Holding.{Step, stepped, Agrees}
 use Rattle.judging.specs.Judging.{binding_at, bound_in, known_in, Knows, Ready, RepAt, left_of, rest, Down, top, deeper, Descends, Left, LookFits, Fits, StepFits, ClimbFits}
 use Rattle.judging.proofs.Trees.{at_step}
-use Rattle.judging.proofs.Steps.{NoVal, Ended, ended, alike_self, alike_no, alike_then, alike_as, left_of_lem, went_no, goes, by}
+use Rattle.judging.proofs.Steps.{NoVal, Ended, ended, alike_self, alike_no, alike_then, alike_as, left_of_lem, went_no, goes, by, stepped_as}
 
 -- ---- down
 
@@ -89,10 +90,9 @@ module _ {s : List ℕ} {c c' : Counts} {x y : List ℕ} {ds : List _} {ls : Lis
   pub knows_on : {k : Known} → Knows s bindings imports c k → Knows s bindings imports c' k
   knows_on kn = record { is = rw (adds_used a, adds_imported a, adds_slots a) kn.is }
 
-  pub ready_on : {toks : List ℕ} → Ready s toks bindings imports c → Ready s toks bindings imports c'
+  pub ready_on : Ready s bindings imports c → Ready s bindings imports c'
   ready_on r =
       record {
-        lexed = r.lexed;
         bound = rw (adds_used a) r.bound;
         few = rw (adds_used a) r.few;
         modules = rw (adds_imported a) r.modules;
@@ -102,11 +102,11 @@ module _ {s : List ℕ} {c c' : Counts} {x y : List ℕ} {ds : List _} {ls : Lis
       }
 
 -- no more names are known than there may be
-pub known_few : {s toks bindings imports : List ℕ} {c : Counts} → Ready s toks bindings imports c → length (known_in s bindings imports c).bindings ≤ most_names
+pub known_few : {s bindings imports : List ℕ} {c : Counts} → Ready s bindings imports c → length (known_in s bindings imports c).bindings ≤ most_names
 unfolding bound_in
 known_few {s} {bindings = bindings} {c = c} r = omega (arith, r.few, listed_long (binding_at s bindings) c.used 0)
 
-pub knows_few : {s toks bindings imports : List ℕ} {c : Counts} {k : Known} → Ready s toks bindings imports c → Knows s bindings imports c k → length k.bindings ≤ most_names
+pub knows_few : {s bindings imports : List ℕ} {c : Counts} {k : Known} → Ready s bindings imports c → Knows s bindings imports c k → length k.bindings ≤ most_names
 knows_few r kn = rw kn.is (known_few r)
 
 -- ---- up
@@ -117,6 +117,10 @@ pub record Climbs (s : List ℕ) (n : ℕ) (k : Known) (ws rows : List ℕ) (i :
   pub tree : Expr
   pub down : Down ws rows i e depth row tree
   pub agrees : Agrees s out x y u w c (at + depth) (judge (contents (tokens.tokens s)) n k tree)
+
+pub climbs_as : {s : List ℕ} {n : ℕ} {k : Known} {ws rows : List ℕ} {i : ℕ} {e : Expr} {depth at : ℕ} {r q : Result Valued Halt} (d : Counts) {c : Counts} {x y u w : List ℕ} → r ≡ q
+    → Climbs s n k ws rows i e depth at (stepped r d) x y u w c → Climbs s n k ws rows i e depth at (stepped q d) x y u w c
+climbs_as d e p = record { row = p.row; tree = p.tree; down = p.down; agrees = stepped_as d e p.agrees }
 
 pub fits_down : {ws rows : List ℕ} {i at d row : ℕ} {c : Counts} {u : Expr} (f : Fits ws i at c) → Down ws rows i f.tree d row u → Fits ws row (at + d) c
 fits_down {u = u} f dn =
@@ -213,12 +217,11 @@ climb_start {row = row} {x = x} {u = u} {c = c} {below = below} f dn a =
 
 -- two ways from the same counts
 module _ {s : List ℕ} {c c1 c2 : Counts} {x y z w : List ℕ} {ds es : List _} {ls ms : List ℕ} (a : Adds s c x c1 y ds ls) (b : Adds s c z c2 w es ms) {bindings imports : List ℕ} where
-  pub ready_both : {toks : List ℕ} → Ready s toks bindings imports c1 → Ready s toks bindings imports c2
+  pub ready_both : Ready s bindings imports c1 → Ready s bindings imports c2
   ready_both r =
       let used : c2.used ≡ c1.used = adds_used b ∙ sym (adds_used a) in
       let modules : c2.imported ≡ c1.imported = adds_imported b ∙ sym (adds_imported a) in
       record {
-        lexed = r.lexed;
         bound = rw used r.bound;
         few = rw used r.few;
         modules = rw modules r.modules;
@@ -228,7 +231,7 @@ module _ {s : List ℕ} {c c1 c2 : Counts} {x y z w : List ℕ} {ds es : List _}
       }
 
 -- no more names were known before than are now
-pub few_back : {s : List ℕ} {c c1 : Counts} {x y : List ℕ} {ds : List _} {ls : List ℕ} → Adds s c x c1 y ds ls → {toks bindings imports : List ℕ} → Ready s toks bindings imports c1
+pub few_back : {s : List ℕ} {c c1 : Counts} {x y : List ℕ} {ds : List _} {ls : List ℕ} → Adds s c x c1 y ds ls → {bindings imports : List ℕ} → Ready s bindings imports c1
     → length (known_in s bindings imports c).bindings ≤ most_names
 unfolding bound_in
 few_back {s} {c} a {bindings = bindings} r = omega (arith, r.few, adds_used a, listed_long (binding_at s bindings) c.used 0)

@@ -25,7 +25,7 @@ use Rattle.findings.specs.Findings.{plus_search}
 use Rattle.findings.proofs.Adds.{adds_none, adds_look}
 use Rattle.values.specs.declared.Term.{Term}
 use Rattle.std.specs.Prelude.{Ok}
-use Rattle.values.specs.declared.Judgement.{Judgement}
+use Rattle.values.specs.Values.{Judgement}
 use Rattle.values.specs.Values.{constant_as, sock4_as, judged_as}
 use Rattle.holding.specs.Holding.{Judges}
 use Rattle.judging.specs.Judging.{Knows, Ready, LocalIs, PathIs, RepAt, is_literal_lem, is_sock4_lem, is_local, is_path, is_member, is_slash, is_call}
@@ -72,7 +72,7 @@ module _ (s : List ℕ) {ws : List ℕ} {i : ℕ} {e : Expr} (n : ℕ) (k : Know
   leaf_sock4 q h o m =
       elim (row_of rep q) [ a_sock4 w ↦ rw (w, ← at) (give (val (atom t (constant (is_sock4 (tables.content_low (judgements.content (contents (tokens.tokens s)) t)) (tables.content_low (judgements.content (contents (tokens.tokens s)) (t + 2))))))) (o ∙ ap Ok (h ∙ rw (content_of_lem s t, content_of_lem s (t + 2)))) m) ]
 
-  module _ {toks bindings imports : List ℕ} (kn : Knows s bindings imports c k) (ready : Ready s toks bindings imports c) where
+  module _ {bindings imports : List ℕ} (kn : Knows s bindings imports c k) (ready : Ready s bindings imports c) where
     pub leaf_local : {tok : Token} → node_word ws i 0 ≡ 4 → tok ≡ token_as (token_of s t) → LocalIs s bindings c tok t r
         → Judges s r x x c (judge (contents (tokens.tokens s)) n k e)
     unfolding judge

@@ -7,15 +7,15 @@ use lib.ListN.{length}
 use Rattle.language.specs.Tokens as tokens
 use Rattle.language.specs.Tokens.{Content, contents}
 use Rattle.language.specs.Sentences.{Args, none_given, first_of, expr_size}
-use Rattle.language.specs.Values.{ty_void, same_ty}
+use Rattle.language.specs.Values.{is_integer, ty_void, same_ty}
 use Rattle.language.specs.Terms as terms
-use Rattle.language.specs.Terms.{Terms, called, term_at, term_type, function_of}
+use Rattle.language.specs.Terms.{Terms, atom, constant, called, term_at, term_type, function_of}
 use Rattle.language.specs.Judgements as judgements
 use Rattle.language.specs.Judgements.{Judged, val, err, void_value, Judgement, judgement, fine, wrong, and_then, goes_on, Known, used, Arg, arg, next_arg, any_named, bind_all, most_names, judge, judge_args, called_name, of_function}
 use Rattle.language.specs.Findings.{parts}
 use Rattle.language.proofs.Comparisons.{judge_compares}
 use Rattle.language.proofs.NodeClaims.{some_node}
-use Rattle.language.proofs.Tests.{each_side}
+use Rattle.language.proofs.Tests.{each_side, never}
 use Rattle.language.proofs.RowsFew.{judge_rows}
 use Rattle.language.proofs.WarnsFew.{judge_warns}
 use Rattle.rows.specs.Rows.{node_word}
@@ -24,10 +24,10 @@ use Rattle.findings.specs.Findings.{Adds}
 use Rattle.findings.proofs.Adds.{adds_none, adds_then, adds_count, adds_compared}
 use Rattle.values.specs.declared.Term.{Term}
 use Rattle.values.specs.Values as code
-use Rattle.std.specs.Prelude.{Ok}
+use Rattle.std.specs.Prelude.{Ok, Err}
+use Rattle.values.specs.declared.Halt.{Halt}
 use Rattle.values.specs.Values.{term_as, judged_as, Used}
-use Rattle.holding.specs.declared.Step.{Step}
-use Rattle.holding.specs.Holding.{most_rows, put_held, Agrees}
+use Rattle.holding.specs.Holding.{Step, step, most_rows, put_held, Agrees}
 use Rattle.arguments.specs.declared.Given.{Given}
 use Rattle.arguments.specs.declared.Kept.{Kept}
 use Rattle.arguments.specs.Arguments.{given_as, end, spread, Keeps, Binds}
@@ -240,6 +240,29 @@ module _ {s : List ℕ} {n : ℕ} {k : Known} {ws : List ℕ} {i start : ℕ} {c
         next = λ vs i. g.next vs (rw q at i);
         rows = λ vs i. g.rows vs (rw q at i);
       })
+
+-- one that fails has no next row to tell
+pub calls_err : {s : List ℕ} (n : ℕ) (k : Known) (g : Args) {at f start row m : ℕ} {c d : Counts} {x u y v : List ℕ} {h : Halt}
+    → Calls s n k g at f start c x u (step (Err h) d row) y v → Calls s n k g at f start c x u (step (Err h) d m) y v
+calls_err {s} n k g {at} {f} {h = h} b =
+    record {
+      out = b.out;
+      adds = b.adds;
+      next = λ vs q. no_terms vs q;
+      rows = b.rows;
+    }
+  where
+    all : Judgement Terms
+    all = bound (contents (tokens.tokens s)) n k at f g
+
+    -- any callee will do
+    callee : terms.Term
+    callee = atom 0 (constant (is_integer 0))
+
+    no_terms : {A : Type 0} (vs : Terms) → all.out ≡ val vs → A
+    no_terms vs q =
+        let e : Err h ≡ Ok (term_as (called at callee f vs)) = b.out callee ∙ ap (λ (j : Judgement terms.Term). judged_as s j.out) (went all (λ ws. fine (called at callee f ws)) q) in
+        never cc
 
 -- how many are kept
 pub few_kept : {s : List ℕ} {n : ℕ} {k : Known} {ws : List ℕ} {i start : ℕ} {c₀ : Counts} {x₀ u₀ : List ℕ} {ps : List Passed} {kept : Kept} {row : ℕ} {c : Counts} {next : ℕ} {x u : List ℕ}

@@ -35,10 +35,9 @@ use Rattle.values.specs.declared.Term.{Term}
 use Rattle.values.specs.Values as code
 use Rattle.std.specs.Prelude.{Ok, Err}
 use Rattle.values.specs.declared.Halt.TheVariants.{Found}
-use Rattle.values.specs.declared.Judgement as judged
 use Rattle.values.specs.Values.{term_as, judged_as, TypeShown, Used}
 use Rattle.values.proofs.Values.{TermOf, of_constant, term_form, place_as, ip4_is, judged_err}
-use Rattle.holding.specs.declared.Step.{Step}
+use Rattle.holding.specs.Holding.{Step}
 use Rattle.holding.specs.Holding.{put_held, Puts, Judges, Agrees}
 use Rattle.holding.proofs.Rows.{held_two}
 use Rattle.fitting.specs.Fitting.{Narrows}
@@ -125,12 +124,12 @@ over_is n place p a b q = rw q (fine_then b (λ b. and_then (right_operand n p b
 
 module _ {s : List ℕ} where
   -- a judgement that goes on with steps
-  pub judged_goes : {J : judged.Judgement} {x y : List ℕ} {c : Counts} (j : Judgement terms.Term) (f : terms.Term → Judgement terms.Term) → Judges s J x y c j
+  pub judged_goes : {J : code.Judgement} {x y : List ℕ} {c : Counts} (j : Judgement terms.Term) (f : terms.Term → Judgement terms.Term) → Judges s J x y c j
       → {e : terms.Term} → j.out ≡ val e → {R : Step} {z m w : List ℕ} {b : ℕ} → Agrees s R y z m w J.counts b (f e) → Agrees s R x z m w c b (and_then j f)
   judged_goes j f l q g =
       rw (went j f q) (record { out = g.out; adds = adds_then l.adds g.adds; next = g.next; rows = g.rows })
 
-  pub judged_ends : {J : judged.Judgement} {x y : List ℕ} {c : Counts} (j : Judgement terms.Term) (f : terms.Term → Judgement terms.Term) → Judges s J x y c j
+  pub judged_ends : {J : code.Judgement} {x y : List ℕ} {c : Counts} (j : Judgement terms.Term) (f : terms.Term → Judgement terms.Term) → Judges s J x y c j
       → ((w : Term) → J.out ≡ Ok w → ⊥) → {R : Step} → R.out ≡ J.out → R.counts ≡ J.counts → {m w : List ℕ} {b : ℕ} → Agrees s R x y m w c b (and_then j f)
   judged_ends j f l h q p =
       let g = ended j f (no_val s j.out l.out h) in
@@ -142,7 +141,7 @@ module _ {s : List ℕ} where
       }
 
   -- and was narrowed
-  module _ (p : ℕ) {d : Term} {other : code.Judged} {nr : judged.Judgement} {c : Counts} {x y : List ℕ} (op : OperandIs s d RightSide 4 other) (na : Narrows s 4 p d other c x nr y) where
+  module _ (p : ℕ) {d : Term} {other : code.Judged} {nr : code.Judgement} {c : Counts} {x y : List ℕ} (op : OperandIs s d RightSide 4 other) (na : Narrows s 4 p d other c x nr y) where
     narrowing : (n : ℕ) (b : terms.Term) → n ≡ c.number → d ≡ term_as b → Judges s nr x y c (right_operand n p b)
     narrowing n b num q = na.is n u16 b (err (term_at b) (operand_type right (ty_int u16) (term_type b))) num refl q (op.is b right (ty_int u16) q refl refl)
 
@@ -150,7 +149,7 @@ module _ {s : List ℕ} where
     pub divide_void : ((d : Term) → o ≡ Ok d → ⊥) → {r : Step} {z : List ℕ} → r.out ≡ o → r.counts ≡ c → Divides s place p at next v w end c x t r x z
     divide_void n q g = record { is = λ m a b u k num i l l'. void_ends _ b h l'.value n q g }
 
-    module _ {d : Term} (e : o ≡ Ok d) {other : code.Judged} (op : OperandIs s d RightSide 4 other) {nr : judged.Judgement} {y : List ℕ} (na : Narrows s 4 p d other c x nr y) where
+    module _ {d : Term} (e : o ≡ Ok d) {other : code.Judged} (op : OperandIs s d RightSide 4 other) {nr : code.Judgement} {y : List ℕ} (na : Narrows s 4 p d other c x nr y) where
       pub divide_ends : ((q : Term) → nr.out ≡ Ok q → ⊥) → {r : Step} {z : List ℕ} → r.out ≡ nr.out → r.counts ≡ nr.counts → Divides s place p at next v w end c x t r y z
       divide_ends n q g =
           record {

@@ -1,5 +1,5 @@
 -- What a step's answer says of a judgement, and how one step follows another.
-use mathlib.Core.Path.{◌≡◌, refl, sym, ap, ◌∙◌}
+use mathlib.Core.Path.{◌≡◌, refl, sym, ap, subst, ◌∙◌}
 use mathlib.Core.Bool.{Bool, true, false}
 use mathlib.Core.List.{List, [], ◌∷◌}
 use Prim.Native.Nat.{ℕ, ◌+◌, ◌≤◌}
@@ -19,13 +19,30 @@ use Rattle.findings.proofs.Adds.{adds_none, adds_then}
 use Rattle.findings.proofs.Rows.{no_rows}
 use Rattle.values.specs.declared.Term.{Term}
 use Rattle.values.specs.Values as code
-use Rattle.std.specs.Prelude.{Ok}
-use Rattle.values.specs.declared.Judgement as judged
+use Rattle.std.specs.Prelude.{Result, Ok, Err}
 use Rattle.values.specs.Values.{term_as, judged_as, Used}
-use Rattle.holding.specs.declared.Step.{Step}
-use Rattle.holding.specs.Holding.{put_held, Judges, Agrees}
+use Rattle.values.specs.declared.Halt.{Halt}
+use Rattle.holding.specs.declared.Valued.{Valued}
+use Rattle.holding.specs.Holding.{Step, step, stepped, put_held, Judges, Agrees}
 use Rattle.arguments.proofs.Then.{goes as went}
 use Rattle.judging.specs.Judging.{going, rest, Left}
+
+-- the same answer, by its case
+pub stepped_as : {s : List ℕ} {r q : Result Valued Halt} {x y u w : List ℕ} {c : Counts} (d : Counts) {at : ℕ} {j : Judgement terms.Term} → r ≡ q
+    → Agrees s (stepped r d) x y u w c at j → Agrees s (stepped q d) x y u w c at j
+stepped_as {s} {x = x} {y} {u} {w} {c} d {at} {j} e a = subst (λ (o : Result Valued Halt). Agrees s (stepped o d) x y u w c at j) e a
+
+pub stepped_counts : (r : Result Valued Halt) (c : Counts) → (stepped r c).counts ≡ c
+stepped_counts (Ok v) c = refl
+stepped_counts (Err h) c = refl
+
+-- where there is no value there is no next row to tell
+pub agrees_err : {s : List ℕ} {h : Halt} {d : Counts} {m m' : ℕ} {x y u w : List ℕ} {c : Counts} {at : ℕ} {j : Judgement terms.Term}
+    → Agrees s (step (Err h) d m) x y u w c at j → Agrees s (step (Err h) d m') x y u w c at j
+agrees_err {s} {h} {j = j} a = record { out = a.out; adds = a.adds; next = λ e q. none e q; rows = a.rows }
+  where
+    none : {A : Type 0} (e : terms.Term) → j.out ≡ val e → A
+    none e q = let z : Err h ≡ Ok (term_as e) = a.out ∙ ap (judged_as s) q in never cc
 
 -- ---- judgements that come to no value
 
@@ -130,7 +147,7 @@ module _ {s : List ℕ} where
       }
 
   -- a leaf has written no rows
-  pub leaf_step : {r : judged.Judgement} {x y u : List ℕ} {c : Counts} {at : ℕ} (j : Judgement terms.Term) → Judges s r x y c j
+  pub leaf_step : {r : code.Judgement} {x y u : List ℕ} {c : Counts} {at : ℕ} (j : Judgement terms.Term) → Judges s r x y c j
       → ((e : terms.Term) → j.out ≡ val e → length (parts e) ≤ 0) → {m : ℕ} → m ≡ at + 1 → Agrees s (record { out = r.out; counts = r.counts; next = m }) x y u u c at j
   leaf_step {u = u} {at = at} j l h {m} p =
       record {
@@ -143,6 +160,17 @@ module _ {s : List ℕ} where
       by : (rs : List _) → length rs ≤ 0 → u ≡ put_held s u (at + 1) rs
       by [] z = no_rows _ u (at + 1)
       by (r ∷ rs) z = absurd (omega arith)
+
+  -- one that comes to no value
+  pub leaf_ends : {r : Step} {o : code.Judgement} {x y u t : List ℕ} {c : Counts} {at : ℕ} (j : Judgement terms.Term) → Judges s o x y c j
+      → ((w : Term) → o.out ≡ Ok w → ⊥) → r.out ≡ o.out → r.counts ≡ o.counts → Agrees s r x y u t c at j
+  leaf_ends j l h q p =
+      record {
+        out = q ∙ l.out;
+        adds = rw p l.adds;
+        next = λ v z. absurd (no_val s j.out l.out h v z);
+        rows = λ v z. absurd (no_val s j.out l.out h v z);
+      }
 
   module _ {L : Step} {x y u t : List ℕ} {c : Counts} {at : ℕ} (j : Judgement terms.Term) (l : Agrees s L x y u t c at j) where
     pub left_of_lem : {v : Term} → L.out ≡ Ok v → (e : terms.Term) × (j.out ≡ val e) × Left s u t at e v L.next

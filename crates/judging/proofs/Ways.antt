@@ -18,7 +18,7 @@ use Rattle.values.specs.Values as code
 use Rattle.std.specs.Prelude.{Result, Ok, Err}
 use Rattle.values.specs.declared.Halt.{Halt}
 use Rattle.values.specs.Values.{term_as, Used}
-use Rattle.holding.specs.declared.Step.{Step}
+use Rattle.holding.specs.Holding.{Step}
 use Rattle.holding.specs.Holding.{most_rows, Agrees}
 use Rattle.judging.specs.declared.Callee.{Callee}
 use Rattle.judging.specs.Judging.{Passed, passed, RepAt, is_literal_lem, is_sock4_lem, is_local, is_path, is_member, is_slash, is_call, ArgsAt, rest_size, over_both, going, rest, MemberIs, Left, Divides, CalleeOf, CalleeIs, Calls, Fits, StepFits, ArgsFit}

@@ -14,18 +14,17 @@ use Rattle.language.specs.Findings.{parts}
 use Rattle.language.specs.Numbers.{token_of}
 use Rattle.rows.specs.Rows.{node_word}
 use Rattle.rows.specs.declared.token.Token.{Token}
-use Rattle.rows.specs.Tokens.{token_as, TokenTable}
+use Rattle.rows.specs.Tokens.{token_as}
 use Rattle.names.specs.Names.{name_width, name_word, name_of, listed, Keyed}
 use Rattle.findings.specs.declared.Counts.{Counts}
 use Rattle.findings.specs.declared.Side.{Side}
 use Rattle.findings.specs.Findings.{side_as, most_compared, plus_search}
 use Rattle.values.specs.declared.Term.{Term}
 use Rattle.values.specs.declared.Halt.{Halt}
-use Rattle.values.specs.declared.Judgement as code
+use Rattle.values.specs.Values as code
 use Rattle.values.specs.Values.{Judged, term_as, opened, Canon, judged_as}
 use Rattle.paths.specs.Paths.{or_none}
-use Rattle.holding.specs.declared.Step.{Step}
-use Rattle.holding.specs.Holding.{most_rows, put_held, Puts, Agrees}
+use Rattle.holding.specs.Holding.{Step, most_rows, put_held, Puts, Agrees}
 use Rattle.arguments.specs.Arguments.{Bound}
 use Rattle.judging.specs.declared.Spine.{Spine}
 use Rattle.judging.specs.declared.Callee.{Callee}
@@ -65,8 +64,7 @@ abbrev pub Sound : List ℕ → ℕ → Type 0
 Sound ws used = (i : ℕ) → i < used → Canon (name_word ws i 3) (name_word ws i 4) (name_word ws i 5) (name_word ws i 6)
 
 -- the tables have the entries that are counted, each is as it was written, and each name has its key
-pub record Ready (s toks bindings imports : List ℕ) (c : Counts) : Type 0 where
-  pub lexed : TokenTable s toks
+pub record Ready (s bindings imports : List ℕ) (c : Counts) : Type 0 where
   pub bound : c.used ≤ length bindings / name_width
   pub few : c.used ≤ most_names
   pub modules : c.imported ≤ length imports / name_width

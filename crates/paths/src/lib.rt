@@ -6,12 +6,12 @@ ghost use Rattle.language.specs.Numbers.{token_of};
 ghost use Rattle.language.specs.Values.{entry_at};
 ghost use Rattle.language.specs.Judgements.{last_item, walk};
 ghost use Rattle.constants.specs.Constants.{table_rows};
-ghost use Rattle.rows.specs.Tokens.{token_as, TokenTable};
+ghost use Rattle.rows.specs.Tokens.{token_as};
 ghost use Rattle.values.specs.Values.{judged_as};
 
 use constants::Constants;
 use findings::What;
-use rows::{Token, Ty};
+use rows::{Token, Tokens, Ty};
 use values::{Halt, Judged};
 
 // A path's last name is a value, which stands at the path's first name, p.
@@ -30,9 +30,8 @@ fn last_item(rows: &[u64; Constants::WORDS], p: u64, tok: Token, k: u64) -> Judg
 
 // A path below a module of the constant table: so many more names, each two tokens after the one before, the first after t, which is
 // the path's first name.
-pub fn walk(source: &[u8], toks: &[u64], top: u64, t: u64, names: u64) -> Judged
-    requires { TokenTable source.now toks.now }
-    ensures { result ≡ judged_as source.now (walk (contents (tokens source.now)) t names top t) }
+pub fn walk(toks: &Tokens, top: u64, t: u64, names: u64) -> Judged
+    ensures { result ≡ judged_as toks.now (walk (contents (tokens toks.now)) t names top t) }
 {
     let table = Constants::new();
     let rows = table.rows;
@@ -41,8 +40,8 @@ pub fn walk(source: &[u8], toks: &[u64], top: u64, t: u64, names: u64) -> Judged
     let mut at = t;
     let mut left = names;
     while 0 < left {
-        let tok = rows::two_after(toks, at);
-        let k = constants::lookup(&rows, &text, inside, rows::name_at(source, tok));
+        let tok = toks.two_after(at);
+        let k = constants::lookup(&rows, &text, inside, toks.name(tok));
         if k == 0 {
             return values::error(tok, What::UnknownItem(inside));
         }

@@ -5,6 +5,7 @@ mod layout;
 mod node;
 mod source;
 mod token;
+mod tokens;
 mod types;
 mod verdict;
 
@@ -12,5 +13,6 @@ pub use layout::{DiagnosticRow, LexemeRow, NodeRow, StatementRow, TokenRow, diag
 pub use node::{NodeKind, node_word};
 pub use source::Source;
 pub use token::{Tok, TokKind, Token, kind_at, name_at, tok_at, token_at, token_row, two_after};
+pub use tokens::Tokens;
 pub use types::{Text, Ty, Type};
 pub use verdict::Verdict;

@@ -25,7 +25,6 @@ use Rattle.language.proofs.Comparisons.{stmt_compares}
 use Rattle.language.proofs.WarnsFew.{judge_warns}
 use Rattle.language.proofs.RowsFew.{stmt_rows}
 use Rattle.language.proofs.JudgementClaims.{errors_append, Adds, nothing, alone, finding, binding, holding, discarding, AddsTo, warns_of, adds}
-use Rattle.rows.specs.Tokens.{TokenTable}
 use Rattle.names.specs.declared.Entry.{Entry}
 use Rattle.names.specs.Names.{name_width, name_word, key_of, stored, listed}
 use Rattle.names.proofs.Stores.{stored_long, old_word, new_token, new_form, new_kind, new_low, new_high, old_name, new_name, store_key, listed_more}
@@ -38,8 +37,7 @@ use Rattle.values.proofs.Values.{opened_as, canon_of}
 use Rattle.paths.specs.Paths.{or_none}
 use Rattle.holding.specs.Holding.{most_rows, put_held}
 use Rattle.judging.specs.Judging.{most_findings, binding_at, bound_in, import_at, imports_in, known_in, Knows, Sound, Ready}
-use Rattle.statements.specs.declared.Turn.{Turn}
-use Rattle.statements.specs.declared.Turn.TheVariants.{Went, Binds, Imports}
+use Rattle.statements.specs.Turned.{Turn, Went, Binds, Imports}
 use Rattle.statements.specs.declared.Refusal.{Refusal}
 use Rattle.statements.specs.Checking.{no_counts, plus_number, plus_name, plus_import, unnamed, Grows, Valued, BindsName, ImportsName, TurnOf, StmtsAt, at_end, no_stmt, an_import, a_let, an_expr, RowFits, RowTurns, passes, takes, AllSound, Found, ComesTo, Comes}
 use Rattle.statements.proofs.Failed.{Unfailed, none_fails}
@@ -147,16 +145,16 @@ pub data Stores (b m : List ℕ) : Result Turn Refusal → List ℕ → List ℕ
   stores_import : {c : Counts} {e : Entry} → Stores b m (Ok (Imports c e)) b (stored most_imports m c.imported e) (plus_import c)
 
 -- what is known then
-record Kept (s toks : List ℕ) (P : Type 0) (c : Counts) (x u y v b m : List ℕ) (c' : Counts) (k : Known) (ds : List Diag) (hs : List Held) (ls : List ℕ) : Type 0 where
+record Kept (s : List ℕ) (P : Type 0) (c : Counts) (x u y v b m : List ℕ) (c' : Counts) (k : Known) (ds : List Diag) (hs : List Held) (ls : List ℕ) : Type 0 where
   knows : Knows s b m c' k
-  ready : Ready s toks b m c'
+  ready : Ready s b m c'
   grows : findings.Adds s (unnamed c) x (unnamed c') y ds ls
   number : c'.number ≡ c.number
   slots : c'.slots ≡ k.slots
   statements : c'.statements ≡ c.statements + length (rows_of hs)
   stmts : P → v ≡ put_held s u c.statements (rows_of hs)
 
-module _ (s toks b m : List ℕ) (k : Known) (c : Counts) (bs : k.bindings ≡ bound_in s b c.used 0) (is : k.imports ≡ imports_in s m c.imported 0) (rd : Ready s toks b m c) where
+module _ (s b m : List ℕ) (k : Known) (c : Counts) (bs : k.bindings ≡ bound_in s b c.used 0) (is : k.imports ≡ imports_in s m c.imported 0) (rd : Ready s b m c) where
   module _ (size : length b ≡ most_names * name_width) {e : Entry} {k' : Known} (h : BindsName s k c e k') (sl : c.slots ≡ k'.slots) where
     abbrev b' : List ℕ
     b' = stored most_names b c.used e
@@ -195,11 +193,10 @@ module _ (s toks b m : List ℕ) (k : Known) (c : Counts) (bs : k.bindings ≡ b
               rw (z, fm, kd, lo, hi) (canon_of h.value)
         ]
 
-    pub name_kept : Knows s b' m (plus_name c) k' × Ready s toks b' m (plus_name c)
+    pub name_kept : Knows s b' m (plus_name c) k' × Ready s b' m (plus_name c)
     name_kept = (
       record { is = let now = sl ∙ ap (λ (z : Known). z.slots) h.known in h.known ∙ rw (bindings_now, is, now) },
       record {
-        lexed = rd.lexed;
         bound = omega (arith, h.room, size, stored_long most_names b c.used e size h.room);
         few = omega (arith, h.room);
         modules = rd.modules;
@@ -228,11 +225,10 @@ module _ (s toks b m : List ℕ) (k : Known) (c : Counts) (bs : k.bindings ≡ b
     unfolding imports_in
     imports_now = listed_more (import_at s m) (import_at s m') c.imported _ old_import import_now ∙ rw is
 
-    pub import_kept : Knows s b m' (plus_import c) k' × Ready s toks b m' (plus_import c)
+    pub import_kept : Knows s b m' (plus_import c) k' × Ready s b m' (plus_import c)
     import_kept = (
       record { is = let now = sl ∙ ap (λ (z : Known). z.slots) h.known in h.known ∙ rw (imports_now, bs, now) },
       record {
-        lexed = rd.lexed;
         bound = rd.bound;
         few = rd.few;
         modules = omega (arith, h.room, size, stored_long most_imports m c.imported e size h.room);
@@ -244,11 +240,11 @@ module _ (s toks b m : List ℕ) (k : Known) (c : Counts) (bs : k.bindings ≡ b
 
 -- ---- one turn
 
-module _ (s toks b m : List ℕ) (P : Type 0) (k : Known) (c : Counts) (kn : Knows s b m c k) (rd : Ready s toks b m c) (names : length b ≡ most_names * name_width)
+module _ (s b m : List ℕ) (P : Type 0) (k : Known) (c : Counts) (kn : Knows s b m c k) (rd : Ready s b m c) (names : length b ≡ most_names * name_width)
     (modules : length m ≡ most_imports * name_width) (x u y v : List ℕ) where
   kept : {c1 c2 : Counts} {b2 m2 : List ℕ} {k' : Known} {ds : List Diag} {hs : List Held} {ls : List ℕ} → Grows s P c x u c1 y v k' ds hs ls → Knows s b2 m2 c2 k'
-      → Ready s toks b2 m2 c2 → unnamed c2 ≡ unnamed c1 → c2.number ≡ c1.number → c2.slots ≡ c1.slots → c2.statements ≡ c1.statements
-      → Kept s toks P c x u y v b2 m2 c2 k' ds hs ls
+      → Ready s b2 m2 c2 → unnamed c2 ≡ unnamed c1 → c2.number ≡ c1.number → c2.slots ≡ c1.slots → c2.statements ≡ c1.statements
+      → Kept s P c x u y v b2 m2 c2 k' ds hs ls
   kept g kn2 rd2 p n sl st =
       record {
         knows = kn2;
@@ -261,7 +257,7 @@ module _ (s toks b m : List ℕ) (P : Type 0) (k : Known) (c : Counts) (kn : Kno
       }
 
   module _ {c1 : Counts} {k' : Known} {ds : List Diag} {hs : List Held} {ls : List ℕ} (g : Grows s P c x u c1 y v k' ds hs ls) where
-    ready_there : Ready s toks b m c1
+    ready_there : Ready s b m c1
     ready_there = same_ready c c1 (used_same g) (imported_same g) refl rd
 
     bound_there : k.bindings ≡ bound_in s b c1.used 0
@@ -271,7 +267,7 @@ module _ (s toks b m : List ℕ) (P : Type 0) (k : Known) (c : Counts) (kn : Kno
     imported_there = rw (imported_same g) (imports_are kn)
 
   after_turn : {r : Result Turn Refusal} {b2 m2 : List ℕ} {c2 : Counts} → Stores b m r b2 m2 c2 → (t : judgements.Turn) → TurnOf s P k c x u r y v t
-      → (k' : Known) × (ds : List Diag) × (hs : List Held) × (ls : List ℕ) × (t ≡ goes k' ds hs ls) × Kept s toks P c x u y v b2 m2 c2 k' ds hs ls
+      → (k' : Known) × (ds : List Diag) × (hs : List Held) × (ls : List ℕ) × (t ≡ goes k' ds hs ls) × Kept s P c x u y v b2 m2 c2 k' ds hs ls
   after_turn (stores_none {c = c1}) (goes k' ds hs ls) a =
       let g = a.1 in
       let slots : c1.slots ≡ c.slots = g.slots ∙ ap (λ (z : Known). z.slots) a.0 ∙ sym (slots_are kn) in
@@ -293,14 +289,14 @@ module _ (s toks b m : List ℕ) (P : Type 0) (k : Known) (c : Counts) (kn : Kno
         known = h.known;
         room = rw (used_same g) h.room;
       } in
-      let n = name_kept s toks b m k c1 (bound_there g) (imported_there g) (ready_there g) names f g.slots in
+      let n = name_kept s b m k c1 (bound_there g) (imported_there g) (ready_there g) names f g.slots in
       (k', ds, hs, ls, refl, kept g n.0 n.1 refl refl refl refl)
   after_turn stores_name (refuses o t) a = absurd a
   after_turn (stores_import {c = c1}) (goes k' ds hs ls) a =
       let g = a.1 in
       let h = a.0 in
       let f : ImportsName s k c1 _ k' = record { token = h.token; named = h.named; known = h.known; room = rw (imported_same g) h.room } in
-      let n = import_kept s toks b m k c1 (bound_there g) (imported_there g) (ready_there g) modules f g.slots in
+      let n = import_kept s b m k c1 (bound_there g) (imported_there g) (ready_there g) modules f g.slots in
       (k', ds, hs, ls, refl, kept g n.0 n.1 refl refl refl refl)
   after_turn stores_import (refuses o t) a = absurd a
 
@@ -325,24 +321,23 @@ pub record Running (s ws x0 u0 x u b m : List ℕ) (c : Counts) (i : ℕ) (ss : 
   pub comes : judge_all (contents (tokens.tokens s)) ss ≡ run (contents (tokens.tokens s)) rest number known found held looks
 
 -- at row i. The tables of findings and of held statements were x0 and u0.
-pub record Looped (s toks ws x0 u0 x u b m : List ℕ) (c : Counts) (i : ℕ) : Type 0 where
+pub record Looped (s ws x0 u0 x u b m : List ℕ) (c : Counts) (i : ℕ) : Type 0 where
   pub names : length b ≡ most_names * name_width
   pub modules : length m ≡ most_imports * name_width
-  pub ready : Ready s toks b m c
+  pub ready : Ready s b m c
   pub fits : RowFits ws i c
   pub diags : length x ≡ length x0
   pub stmts : length u ≡ length u0
   pub runs : (ss : List Stmt) → StmtsAt ws 0 ss → Running s ws x0 u0 x u b m c i ss
 
-pub start : {s toks ws x u b m : List ℕ} {c : Counts} → TokenTable s toks → RowFits ws 0 no_counts → length b ≡ most_names * name_width
-    → length m ≡ most_imports * name_width → c ≡ no_counts → Looped s toks ws x u x u b m c 0
+pub start : {s ws x u b m : List ℕ} {c : Counts} → RowFits ws 0 no_counts → length b ≡ most_names * name_width
+    → length m ≡ most_imports * name_width → c ≡ no_counts → Looped s ws x u x u b m c 0
 unfolding bound_in imports_in listed rows_of
-start {s} {toks} {ws} {x} {u} {b} {m} l f p q e = subst (λ (z : Counts). Looped s toks ws x u x u b m z 0) (sym e) (
+start {s} {ws} {x} {u} {b} {m} f p q e = subst (λ (z : Counts). Looped s ws x u x u b m z 0) (sym e) (
     record {
       names = p;
       modules = q;
       ready = record {
-        lexed = l;
         bound = omega arith;
         few = omega arith;
         modules = omega arith;
@@ -384,7 +379,7 @@ module _ (ts : List Content) (st : Stmt) (ss : List Stmt) (n : ℕ) (k : Known) 
 abbrev pub Turned : List ℕ → List ℕ → ℕ → List ℕ → List ℕ → List ℕ → List ℕ → Counts → List ℕ → List ℕ → Result Turn Refusal → Type 0
 Turned s ws i b m x u c y v r = (n : ℕ) (k : Known) (ss : List Stmt) → n ≡ c.number + 1 → Knows s b m c k → StmtsAt ws i ss → RowTurns s ws i n k c x u r y v ss
 
-module _ {s toks ws : List ℕ} {i : ℕ} {x0 u0 x u b m : List ℕ} {c : Counts} (l : Looped s toks ws x0 u0 x u b m c i) (y v : List ℕ) where
+module _ {s ws : List ℕ} {i : ℕ} {x0 u0 x u b m : List ℕ} {c : Counts} (l : Looped s ws x0 u0 x u b m c i) (y v : List ℕ) where
   abbrev ts : List Content
   ts = contents (tokens.tokens s)
 
@@ -397,12 +392,12 @@ module _ {s toks ws : List ℕ} {i : ℕ} {x0 u0 x u b m : List ℕ} {c : Counts
 
     taken : (n : ℕ) (k : Known) (st' : Stmt) → Knows s b m c k → TurnOf s (Valued ts n k st') k (plus_number c) x u r y v (stmt ts n k st')
         → (k' : Known) × (ds : List Diag) × (hs : List Held) × (ls : List ℕ) × (stmt ts n k st' ≡ goes k' ds hs ls)
-        × Kept s toks (Valued ts n k st') (plus_number c) x u y v b2 m2 c2 k' ds hs ls
+        × Kept s (Valued ts n k st') (plus_number c) x u y v b2 m2 c2 k' ds hs ls
     taken n k st' kn a =
-        after_turn s toks b m (Valued ts n k st') k (plus_number c) (same_knows c (plus_number c) refl refl refl refl kn) (same_ready c (plus_number c) refl refl refl l.ready)
+        after_turn s b m (Valued ts n k st') k (plus_number c) (same_knows c (plus_number c) refl refl refl refl kn) (same_ready c (plus_number c) refl refl refl l.ready)
         l.names l.modules x u y v st (stmt ts n k st') a
 
-    ready_on : (n : ℕ) (k : Known) (ss : List Stmt) → Knows s b m c k → RowTurns s ws i n k c x u r y v ss → Ready s toks b2 m2 c2
+    ready_on : (n : ℕ) (k : Known) (ss : List Stmt) → Knows s b m c k → RowTurns s ws i n k c x u r y v ss → Ready s b2 m2 c2
     ready_on n k ss kn (passes a e f g) = let z = none_stored st e in rw (z.0, z.1, z.2) l.ready
     ready_on n k (st' ∷ ss) kn (takes a t) = (taken n k st' kn t.turn).5.ready
 
@@ -484,7 +479,7 @@ module _ {s toks ws : List ℕ} {i : ℕ} {x0 u0 x u b m : List ℕ} {c : Counts
               comes = o ∙ run_goes ts st' ss n k ds hs ls w.4;
             }
 
-    stored_size : {a : Result Turn Refusal} {p q : List ℕ} {f : Counts} → Stores b m a p q f → Ready s toks p q f → (length p ≡ length b) × (length q ≡ length m)
+    stored_size : {a : Result Turn Refusal} {p q : List ℕ} {f : Counts} → Stores b m a p q f → Ready s p q f → (length p ≡ length b) × (length q ≡ length m)
     stored_size stores_none rd = (refl, refl)
     stored_size (stores_name {c = c1} {e = e}) rd = (stored_long most_names b c1.used e l.names (omega (arith, rd.bound, l.names, sizes)), refl)
       where
@@ -495,7 +490,7 @@ module _ {s toks ws : List ℕ} {i : ℕ} {x0 u0 x u b m : List ℕ} {c : Counts
         sizes : length (stored most_imports m c1.imported e) ≡ length m
         sizes = simp length-set
 
-    again : Turned s ws i b m x u c y v r → length y ≡ length x → length v ≡ length u → Looped s toks ws x0 u0 y v b2 m2 c2 (i + 1)
+    again : Turned s ws i b m x u c y v r → length y ≡ length x → length v ≡ length u → Looped s ws x0 u0 y v b2 m2 c2 (i + 1)
     again h f g =
         let fs = l.fits in
         let k = known_in s b m c in
@@ -514,13 +509,13 @@ module _ {s toks ws : List ℕ} {i : ℕ} {x0 u0 x u b m : List ℕ} {c : Counts
         }
 
   module _ {r : Result Turn Refusal} (h : Turned s ws i b m x u c y v r) (f : length y ≡ length x) (g : length v ≡ length u) where
-    pub again_went : {d : Counts} → r ≡ Ok (Went d) → Looped s toks ws x0 u0 y v b m d (i + 1)
+    pub again_went : {d : Counts} → r ≡ Ok (Went d) → Looped s ws x0 u0 y v b m d (i + 1)
     again_went e = again stores_none (subst (Turned s ws i b m x u c y v) e h) f g
 
-    pub again_name : {d d' : Counts} {e : Entry} {b2 : List ℕ} → r ≡ Ok (Binds d e) → b2 ≡ stored (length b / name_width) b d.used e → d' ≡ plus_name d → Looped s toks ws x0 u0 y v b2 m d' (i + 1)
+    pub again_name : {d d' : Counts} {e : Entry} {b2 : List ℕ} → r ≡ Ok (Binds d e) → b2 ≡ stored (length b / name_width) b d.used e → d' ≡ plus_name d → Looped s ws x0 u0 y v b2 m d' (i + 1)
     again_name e p q = let room : length b / name_width ≡ most_names = omega (arith, l.names) in rw (p, q, room) (again stores_name (subst (Turned s ws i b m x u c y v) e h) f g)
 
-    pub again_import : {d d' : Counts} {e : Entry} {m2 : List ℕ} → r ≡ Ok (Imports d e) → m2 ≡ stored (length m / name_width) m d.imported e → d' ≡ plus_import d → Looped s toks ws x0 u0 y v b m2 d' (i + 1)
+    pub again_import : {d d' : Counts} {e : Entry} {m2 : List ℕ} → r ≡ Ok (Imports d e) → m2 ≡ stored (length m / name_width) m d.imported e → d' ≡ plus_import d → Looped s ws x0 u0 y v b m2 d' (i + 1)
     again_import e p q = let room : length m / name_width ≡ most_imports = omega (arith, l.modules) in rw (p, q, room) (again stores_import (subst (Turned s ws i b m x u c y v) e h) f g)
 
   refused_by : (f : Refusal) (n : ℕ) (k : Known) (ds : List Diag) (hs : List Held) (ls : List ℕ) (ss : List Stmt)
@@ -577,7 +572,7 @@ none_left l (an_import h k a) = absurd (omega (arith, l, h))
 none_left l (a_let h k r a) = absurd (omega (arith, l, h))
 none_left l (an_expr h k r a) = absurd (omega (arith, l, h))
 
-pub finished : {s toks ws x0 u0 x u b m : List ℕ} {c : Counts} {i : ℕ} → Looped s toks ws x0 u0 x u b m c i → length ws / node_width ≤ i
+pub finished : {s ws x0 u0 x u b m : List ℕ} {c : Counts} {i : ℕ} → Looped s ws x0 u0 x u b m c i → length ws / node_width ≤ i
     → (all : List Stmt) → StmtsAt ws 0 all → AllSound (contents (tokens.tokens s)) all → Comes s x0 u0 (Ok c) x u (judge_all (contents (tokens.tokens s)) all)
 unfolding run
 finished {s} {x0 = x0} {u0} {x} {u} {c = c} l h all a sound =

@@ -39,11 +39,11 @@ use Rattle.findings.proofs.Texts.{at_token_lem}
 use Rattle.values.specs.declared.Term.{Term}
 use Rattle.values.specs.declared.Halt.TheVariants as halt
 use Rattle.values.specs.Values.{term_as, narrowed_as, judged_as, TypeShown, Narrow}
-use Rattle.holding.specs.declared.Step.{Step}
+use Rattle.holding.specs.Holding.{Step}
 use Rattle.holding.specs.Holding.{most_rows, Puts, Agrees}
 use Rattle.judging.specs.Judging.{most_findings, RepAt, LookFits, Fits, Left}
 use Rattle.judging.proofs.Steps.{left_of_lem}
-use Rattle.statements.specs.declared.Turn.TheVariants.{Went}
+use Rattle.statements.specs.Turned.{Went}
 use Rattle.statements.specs.declared.Refusal.TheVariants.{Calls}
 use Rattle.statements.specs.Checking.{held_to, unheld, Room, StmtFits, deed_number, GoesOf, IsVal, Does, Tells, TurnOf, Turns, Values}
 use Rattle.statements.proofs.Growing.{adds_unheld, grows_none, grows_held, grows_after, grows_if}

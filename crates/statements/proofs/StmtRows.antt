@@ -12,8 +12,7 @@ use Rattle.findings.specs.declared.Counts.{Counts}
 use Rattle.findings.specs.Findings.{most_compared, plus_search}
 use Rattle.holding.specs.Holding.{most_rows}
 use Rattle.judging.specs.Judging.{most_findings, Knows, Ready, RepAt}
-use Rattle.statements.specs.declared.Turn.{Turn}
-use Rattle.statements.specs.declared.Turn.TheVariants.{Went}
+use Rattle.statements.specs.Turned.{Turn, Went}
 use Rattle.statements.specs.declared.Refusal.{Refusal}
 use Rattle.statements.specs.Checking.{plus_number, Room, StmtFits, StmtsAt, at_end, no_stmt, an_import, a_let, an_expr, RowFits, RowTurns, passes, takes, Turns}
 
@@ -23,10 +22,9 @@ module _ (c e : Counts) (p : e.used ≡ c.used) (q : e.imported ≡ c.imported) 
   pub same_knows : {k : Known} → e.slots ≡ c.slots → Knows s bindings imports c k → Knows s bindings imports d k
   same_knows o kn = record { is = rw (b, p, q, o) kn.is }
 
-  pub same_ready : {toks : List ℕ} → Ready s toks bindings imports c → Ready s toks bindings imports d
+  pub same_ready : Ready s bindings imports c → Ready s bindings imports d
   same_ready r =
       record {
-        lexed = r.lexed;
         bound = rw (b, p) r.bound;
         few = rw (b, p) r.few;
         modules = rw (b, q) r.modules;

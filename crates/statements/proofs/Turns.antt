@@ -38,18 +38,20 @@ use Rattle.findings.proofs.Rows.{no_rows}
 use Rattle.findings.proofs.Texts.{at_token_lem}
 use Rattle.values.specs.declared.Term.{Term}
 use Rattle.values.specs.Values as code
+use Rattle.values.specs.declared.Halt.{Halt}
 use Rattle.values.specs.declared.Halt.TheVariants as halt
+use Rattle.holding.specs.declared.Valued.{Valued}
 use Rattle.values.specs.Values.{term_as, atom_as, form_of, kind_of, low_of, high_of, judged_as, TypeShown, Used}
 use Rattle.paths.specs.Paths.{or_none}
 use Rattle.paths.proofs.Paths.{found_module}
-use Rattle.holding.specs.declared.Step.{Step}
-use Rattle.holding.specs.Holding.{Puts, Agrees}
+use Rattle.holding.specs.Holding.{Step, step, stepped as answered, Puts, Agrees}
 use Rattle.judging.specs.Judging.{binding_at, bound_in, import_at, imports_in, Knows, Left}
 use Rattle.judging.proofs.Names.{bound_found, bound_lost, import_found, import_lost, counted_look}
 use Rattle.judging.proofs.Steps as steps
 use Rattle.statements.proofs.StmtRows.{searched_number}
-use Rattle.statements.specs.declared.Turn.{Turn}
-use Rattle.statements.specs.declared.Turn.TheVariants as turn
+use Rattle.statements.specs.Turned.{Turn, told}
+use Rattle.statements.specs.declared.Turn as code_turn
+use Rattle.statements.specs.Turned as turn
 use Rattle.statements.specs.declared.Refusal.{Refusal}
 use Rattle.statements.specs.declared.Refusal.TheVariants.{Calls, Names}
 use Rattle.statements.specs.Checking.{no_value, plus_slot, unheld, Enters, IsVal, BindsName, TurnOf, Turns, Values, BindsValue, Binds, BoundTwice}
@@ -183,6 +185,24 @@ module _ {s : List ℕ} {step r : Step} where
 pub value_same : {s : List ℕ} {step : Step} → ((w : Term) → step.out ≡ Ok w → ⊥) → Values s step step
 value_same h = record { is = λ x y u w c at j a. steps.stays j a used h }
 
+-- the same of the code's answers
+pub values_as : {s : List ℕ} {r q : Result Valued Halt} (d : Counts) {t : Step} → r ≡ q → Values s (answered q d) t → Values s (answered r d) t
+values_as {s} d {t} e g = subst (λ (o : Result Valued Halt). Values s (answered o d) t) (sym e) g
+
+-- a void value
+pub value_failed : {s : List ℕ} {v : Valued} {o : code.Judged} {h : Halt} {d : Counts} → Used s v.term o → o ≡ Err h → Values s (answered (Ok v) d) (answered (Err h) d)
+value_failed {s} {v} {h = h} {d} us e =
+    record { is = λ x y u w c at j a. steps.agrees_err (subst (λ (i : code.Judged). Agrees s (step i d v.next) x y u w c at (and_then j used)) e ((value_used {step = answered (Ok v) d} refl us refl).is x y u w c at j a)) }
+
+-- one that is none
+pub value_kept : {s : List ℕ} {v : Valued} {o : code.Judged} {w : Term} {d : Counts} → Used s v.term o → o ≡ Ok w
+    → Values s (answered (Ok v) d) (answered (Ok (record { term = w; next = v.next })) d)
+value_kept {v = v} {d = d} us e = value_used {step = answered (Ok v) d} refl us (ap (λ (i : code.Judged). step i d v.next) (sym e))
+
+-- what a statement leads to, by its case
+pub told_as : {r q : Result code_turn.Turn Refusal} (c : Counts) → r ≡ q → told r c ≡ told q c
+told_as c e = ap (λ (o : Result code_turn.Turn Refusal). told o c) e
+
 -- ---- a name that is bound
 
 atom_is : (e : terms.Term) {a : Atom} → atom_of e ≡ some a → (p : ℕ) × (e ≡ atom p a)
@@ -276,6 +296,10 @@ module _ {s : List ℕ} {tok : Token} {t key : ℕ} {v : Term} {next : ℕ} {c' 
     value_slot = record { is = λ x y h n k c f ws ls l sl at made a left. on_slot x y h n k c f ws ls l sl at made a left (atom_of f) refl }
 
 -- ---- what a value came to
+
+pub binds_as : {s : List ℕ} {tok : Token} {t key : ℕ} {r q : Result Valued Halt} (d : Counts) {x' u' : List ℕ} {a : Result Turn Refusal} {y w : List ℕ} → r ≡ q
+    → Binds s tok t key (answered q d) x' u' a y w → Binds s tok t key (answered r d) x' u' a y w
+binds_as {s} {tok} {t} {key} d {x'} {u'} {a} {y} {w} e g = subst (λ (o : Result Valued Halt). Binds s tok t key (answered o d) x' u' a y w) (sym e) g
 
 module _ {s : List ℕ} {tok : Token} {t key : ℕ} {step : Step} {x' u' : List ℕ} where
   pub binds_val : {v : Term} {r : Result Turn Refusal} {w : List ℕ} → step.out ≡ Ok v → BindsValue s tok t key v step.next step.counts u' r w → Binds s tok t key step x' u' r x' w

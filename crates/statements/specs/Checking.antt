@@ -23,11 +23,11 @@ use Rattle.findings.specs.Findings.{most_compared, Adds}
 use Rattle.values.specs.declared.Term.{Term}
 use Rattle.values.specs.Values.{form_of, kind_of, low_of, high_of}
 use Rattle.paths.specs.Paths.{or_none}
-use Rattle.holding.specs.declared.Step.{Step}
+use Rattle.holding.specs.Holding.{Step}
 use Rattle.holding.specs.Holding.{most_rows, put_held, Agrees}
 use Rattle.judging.specs.Judging.{most_findings, RepAt, Left}
-use Rattle.statements.specs.declared.Turn.{Turn}
-use Rattle.statements.specs.declared.Turn.TheVariants as turn
+use Rattle.statements.specs.Turned.{Turn}
+use Rattle.statements.specs.Turned as turn
 use Rattle.statements.specs.declared.Refusal.{Refusal}
 use Rattle.statements.specs.declared.Refusal.TheVariants.{Calls, Names}
 

@@ -2,25 +2,26 @@
 // Statements: what they come to, one after the other. Ports check.rs's `Checker`, its statements and its statement loop; the
 // definitions are `Judgements` and `Findings` of the crate `language`. A statement reads the checker's state and says what it
 // binds or imports; the loop alone stores it.
-ghost use Rattle.std.specs.Prelude.{◌≡◌, List, ℕ, ◌+◌, ◌*◌, ◌/◌, ◌<◌, ◌≤◌, length};
-ghost use Rattle.language.specs.Tables.{token_width};
+ghost use Rattle.std.specs.Prelude.{◌≡◌, List, ℕ, ◌+◌, ◌*◌, ◌/◌, ◌<◌, ◌≤◌, length, Ok};
 ghost use Rattle.language.specs.Tokens.{tokens, contents};
 ghost use Rattle.language.specs.Values.{lookup};
 ghost use Rattle.language.specs.Sentences.{Expr, Stmt, import', let', expr', node_width};
 ghost use Rattle.language.specs.Judgements.{Known, most_names, most_imports, judge_all};
 ghost use Rattle.constants.specs.Constants.{or_zero};
 ghost use Rattle.rows.specs.Rows.{node_word};
-ghost use Rattle.rows.specs.Tokens.{TokenTable};
+ghost use Rattle.holding.specs.Holding.{stepped};
 ghost use Rattle.names.specs.Names.{name_width, Keyed};
 ghost use Rattle.judging.specs.Judging.{most_findings, Ready, Knows, RepAt};
+ghost use Rattle.statements.specs.Turned as turn;
+ghost use Rattle.statements.specs.Turned.{told};
 ghost use Rattle.statements.specs.Checking.{no_counts, plus_number, held_to, plus_slot, plus_name, plus_import, Room, Enters, no_value, deed_number, Does, Tells, Turns, StmtFits, Values, BindsValue, Binds, BoundTwice, RowFits, StmtsAt, RowTurns, AllSound, refusal_number, refusal_token, Comes};
 
 use constants::Constants;
 use findings::{Counts, Diagnostic, What};
-use holding::Step;
+use holding::Valued;
 use judging::Scope;
 use names::Entry;
-use rows::{NodeKind, NodeRow, StatementRow, TokKind, Token, Ty, Verdict};
+use rows::{NodeKind, NodeRow, StatementRow, TokKind, Token, Tokens, Ty, Verdict};
 use values::{Halt, Term};
 
 // The checker's state: the names that are bound and imported, in order of binding. `Counts` says how many of each are filled.
@@ -66,9 +67,9 @@ impl Checker {
 #[derive(Clone, Copy)]
 pub enum Turn {
     // it binds and imports nothing
-    Went(Counts),
-    Binds(Counts, Entry),
-    Imports(Counts, Entry),
+    Went,
+    Binds(Entry),
+    Imports(Entry),
 }
 
 // Why nothing is judged any more, with the token where it stands.
@@ -195,52 +196,54 @@ fn deed_of(kind: u64) -> u64
     }
 }
 
-// An expression statement at the token t. The rows of its value's parts end before the row `next`; its own is written here, where
+// An expression statement at the token t. The rows of its value's parts end before the next free row; its own is written here, where
 // it is known that the value stays.
 fn does(
-    toks: &[u64],
+    toks: &Tokens,
     diags: &mut [u64],
+    counts: &mut Counts,
     stmts: &mut [u64],
     t: u64,
     v: Term,
     next: usize,
-    counts: Counts,
-) -> Counts
-    requires token_width_in_bounds { token_width ≤ length toks.now }
-    requires room { Room counts }
-    ensures { (s : List ℕ) → TokenTable s toks.now → Does s t v next counts diags.old stmts.old result diags.new stmts.new }
+)
+    requires { Room counts.old }
+    ensures { Does toks.now t v next counts.old diags.old stmts.old counts.new diags.new stmts.new }
 {
     let ty = values::type_of(v);
     let kind = deed_of(ty.kind);
-    holding::put(toks, stmts, counts.statements, t, kind, 0, v);
-    let held = held_to(counts, next);
+    holding::put(toks.rows(), stmts, counts.statements, t, kind, 0, v);
+    let held = held_to(*counts, next);
+    *counts = held;
     if kind == StatementRow::DISCARD {
-        let tok = rows::token_at(toks, t);
-        return findings::report(diags, held, Diagnostic::at(tok, What::DiscardedValue(ty)));
+        findings::report(
+            diags,
+            counts,
+            Diagnostic::at(toks.at(t), What::DiscardedValue(ty)),
+        );
     }
-    held
 }
 
 // The value of an expression statement at the token t: an integer with no size takes the smallest that holds it.
 fn tell(
-    toks: &[u64],
+    toks: &Tokens,
     diags: &mut [u64],
+    counts: &mut Counts,
     stmts: &mut [u64],
     t: u64,
     v: Term,
     next: usize,
-    counts: Counts,
-) -> Counts
-    requires token_width_in_bounds { token_width ≤ length toks.now }
-    requires room { Room counts }
-    ensures { (s : List ℕ) → TokenTable s toks.now → Tells s t v next counts diags.old stmts.old result diags.new stmts.new }
+)
+    requires { Room counts.old }
+    ensures { Tells toks.now t v next counts.old diags.old stmts.old counts.new diags.new stmts.new }
 {
     match values::narrow(v) {
-        Some(w) => does(toks, diags, stmts, t, w, next, counts),
-        None => {
-            let tok = rows::token_at(toks, t);
-            findings::report(diags, counts, Diagnostic::at(tok, What::IntegralTooLarge))
-        }
+        Some(w) => does(toks, diags, counts, stmts, t, w, next),
+        None => findings::report(
+            diags,
+            counts,
+            Diagnostic::at(toks.at(t), What::IntegralTooLarge),
+        ),
     }
 }
 
@@ -248,31 +251,30 @@ fn tell(
 fn expr_stmt(
     scope: &Scope,
     diags: &mut [u64],
+    counts: &mut Counts,
     stmts: &mut [u64],
     i: usize,
-    counts: Counts,
 ) -> Result<Turn, Refusal>
-    requires ready { Ready scope.now.source.now scope.now.toks.now scope.now.bindings.now scope.now.imports.now counts }
-    requires stmt_fits { StmtFits scope.now.nodes.now i counts × (node_width * i + node_width ≤ length scope.now.nodes.now) }
-    ensures { (n : ℕ) (k : Known) (e : Expr) → n ≡ counts.number → Knows scope.now.source.now scope.now.bindings.now scope.now.imports.now counts k
+    requires ready { Ready scope.now.toks.now scope.now.bindings.now scope.now.imports.now counts.old }
+    requires stmt_fits { StmtFits scope.now.nodes.now i counts.old × (node_width * i + node_width ≤ length scope.now.nodes.now) }
+    ensures { (n : ℕ) (k : Known) (e : Expr) → n ≡ counts.old.number → Knows scope.now.toks.now scope.now.bindings.now scope.now.imports.now counts.old k
         → RepAt scope.now.nodes.now (node_word scope.now.nodes.now i 2) e
-        → Turns scope.now.source.now n k (expr' e) counts diags.old stmts.old result diags.new stmts.new }
+        → Turns scope.now.toks.now n k (expr' e) counts.old diags.old stmts.old (told result counts.new) diags.new stmts.new }
 {
     let e = rows::node_word(scope.nodes, i, NodeRow::FIRST) as usize;
     let at = counts.statements;
-    let step = judging::judge(scope, diags, stmts, e, at, counts);
-    let out = step.out;
-    let found = step.counts;
-    match out {
-        Ok(v) => {
+    match judging::judge(scope, diags, counts, stmts, e, at) {
+        Ok(value) => {
             let t = rows::node_word(scope.nodes, e, NodeRow::TOKEN);
-            Ok(Turn::Went(tell(scope.toks, diags, stmts, t, v, step.next, found)))
+            tell(scope.toks, diags, counts, stmts, t, value.term, value.next);
+            Ok(Turn::Went)
         }
-        Err(halt) => match halt {
-            Halt::Found(d) => Ok(Turn::Went(findings::report(diags, found, d))),
-            Halt::Poisoned => Ok(Turn::Went(found)),
-            Halt::Stopped(p) => Err(Refusal::Calls(p)),
-        },
+        Err(Halt::Found(d)) => {
+            findings::report(diags, counts, d);
+            Ok(Turn::Went)
+        }
+        Err(Halt::Poisoned) => Ok(Turn::Went),
+        Err(Halt::Stopped(p)) => Err(Refusal::Calls(p)),
     }
 }
 
@@ -289,75 +291,67 @@ fn module_named(name: &[u8]) -> u64
 }
 
 // `import` of the name at the token t. Where there is no such module, the name is imported as failed.
-fn import(scope: &Scope, diags: &mut [u64], t: u64, counts: Counts) -> Result<Turn, Refusal>
-    requires token_table { TokenTable scope.now.source.now scope.now.toks.now × (counts.imported ≤ length scope.now.imports.now / name_width) × Keyed scope.now.source.now scope.now.imports.now counts.imported }
-    requires room { Room counts }
-    ensures { (n : ℕ) (k : Known) (b u : List ℕ) → n ≡ counts.number → Knows scope.now.source.now b scope.now.imports.now counts k
-        → Turns scope.now.source.now n k (import' t) counts diags.old u result diags.new u }
+fn import(scope: &Scope, diags: &mut [u64], counts: &mut Counts, t: u64) -> Result<Turn, Refusal>
+    requires modules { (counts.old.imported ≤ length scope.now.imports.now / name_width) × Keyed scope.now.toks.now scope.now.imports.now counts.old.imported }
+    requires room { Room counts.old }
+    ensures { (n : ℕ) (k : Known) (b u : List ℕ) → n ≡ counts.old.number → Knows scope.now.toks.now b scope.now.imports.now counts.old k
+        → Turns scope.now.toks.now n k (import' t) counts.old diags.old u (told result counts.new) diags.new u }
 {
-    let tok = rows::token_at(scope.toks, t);
-    let name = rows::name_at(scope.source, tok);
+    let tok = scope.toks.at(t);
+    let name = scope.toks.name(tok);
     let key = names::key_of(name);
-    let found = names::find(scope.source, scope.imports, counts.imported, key, name);
-    if found.at < counts.imported {
-        return Ok(Turn::Went(findings::report(
-            diags,
-            counts,
-            Diagnostic::at(tok, What::MultipleImports),
-        )));
+    let imported = counts.imported;
+    let place = names::find(scope.toks.bytes(), scope.imports, imported, key, name);
+    if place.at < imported {
+        findings::report(diags, counts, Diagnostic::at(tok, What::MultipleImports));
+        return Ok(Turn::Went);
     }
-    if Checker::IMPORTS <= counts.imported {
+    if Checker::IMPORTS <= imported {
         return Err(Refusal::Names(t));
     }
     let kind = module_named(name);
     let e = entry(tok, t, key, no_value(kind));
     if kind == 0 {
-        let more = findings::report(diags, counts, Diagnostic::at(tok, What::UnknownModule));
-        return Ok(Turn::Imports(more, e));
+        findings::report(diags, counts, Diagnostic::at(tok, What::UnknownModule));
+        return Ok(Turn::Imports(e));
     }
-    Ok(Turn::Imports(counts, e))
+    Ok(Turn::Imports(e))
 }
 
 // ---- lets
 
 // What a `let` is of must not be void.
-fn value_of(toks: &[u64], step: Step) -> Step
-    requires { token_width ≤ length toks.now }
-    ensures { (s : List ℕ) → TokenTable s toks.now → Values s step result }
+fn value_of(toks: &Tokens, judged: Result<Valued, Halt>) -> Result<Valued, Halt>
+    ensures { (c : Counts) → Values toks.now (stepped judged c) (stepped result c) }
 {
-    let out = step.out;
-    let Ok(v) = out else {
-        return step;
-    };
-    Step {
-        out: values::used(toks, v),
-        ..step
-    }
+    let value = judged?;
+    let term = values::used(toks.rows(), value.term)?;
+    Ok(Valued { term, ..value })
 }
 
 // The name at the token t is bound to a value: a constant or a slot as it is, so that it takes no row; any other takes the next slot.
 fn bind_value(
-    toks: &[u64],
+    toks: &Tokens,
+    counts: &mut Counts,
     stmts: &mut [u64],
     tok: Token,
     t: u64,
     key: u64,
-    v: Term,
-    next: usize,
-    counts: Counts,
-) -> Result<Turn, Refusal>
-    requires token_width_in_bounds { token_width ≤ length toks.now }
-    requires room { Room counts }
-    ensures { (s : List ℕ) → TokenTable s toks.now → BindsValue s tok t key v next counts stmts.old result stmts.new }
+    value: Valued,
+) -> Entry
+    requires { Room counts.old }
+    ensures { BindsValue toks.now tok t key value.term value.next counts.old stmts.old (Ok (turn.Binds counts.new result)) stmts.new }
 {
+    let v = value.term;
     if v.form <= Term::SLOT {
-        return Ok(Turn::Binds(counts, entry(tok, t, key, v)));
+        return entry(tok, t, key, v);
     }
-    let slot = counts.slots as u64;
+    let so_far = *counts;
+    let slot = so_far.slots as u64;
     holding::put(
-        toks,
+        toks.rows(),
         stmts,
-        counts.statements,
+        so_far.statements,
         t,
         StatementRow::LET,
         slot,
@@ -371,120 +365,117 @@ fn bind_value(
         lo: slot,
         hi: ty.entry,
     };
-    Ok(Turn::Binds(slot_made(counts, next), entry(tok, t, key, made)))
+    *counts = slot_made(so_far, value.next);
+    entry(tok, t, key, made)
 }
 
 // The name at the token t is bound to what its value came to; where that failed, to nothing.
 fn bind(
-    toks: &[u64],
+    toks: &Tokens,
     diags: &mut [u64],
+    counts: &mut Counts,
     stmts: &mut [u64],
     tok: Token,
     t: u64,
     key: u64,
-    step: Step,
+    judged: Result<Valued, Halt>,
 ) -> Result<Turn, Refusal>
-    requires token_width_in_bounds { token_width ≤ length toks.now }
-    requires room { Room step.counts }
-    ensures { (s : List ℕ) → TokenTable s toks.now → Binds s tok t key step diags.old stmts.old result diags.new stmts.new }
+    requires { Room counts.old }
+    ensures { Binds toks.now tok t key (stepped judged counts.old) diags.old stmts.old (told result counts.new) diags.new stmts.new }
 {
-    let out = step.out;
-    let counts = step.counts;
-    match out {
-        Ok(v) => bind_value(toks, stmts, tok, t, key, v, step.next, counts),
+    match judged {
+        Ok(value) => Ok(Turn::Binds(bind_value(toks, counts, stmts, tok, t, key, value))),
         Err(halt) => match halt {
             Halt::Found(d) => {
-                let more = findings::report(diags, counts, d);
-                Ok(Turn::Binds(more, entry(tok, t, key, no_value(0))))
+                findings::report(diags, counts, d);
+                Ok(Turn::Binds(entry(tok, t, key, no_value(0))))
             }
-            Halt::Poisoned => Ok(Turn::Binds(counts, entry(tok, t, key, no_value(0)))),
+            Halt::Poisoned => Ok(Turn::Binds(entry(tok, t, key, no_value(0)))),
             Halt::Stopped(p) => Err(Refusal::Calls(p)),
         },
     }
 }
 
 // A name that is bound already: the finding shows where it was bound first, at the token `first`.
-fn bound_twice(toks: &[u64], diags: &mut [u64], tok: Token, first: u64, counts: Counts) -> Counts
-    requires token_width_in_bounds { token_width ≤ length toks.now }
-    requires warnings_bound { counts.errors + counts.warnings < most_findings }
-    ensures { (s : List ℕ) → TokenTable s toks.now → BoundTwice s tok first counts diags.old result diags.new }
+fn bound_twice(toks: &Tokens, diags: &mut [u64], counts: &mut Counts, tok: Token, first: u64)
+    requires { counts.old.errors + counts.old.warnings < most_findings }
+    ensures { BoundTwice toks.now tok first counts.old diags.old counts.new diags.new }
 {
-    let then = rows::token_at(toks, first);
+    let then = toks.at(first);
     findings::report(
         diags,
         counts,
         Diagnostic::at(tok, What::AlreadyBound(then.line, then.column)),
-    )
+    );
 }
 
 // `let` in row i. `AlreadyBound` is found before the value is read.
 fn let_stmt(
     scope: &Scope,
     diags: &mut [u64],
+    counts: &mut Counts,
     stmts: &mut [u64],
     i: usize,
-    counts: Counts,
 ) -> Result<Turn, Refusal>
-    requires ready { Ready scope.now.source.now scope.now.toks.now scope.now.bindings.now scope.now.imports.now counts }
-    requires stmt_fits { StmtFits scope.now.nodes.now i counts × (node_width * i + node_width ≤ length scope.now.nodes.now) }
-    ensures { (n : ℕ) (k : Known) (e : Expr) → n ≡ counts.number → Knows scope.now.source.now scope.now.bindings.now scope.now.imports.now counts k
+    requires ready { Ready scope.now.toks.now scope.now.bindings.now scope.now.imports.now counts.old }
+    requires stmt_fits { StmtFits scope.now.nodes.now i counts.old × (node_width * i + node_width ≤ length scope.now.nodes.now) }
+    ensures { (n : ℕ) (k : Known) (e : Expr) → n ≡ counts.old.number → Knows scope.now.toks.now scope.now.bindings.now scope.now.imports.now counts.old k
         → RepAt scope.now.nodes.now (node_word scope.now.nodes.now i 2) e
-        → Turns scope.now.source.now n k (let' (node_word scope.now.nodes.now i 1) e) counts diags.old stmts.old
-        result diags.new stmts.new }
+        → Turns scope.now.toks.now n k (let' (node_word scope.now.nodes.now i 1) e) counts.old diags.old stmts.old
+        (told result counts.new) diags.new stmts.new }
 {
     let t = rows::node_word(scope.nodes, i, NodeRow::TOKEN);
-    let tok = rows::token_at(scope.toks, t);
-    let name = rows::name_at(scope.source, tok);
+    let tok = scope.toks.at(t);
+    let name = scope.toks.name(tok);
     let key = names::key_of(name);
-    let found = names::find(scope.source, scope.bindings, counts.used, key, name);
-    let then = findings::searched(counts, found.compared);
-    let first = found.at;
-    if first < counts.used {
+    let used = counts.used;
+    let place = names::find(scope.toks.bytes(), scope.bindings, used, key, name);
+    findings::searched(counts, place.compared);
+    let first = place.at;
+    if first < used {
         let bound = names::word(scope.bindings, first, Entry::TOKEN);
-        return Ok(Turn::Went(bound_twice(scope.toks, diags, tok, bound, then)));
+        bound_twice(scope.toks, diags, counts, tok, bound);
+        return Ok(Turn::Went);
     }
-    if Checker::NAMES <= counts.used {
+    if Checker::NAMES <= used {
         return Err(Refusal::Names(t));
     }
     let e = rows::node_word(scope.nodes, i, NodeRow::FIRST) as usize;
-    let at = then.statements;
-    let step = judging::judge(scope, diags, stmts, e, at, then);
-    bind(
-        scope.toks,
-        diags,
-        stmts,
-        tok,
-        t,
-        key,
-        value_of(scope.toks, step),
-    )
+    let at = counts.statements;
+    let judged = judging::judge(scope, diags, counts, stmts, e, at);
+    let value = value_of(scope.toks, judged);
+    bind(scope.toks, diags, counts, stmts, tok, t, key, value)
 }
 
 // Row i: a statement takes its turn, a row of an expression is passed.
 fn stmt(
     scope: &Scope,
     diags: &mut [u64],
+    counts: &mut Counts,
     stmts: &mut [u64],
     i: usize,
-    counts: Counts,
 ) -> Result<Turn, Refusal>
-    requires ready { Ready scope.now.source.now scope.now.toks.now scope.now.bindings.now scope.now.imports.now counts }
-    requires row_fits { RowFits scope.now.nodes.now i counts × (node_width * i + node_width ≤ length scope.now.nodes.now) }
-    ensures { (n : ℕ) (k : Known) (ss : List Stmt) → n ≡ counts.number + 1 → Knows scope.now.source.now scope.now.bindings.now scope.now.imports.now counts k
+    requires ready { Ready scope.now.toks.now scope.now.bindings.now scope.now.imports.now counts.old }
+    requires row_fits { RowFits scope.now.nodes.now i counts.old × (node_width * i + node_width ≤ length scope.now.nodes.now) }
+    ensures { (n : ℕ) (k : Known) (ss : List Stmt) → n ≡ counts.old.number + 1 → Knows scope.now.toks.now scope.now.bindings.now scope.now.imports.now counts.old k
         → StmtsAt scope.now.nodes.now i ss
-        → RowTurns scope.now.source.now scope.now.nodes.now i n k counts diags.old stmts.old result diags.new stmts.new ss }
+        → RowTurns scope.now.toks.now scope.now.nodes.now i n k counts.old diags.old stmts.old (told result counts.new) diags.new stmts.new ss }
 {
-    let then = begun(counts);
+    let before = *counts;
+    *counts = begun(before);
     match rows::node_word(scope.nodes, i, NodeRow::KIND) {
         NodeKind::IMPORT => import(
             scope,
             diags,
+            counts,
             rows::node_word(scope.nodes, i, NodeRow::TOKEN),
-            then,
         ),
-        NodeKind::LET => let_stmt(scope, diags, stmts, i, then),
-        NodeKind::EXPRESSION => expr_stmt(scope, diags, stmts, i, then),
-        _ => Ok(Turn::Went(counts)),
+        NodeKind::LET => let_stmt(scope, diags, counts, stmts, i),
+        NodeKind::EXPRESSION => expr_stmt(scope, diags, counts, stmts, i),
+        _ => {
+            *counts = before;
+            Ok(Turn::Went)
+        }
     }
 }
 
@@ -509,39 +500,36 @@ fn imported_one(counts: Counts) -> Counts
 }
 
 // All statements, one row after the other. Ports `run`.
-pub fn run(
-    source: &[u8],
-    toks: &[u64],
-    nodes: &[u64],
+pub fn run<'a>(
+    toks: &'a Tokens<'a>,
+    nodes: &'a [u64],
     diags: &mut [u64],
     stmts: &mut [u64],
 ) -> Result<Counts, Refusal>
-    requires token_table { TokenTable source.now toks.now }
-    requires row_fits { RowFits nodes.now 0 no_counts }
-    ensures { (ss : List Stmt) → StmtsAt nodes.now 0 ss → AllSound (contents (tokens source.now)) ss
-        → Comes source.now diags.old stmts.old result diags.new stmts.new (judge_all (contents (tokens source.now)) ss) }
+    requires { RowFits nodes.now 0 no_counts }
+    ensures { (ss : List Stmt) → StmtsAt nodes.now 0 ss → AllSound (contents (tokens toks.now)) ss
+        → Comes toks.now diags.old stmts.old result diags.new stmts.new (judge_all (contents (tokens toks.now)) ss) }
 {
     let mut checker = Checker::new();
     let mut counts = Checker::start();
     let rows = nodes.len() / NodeRow::WORDS;
     for i in 0..rows {
         let scope = Scope {
-            source,
-            toks,
-            nodes,
+            toks: &*toks,
+            nodes: &*nodes,
             bindings: &checker.bindings,
             imports: &checker.imports,
         };
-        let turn = stmt(&scope, diags, stmts, i, counts)?;
+        let turn = stmt(&scope, diags, &mut counts, stmts, i)?;
         match turn {
-            Turn::Went(then) => counts = then,
-            Turn::Binds(then, e) => {
-                names::put(&mut checker.bindings, then.used, e);
-                counts = named_one(then);
+            Turn::Went => {}
+            Turn::Binds(e) => {
+                names::put(&mut checker.bindings, counts.used, e);
+                counts = named_one(counts);
             }
-            Turn::Imports(then, e) => {
-                names::put(&mut checker.imports, then.imported, e);
-                counts = imported_one(then);
+            Turn::Imports(e) => {
+                names::put(&mut checker.imports, counts.imported, e);
+                counts = imported_one(counts);
             }
         }
     }

@@ -15,6 +15,7 @@ use Rattle.language.specs.Judgements.{val, err, poisoned, stopped, used, narrowe
 use Rattle.language.specs.Findings.{value_kind, value_low, value_high, ty_entry, term_text, term_low, term_high}
 use Rattle.rows.specs.declared.types.Text.{Text}
 use Rattle.rows.specs.declared.types.Type.{«Type»}
+use Rattle.findings.specs.declared.Counts.{Counts}
 use Rattle.findings.specs.Findings.{type_as, type_text, function_type, diagnostic_as}
 use Rattle.values.specs.declared.Term.{Term}
 use Rattle.values.specs.declared.Halt.{Halt}
@@ -23,6 +24,14 @@ use Rattle.values.specs.declared.Halt.TheVariants.{Found, Poisoned, Stopped}
 -- what judging an expression comes to
 abbrev pub Judged : Type 0
 Judged = Result Term Halt
+
+-- the same, and the counts then
+pub record Judgement : Type 0 where
+  pub out : Judged
+  pub counts : Counts
+
+abbrev pub with_counts : Judged → Counts → Judgement
+with_counts o c = record { out = o; counts = c }
 
 -- ---- terms
 

@@ -11,7 +11,7 @@ ghost use Rattle.findings.specs.Findings.{at_token};
 ghost use Rattle.values.specs.declared.Halt.TheVariants.{Found};
 ghost use Rattle.values.specs.Values.{constant_as, sock4_as, held_as, constant_type, is_integral, is_number, TypeShown, Used, Narrow, shown_constant, Shown};
 
-use findings::{Counts, Diagnostic, What};
+use findings::{Diagnostic, What};
 use rows::{Text, TokKind, Token, Ty, Type};
 use wide::{Size, Wide};
 
@@ -51,13 +51,6 @@ pub enum Halt {
 
 // What judging an expression comes to.
 pub type Judged = Result<Term, Halt>;
-
-// The same, and the counts then.
-#[derive(Clone, Copy)]
-pub struct Judgement {
-    pub out: Judged,
-    pub counts: Counts,
-}
 
 // An error at a token.
 pub fn error(tok: Token, what: What) -> Judged

@@ -1,16 +1,25 @@
-use mathlib.Core.Path.{refl}
-use Rattle.judging.proofs.Slashes.{divide_void, divide_ends, divide_goes}
+use mathlib.Core.Path.{refl, sym}
+use Rattle.std.proofs.lemmas.Result.{err_from_is_err_and}
+use Rattle.rows.proofs.TokenRows.{some_row}
 use Rattle.arguments.proofs.Outs.{halted}
+use Rattle.judging.proofs.Slashes.{divide_void, divide_ends, divide_goes}
 use Rattle.judging.proofs.divide.Goals as goal
 
-pub returns-in_default : goal.returns-in_default
-returns-in_default c = λ s o. divide_void (c.used-used.ensures s o) (halted c.in_default.is) refl refl
+pub used-requires : goal.used-requires
+used-requires c = some_row c.rows-rows.ensures
 
-pub returns-in_default-out : goal.returns-in_default-out
-returns-in_default-out c = λ s o. divide_ends (c.used-used.ensures s o) c.in-Ok.is (c.operand-otherwise.ensures s o) (c.narrow_to-narrowed.ensures.by_index s o) (halted c.in_default-out.is) refl refl
+pub narrow_to-requires : goal.narrow_to-requires
+narrow_to-requires c = (some_row c.rows-rows.ensures, c.requires.0)
 
-pub join-requires : goal.join-requires
-join-requires c = (c.requires.0, c.requires.2, c.requires.3)
+pub returns-in_err-b : goal.returns-in_err-b
+returns-in_err-b c =
+    let p = err_from_is_err_and c.from_residual.result c.from_residual.ensures.1 in
+    rw (p.1, p.2) (divide_void (c.used.ensures _ c.rows-rows.ensures) (halted c.in_err-b.was) (sym c.in_err-b.was) refl)
+
+pub returns-in_err-term : goal.returns-in_err-term
+returns-in_err-term c =
+    let p = err_from_is_err_and c.from_residual-in_err-term.result c.from_residual-in_err-term.ensures.1 in
+    rw (p.1, p.2) (divide_ends (c.used.ensures _ c.rows-rows.ensures) c.in_ok-b.was c.operand-otherwise.ensures (c.narrow_to.ensures.by_index _ c.rows-rows.ensures) (halted c.in_err-term.was) (sym c.in_err-term.was) refl)
 
 pub returns : goal.returns
-returns c = λ s o. divide_goes (c.used-used.ensures s o) c.in-Ok.is (c.operand-otherwise.ensures s o) (c.narrow_to-narrowed.ensures.by_index s o) c.in-Ok-out.is (c.join.ensures s o)
+returns c = divide_goes (c.used.ensures _ c.rows-rows.ensures) c.in_ok-b.was c.operand-otherwise.ensures (c.narrow_to.ensures.by_index _ c.rows-rows.ensures) c.in_ok-term.was (c.join.ensures _)
