@@ -3,15 +3,21 @@
 --     run_first   a run is as long as the place of the first byte without p says
 --     begin       a place is reached from itself
 --     onward      and from a place that is reached, another from which f says the same
+--     arrive      where the end is here, it is the end
+--     run_more    a byte more with p; run_stop the first without; run_end_lem the end of the line
 --     run_block   a block of bytes with p is passed
-use Rattle.std.proofs.Common.{◌≡◌, ℕ, zero, suc, ◌+◌, ◌≤◌, Bool, true, false, not, ◌&&◌, cond, List, [], ◌∷◌, refl, sym, ap, ◌∙◌, Some, None, length, take, drop, arith}
+--     refused, passed   what `if !f(b)` says of what f tests
+use Rattle.std.proofs.Common.{◌≡◌, ℕ, zero, suc, ◌+◌, ◌≤◌, ◌<◌, Bool, true, false, not, ◌&&◌, cond, List, [], ◌∷◌, refl, sym, ap, ◌∙◌, Some, None, length, take, drop, arith}
 use Rattle.std.specs.List.{fold, list_all, position, position_or_len}
 use mathlib.Core.Bool.{and-true, and_assoc}
 use Rattle.std.proofs.Math.Bool.{and_comm}
 use Rattle.std.proofs.Math.Seq.{drop-drop}
 use Rattle.std.proofs.Math.ListN.{length-drop}
 use Rattle.std.proofs.lemmas.List.Recursion.{is_position_or_len}
-use borrow.Author.Tests.{ltb-false}
+use borrow.Author.Tests.{ltb-false, not-true, not-false}
+use native.Mathlib.Numerals.{add-one}
+use lib.ListN.{get_or, drop_of_length-le}
+use lib.Seq.{drop-cons}
 use Rattle.language.proofs.LexemeSizes.{run_fits}
 use Rattle.language.specs.Choice.{if'}
 use Rattle.language.specs.Lexemes.{run}
@@ -24,6 +30,32 @@ module _ {f : List ℕ → ℕ → ℕ} {s : List ℕ} where
 
   pub onward : {at i next : ℕ} → Reached f s at i → next ≤ length s → f s next ≡ f s i → Reached f s at next
   onward r h e = record { in_line = h; same = e ∙ r.same }
+
+  pub arrive : {at i : ℕ} → Reached f s at i → f s i ≡ i → i ≡ f s at
+  arrive r e = sym e ∙ r.same
+
+-- ---- a run, byte by byte
+
+module _ (p : ℕ → Bool) {s : List ℕ} {at i : ℕ} (r : Reached (run_end p) s at i) where
+  pub run_more : i < length s → p (get_or s i 0) ≡ true → Reached (run_end p) s at (i + 1)
+  unfolding run_end
+  run_more h e = onward r (omega arith) (rw (add-one, drop-cons s i 0, e) (omega arith))
+
+  pub run_stop : i < length s → p (get_or s i 0) ≡ false → i ≡ run_end p s at
+  unfolding run_end
+  run_stop h e = arrive r (rw (drop-cons s i 0, e) (omega arith))
+
+  pub run_end_lem : length s ≤ i → i ≡ run_end p s at
+  unfolding run_end
+  run_end_lem h = arrive r (rw drop_of_length-le (omega arith))
+
+pub refused : {t u : Bool} → t ≡ u → not t ≡ true → u ≡ false
+refused e h = sym e ∙ not-true _ h
+
+pub passed : {t u : Bool} → t ≡ u → not t ≡ false → u ≡ true
+passed e h = sym e ∙ not-false _ h
+
+-- ---- by blocks
 
 module _ (p : ℕ → Bool) where
   tested : (t : List ℕ) (a : Bool) → fold (λ (all : Bool) (b : ℕ). p b && all) a t ≡ (a && list_all p t)

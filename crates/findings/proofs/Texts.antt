@@ -1,5 +1,6 @@
 -- What a finding's row shows.
-use mathlib.Core.Path.{◌≡◌, refl}
+use mathlib.Core.Path.{◌≡◌, refl, sym, ap}
+use mathlib.Core.Bool.{Bool}
 use mathlib.Core.List.{List}
 use Prim.Native.Nat.{ℕ}
 use borrow.Author.Tests.{eq-eqb}
@@ -12,10 +13,11 @@ use Rattle.language.specs.Numbers.{token_of}
 use Rattle.rows.specs.declared.token.Token.{Token}
 use Rattle.rows.specs.declared.types.Type.{«Type»}
 use Rattle.rows.specs.Tokens.{token_as}
-use Rattle.constants.specs.Constants.{table_rows, entry_word}
+use Rattle.constants.specs.Constants.{table_rows, entry_word, is_function_entry}
 use Rattle.constants.proofs.Entries.{words}
 use Rattle.findings.specs.declared.What.{What}
-use Rattle.findings.specs.Findings.{severity_number, shows_name, type_as, what_as, placed, at_token, diagnostic_as, type_text, row_of, diagnostic_row}
+use Rattle.findings.specs.Findings.{kind_number, severity_number, shows_name, type_as, what_as, placed, at_token, diagnostic_as, type_text, row_of, diagnostic_row}
+use Rattle.findings.specs.Reading.{sound_type}
 
 -- ---- a type's text
 
@@ -27,6 +29,15 @@ shown_text t {rows} e h p q =
     let r : entry_word rows t.entry 1 ≡ (entry_at t.entry).start = rw e w.start in
     let s : entry_word rows t.entry 2 ≡ (entry_at t.entry).end = rw e w.end in
     rw (eq-eqb _ _ h, p, q, r, s)
+
+-- ---- a finding's kind, and a function's type
+
+pub kind_as_lem : {v w : What} → v ≡ w → kind_number w ≡ kind_number v
+kind_as_lem h = sym (ap kind_number h)
+
+pub function_type_lem : (t : «Type») {b : Bool} → t.kind ≡ 14 → b ≡ is_function_entry t.entry → b ≡ sound_type t
+unfolding sound_type
+function_type_lem t h e = rw (eq-eqb _ _ h) e
 
 -- ---- the language's findings
 

@@ -1,6 +1,6 @@
 #![tactic(auto)]
 // Judging expressions: what the rows of a tree come to. Ports the expression part of check.rs; the definitions are
-// `Judgements` and `Findings` of the crate `language`. Warnings are reported as they are diags, counts, an error is handed back.
+// `Judgements` and `Findings` of the crate `language`. Warnings are reported as they are found, an error is handed back.
 //
 // The row `at` of the table of what is held is kept for an expression's own row, which whoever asked writes once it stays; the rows
 // of its parts are written from the next one on. What stands before a `.`, a `/` or a `(` is gone down to and up from by loops, so
@@ -476,6 +476,22 @@ fn call(
     let mut kept = arguments::none_kept(left.term);
     let mut row = left.next;
     let mut next = rows::node_word(scope.nodes, i, NodeRow::SECOND) as usize;
+    // `bind` is called at two places, so that it stays a function of its own: its frame is not held while arguments are judged
+    if next == 0 {
+        let none = arguments::bind(
+            scope.toks.rows(),
+            diags,
+            counts,
+            stmts,
+            f.name,
+            f.entry,
+            kept,
+        )?;
+        return Ok(Valued {
+            term: none,
+            next: row,
+        });
+    }
     while next != 0 {
         let j = next - 1;
         let e = rows::node_word(scope.nodes, j, NodeRow::FIRST) as usize;

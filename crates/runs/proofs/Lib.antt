@@ -1,4 +1,5 @@
 -- The laws that the proofs of the functions cite.
+pub mod Bytes
 pub mod Places
 pub mod Runs
 pub mod Keys

@@ -108,7 +108,7 @@ fn unexpected(at: usize, end: usize, c: u32) -> Lexeme
 // ---- the scanner
 
 // What is left to scan of a line: the lexemes from `pos` on. Past its end there are none.
-#[derive(Clone, Drop)]
+#[derive(Clone, Copy)]
 pub struct Scanner<'a> {
     pub line: &'a [u8],
     pub pos: usize,

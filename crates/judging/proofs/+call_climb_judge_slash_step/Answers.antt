@@ -33,7 +33,7 @@ call-judge-requires t c = let p = at_arg c.loop-next.invariant.1.rep c.loop-next
 
 pub call-returns-in_err-value : goal.call-returns-in_err-value
 call-returns-in_err-value t c =
-    let x = err_from_is_err_and c.from_residual.result c.from_residual.ensures.1 in
+    let x = err_from_is_err_and c.from_residual-in_err-value.result c.from_residual-in_err-value.ensures.1 in
     rw (x.1, x.2)
     (λ n k ps num kn rep. let w = c.loop-next.invariant.3 n k ps num kn (rw c.node_word-next.ensures rep) in let p = at_arg w.rep c.loop-next-test.true refl in walk_fails w p (stepped_as _ c.in_err-value.was (c.judge.ensures n k (value_of p.arg) (num ∙ sym (adds_number w.adds)) (knows_on w.adds kn) (at_row c.node_word-e.ensures p.rep))) (halted refl))
 
@@ -41,7 +41,7 @@ pub call-returns-in_err-term : goal.call-returns-in_err-term
 call-returns-in_err-term t c =
     let x = err_from_is_err_and c.from_residual-in_err-term.result c.from_residual-in_err-term.ensures.1 in
     rw (x.1, x.2)
-    (λ n k ps num kn rep. let w = c.loop-next.invariant.3 n k ps num kn (rw c.node_word-next.ensures rep) in let p = at_arg w.rep c.loop-next-test.true refl in walk_void w p (stepped_as _ c.in_ok-value.was (c.judge.ensures n k (value_of p.arg) (num ∙ sym (adds_number w.adds)) (knows_on w.adds kn) (at_row c.node_word-e.ensures p.rep))) refl (c.used.ensures _ c.rows.ensures) (halted c.in_err-term.was) (sym c.in_err-term.was) refl)
+    (λ n k ps num kn rep. let w = c.loop-next.invariant.3 n k ps num kn (rw c.node_word-next.ensures rep) in let p = at_arg w.rep c.loop-next-test.true refl in walk_void w p (stepped_as _ c.in_ok-value.was (c.judge.ensures n k (value_of p.arg) (num ∙ sym (adds_number w.adds)) (knows_on w.adds kn) (at_row c.node_word-e.ensures p.rep))) refl (c.used.ensures _ c.rows-in-loop-next.ensures) (halted c.in_err-term.was) (sym c.in_err-term.was) refl)
 
 pub call-node_word-first-requires : goal.call-node_word-first-requires
 call-node_word-first-requires t c = let p = at_arg c.loop-next.invariant.1.rep c.loop-next-test.true refl in (row_in (at_row c.node_word-e.ensures p.rep), omega arith)
@@ -62,23 +62,35 @@ call-loop-next-preserved t c =
       ready_on j.adds c.loop-next.invariant.0,
       fits_on c.loop-next.invariant.1 p c.args.scope.now.toks.now c.loop-next.counts.number (known_in c.args.scope.now.toks.now c.args.scope.now.bindings.now c.args.scope.now.imports.now c.loop-next.counts) (known_few c.loop-next.invariant.0) j refl c.node_word-next-in-loop-next.ensures,
       c.keep-kept.ensures.1,
-      λ n k ps num kn rep. let w = c.loop-next.invariant.3 n k ps num kn rep in let p = at_arg w.rep c.loop-next-test.true refl in walk_on w p (stepped_as _ c.in_ok-value.was (c.judge.ensures n k (value_of p.arg) (num ∙ sym (adds_number w.adds)) (knows_on w.adds kn) (at_row c.node_word-e.ensures p.rep))) refl (c.used.ensures _ c.rows.ensures) c.in_ok-term.was (c.node_word-first.ensures ∙ first_at (at_row c.node_word-e.ensures p.rep)) (λ gs z. c.keep-kept.ensures.0 _ gs z) c.node_word-next-in-loop-next.ensures,
+      λ n k ps num kn rep. let w = c.loop-next.invariant.3 n k ps num kn rep in let p = at_arg w.rep c.loop-next-test.true refl in walk_on w p (stepped_as _ c.in_ok-value.was (c.judge.ensures n k (value_of p.arg) (num ∙ sym (adds_number w.adds)) (knows_on w.adds kn) (at_row c.node_word-e.ensures p.rep))) refl (c.used.ensures _ c.rows-in-loop-next.ensures) c.in_ok-term.was (c.node_word-first.ensures ∙ first_at (at_row c.node_word-e.ensures p.rep)) (λ gs z. c.keep-kept.ensures.0 _ gs z) c.node_word-next-in-loop-next.ensures,
     )
 
 pub call-used-requires : goal.call-used-requires
-call-used-requires t c = some_row c.rows.ensures
+call-used-requires t c = some_row c.rows-in-loop-next.ensures
 
 pub call-bind-requires : goal.call-bind-requires
-call-bind-requires t c = (some_row c.rows-2.ensures, omega (arith, c.loop-next.invariant.1.room), c.loop-next.invariant.2)
+call-bind-requires t c = (some_row c.rows.ensures, omega (arith, c.requires.call_fits.1.room), c.none_kept-kept.ensures.1)
+
+pub call-returns-in_err-none : goal.call-returns-in_err-none
+call-returns-in_err-none t c =
+    let x = err_from_is_err_and c.from_residual.result c.from_residual.ensures.1 in
+    rw (x.1, x.2)
+    (λ n k ps num kn rep. calls_err n k (passed none_given ps) (rw c.in_err-none.was at (walk_done (start_walk {k = k} {start = c.args.left.next} rep (c.none_kept-kept.ensures.0 _)) (sym c.node_word-next.ensures ∙ c.if-next-eq0.true) num (c.bind.ensures _ c.rows.ensures _))))
+
+pub call-returns-then-next-eq0 : goal.call-returns-then-next-eq0
+call-returns-then-next-eq0 t c = λ n k ps num kn rep. rw c.in_ok-none.was at (walk_done (start_walk {k = k} {start = c.args.left.next} rep (c.none_kept-kept.ensures.0 _)) (sym c.node_word-next.ensures ∙ c.if-next-eq0.true) num (c.bind.ensures _ c.rows.ensures _))
+
+pub call-bind-requires-2 : goal.call-bind-requires-2
+call-bind-requires-2 t c = (some_row c.rows-2.ensures, omega (arith, c.loop-next.invariant.1.room), c.loop-next.invariant.2)
 
 pub call-returns-in_err-term-2 : goal.call-returns-in_err-term-2
 call-returns-in_err-term-2 t c =
     let x = err_from_is_err_and c.from_residual-in_err-term-2.result c.from_residual-in_err-term-2.ensures.1 in
     rw (x.1, x.2)
-    (λ n k ps num kn rep. let w = c.loop-next.invariant.3 n k ps num kn (rw c.node_word-next.ensures rep) in calls_err n k (passed none_given ps) (rw c.in_err-term-2.was at (walk_done w c.loop-next-test.false (num ∙ sym (adds_number w.adds)) (c.bind.ensures _ c.rows-2.ensures _))))
+    (λ n k ps num kn rep. let w = c.loop-next.invariant.3 n k ps num kn (rw c.node_word-next.ensures rep) in calls_err n k (passed none_given ps) (rw c.in_err-term-2.was at (walk_done w c.loop-next-test.false (num ∙ sym (adds_number w.adds)) (c.bind-2.ensures _ c.rows-2.ensures _))))
 
 pub call-returns : goal.call-returns
-call-returns t c = λ n k ps num kn rep. let w = c.loop-next.invariant.3 n k ps num kn (rw c.node_word-next.ensures rep) in rw c.in_ok-term-2.was at (walk_done w c.loop-next-test.false (num ∙ sym (adds_number w.adds)) (c.bind.ensures _ c.rows-2.ensures _))
+call-returns t c = λ n k ps num kn rep. let w = c.loop-next.invariant.3 n k ps num kn (rw c.node_word-next.ensures rep) in rw c.in_ok-term-2.was at (walk_done w c.loop-next-test.false (num ∙ sym (adds_number w.adds)) (c.bind-2.ensures _ c.rows-2.ensures _))
 
 pub climb-loop-depth-init : goal.climb-loop-depth-init
 climb-loop-depth-init t c = (c.requires.ready.1, c.requires.ready.0, λ n k e d row x u co num kn rep dn a. record { row = row; tree = d; down = dn; agrees = a })
