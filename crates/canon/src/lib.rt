@@ -1,7 +1,8 @@
 #![tactic(auto)]
 // Canonical text: the tokens of a source, spelt in one way. The definition is `Canonical` of the crate `language`. The crate
 // `writer` counts bytes past the end of the lent text and does not keep them, and the count is judged at the end.
-ghost use Rattle.std.specs.Prelude.{◌≡◌, ◌∷◌, ◌+◌, ◌≤◌, length};
+ghost use Rattle.std.specs.Prelude.{◌≡◌, [], ◌∷◌, ◌+◌, ◌≤◌, length};
+ghost use Rattle.table.specs.Table.{pad_to};
 ghost use Rattle.language.specs.Integers.{hexadecimal};
 ghost use Rattle.language.specs.Tokens.{bodies_in, most_bytes};
 ghost use Rattle.language.specs.Canonical.{spell_digits, spell_quad, quoted};
@@ -245,20 +246,28 @@ fn text_into(source: &[u8], toks: &mut [u64], text: &mut [u8]) -> Result<Canonis
     })
 }
 
+// A refusal leaves nothing in the table and in the text.
+fn refused(error: CanonError, toks: &mut [u64], text: &mut [u8]) -> Canonised
+    ensures answer { result ≡ record { verdict = verdict_of error; tokens = 0; bytes = 0 } }
+    ensures no_token { toks.new ≡ pad_to (length toks.old) [] }
+    ensures no_byte { text.new ≡ pad_to (length text.old) [] }
+{
+    let verdict = Verdict::from(error);
+    table::clear(toks);
+    table::clear_bytes(text);
+    Canonised {
+        verdict,
+        tokens: 0,
+        bytes: 0,
+    }
+}
+
 // Lexes a source into a lent table of tokens, and writes its canonical text to a lent text.
 pub fn canonicalise(source: &[u8], toks: &mut [u64], text: &mut [u8]) -> Canonised
     ensures { CanonSource source.now (length toks.old) (length text.old) result toks.new text.new }
 {
     match text_into(source, toks, text) {
         Ok(done) => done,
-        Err(error) => {
-            table::clear(toks);
-            table::clear_bytes(text);
-            Canonised {
-                verdict: Verdict::from(error),
-                tokens: 0,
-                bytes: 0,
-            }
-        }
+        Err(error) => refused(error, toks, text),
     }
 }

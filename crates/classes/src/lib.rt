@@ -13,7 +13,7 @@ pub trait Class {
 }
 
 // Whether each byte is of the class. `&` in place of branches: the compiler makes one comparison of many bytes.
-fn all_of<C: Class>(bytes: &[u8]) -> bool
+pub fn all_of<C: Class>(bytes: &[u8]) -> bool
     ensures { result ≡ fold (λ all b. C.member b && all) true bytes.now }
 {
     bytes.iter().fold(true, |all, b| C::has(*b) & all)

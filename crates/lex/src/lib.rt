@@ -1,7 +1,8 @@
 #![tactic(auto)]
 // The lexer: from raw source to tokens. Ports lex.rs `Lexer`, `Token` and `PendingStr`; the definitions are `Tokens` of
 // the crate `language`.
-ghost use Rattle.std.specs.Prelude.{◌≡◌, ◌+◌, ◌≤◌, length, None};
+ghost use Rattle.std.specs.Prelude.{◌≡◌, [], ◌+◌, ◌≤◌, length, None};
+ghost use Rattle.table.specs.Table.{pad_to};
 ghost use Rattle.language.specs.Tokens.{place_of, bodies_in, most_bytes};
 ghost use Rattle.lex.specs.Entry.{LexSource, LexesInto, StringBody};
 ghost use Rattle.lex.specs.Lexing.{waiting, Strings, Flushes, Tokens, Few, line_items, Feeds, Finishes, line_end, FeedsAll, loc_as, verdict_of, nth};
@@ -291,6 +292,16 @@ pub fn tokens_into(source: &[u8], table: &mut [u64]) -> Result<usize, LexError>
     Ok(done.count)
 }
 
+// A refusal leaves nothing in the table.
+fn refused(error: LexError, table: &mut [u64]) -> Lexed
+    ensures answer { result ≡ record { verdict = verdict_of error; tokens = 0 } }
+    ensures nothing_left { table.new ≡ pad_to (length table.old) [] }
+{
+    let verdict = Verdict::from(error);
+    table::clear(table);
+    Lexed { verdict, tokens: 0 }
+}
+
 // Lexes a source into a lent table of tokens.
 pub fn lex_source(source: &[u8], table: &mut [u64]) -> Lexed
     ensures { LexSource source.now (length table.old) result table.new }
@@ -300,13 +311,7 @@ pub fn lex_source(source: &[u8], table: &mut [u64]) -> Lexed
             verdict: Verdict::new(Verdict::DONE, 0, 0),
             tokens: count as u64,
         },
-        Err(error) => {
-            table::clear(table);
-            Lexed {
-                verdict: Verdict::from(error),
-                tokens: 0,
-            }
-        }
+        Err(error) => refused(error, table),
     }
 }
 

@@ -3,17 +3,18 @@
 --     bad_char   a character is passed: it ends within the source
 --     bad_here   no character starts
 --     bad_end    the source is at its end
---     ascii_passed  a run of ASCII is passed
+--     ascii_passed  a run of ASCII is passed; block_passed a block of it
 use mathlib.Core.Path.{◌≡◌, refl, sym, ap, ◌∙◌}
 use mathlib.Core.Bool.{Bool, true, false, ◌&&◌}
 use mathlib.Core.List.{List, [], ◌∷◌}
 use mathlib.Core.Option.{Option, none, some}
 use Rattle.std.specs.Prelude.{Some, None}
+use Rattle.std.specs.List.{fold}
 use Prim.Native.Nat.{ℕ, zero, suc, ◌+◌, ◌-◌, ◌*◌, ◌≤◌, ◌<◌}
 use native.Mathlib.Nat.{add-zero}
 use native.Mathlib.Omega.{arith}
 use borrow.Author.Tests.{ltb-true}
-use lib.ListN.{length, get_or, drop, drop_of_length-le, length-drop}
+use lib.ListN.{length, get_or, take, drop, drop_of_length-le, length-drop}
 use lib.Seq.{drop-cons, drop-drop}
 use Rattle.language.specs.Choice.{if', within}
 use Rattle.language.specs.Utf8.{Lead, Char, char, no_char, lead_of, follow, begun, char_at, bad_from, first_bad}
@@ -23,6 +24,7 @@ use Rattle.utf8.specs.Ascii.{is_ascii}
 use Rattle.language.specs.Lexemes.{run}
 use Rattle.language.proofs.LexemeSizes.{run_fits}
 use Rattle.classes.specs.Runs.{run_end}
+use Rattle.classes.proofs.Runs.{begin, run_block}
 use native.Mathlib.Numerals.{add-one}
 use Rattle.language.proofs.Tests.{both, inside, inside_test, never}
 use Rattle.language.proofs.Utf8Rows.{here, later}
@@ -174,6 +176,19 @@ ascii_run s at (suc n) h e =
 pub ascii_passed : (s : List ℕ) (at : ℕ) → at ≤ length s → Passed s at (run_end is_ascii s at)
 unfolding run_end
 ascii_passed s at h = ascii_run s at _ h refl
+
+-- a block of n ASCII bytes is passed
+pub block_passed :
+    {s : List ℕ} {at i : ℕ} (n : ℕ)
+    → Passed s at i
+    → i + n ≤ length s
+    → fold (λ (all : Bool) (b : ℕ). is_ascii b && all) true (take n (drop i s)) ≡ true
+    → Passed s at (i + n)
+block_passed {s} {at} {i} n p h e =
+    let r = run_block is_ascii n (begin p.in_source) h e in
+    let here = ascii_passed s i p.in_source in
+    let there = ascii_passed s (i + n) h in
+    pass_on p (record { further = omega arith; in_source = h; same = sym there.same ∙ rw r.same here.same })
 
 -- ---- a bad byte is one of the source's
 

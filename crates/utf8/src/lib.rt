@@ -124,12 +124,29 @@ impl Class for Ascii {
     }
 }
 
+// A place further on in a run of ASCII, by whole blocks of 32 bytes.
+fn ascii_blocks(src: &[u8], at: usize) -> usize
+    requires { at ≤ length src.now }
+    ensures { Passed src.now at result }
+{
+    let mut i = at;
+    while i + 32 <= src.len() {
+        let first = classes::all_of::<Ascii>(&src[i..i + 16]);
+        let second = classes::all_of::<Ascii>(&src[i + 16..i + 32]);
+        if !(first & second) {
+            return i;
+        }
+        i += 32;
+    }
+    i
+}
+
 // The end of a run of ASCII: by blocks of 32 bytes, then of eight, then byte by byte.
 fn ascii_end(src: &[u8], at: usize) -> usize
     requires { at ≤ length src.now }
     ensures { Passed src.now at result }
 {
-    let blocks = classes::past_blocks::<Ascii, 32>(src, at);
+    let blocks = ascii_blocks(src, at);
     classes::long_run_end::<Ascii, 8>(src, blocks)
 }
 

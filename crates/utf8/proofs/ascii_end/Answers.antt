@@ -1,8 +1,7 @@
-use mathlib.Core.Path.{◌∙◌}
-use Rattle.utf8.proofs.Places.{ascii_passed}
+use Rattle.utf8.proofs.Places.{ascii_passed, pass_on}
 use Rattle.utf8.proofs.ascii_end.Goals as goal
 
 pub returns : goal.returns
 returns c =
-    let end = c.long_run_end.ensures ∙ c.past_blocks-blocks.ensures.same in
-    rw end (ascii_passed _ _ c.requires)
+    let blocks = c.ascii_blocks-blocks.ensures in
+    pass_on blocks (rw c.long_run_end.ensures (ascii_passed _ _ blocks.in_source))
