@@ -186,9 +186,9 @@ pub block_passed :
     → Passed s at (i + n)
 block_passed {s} {at} {i} n p h e =
     let r = run_block is_ascii n (begin p.in_source) h e in
-    let here = ascii_passed s i p.in_source in
-    let there = ascii_passed s (i + n) h in
-    pass_on p (record { further = omega arith; in_source = h; same = sym there.same ∙ rw r.same here.same })
+    let before = ascii_passed s i p.in_source in
+    let after = ascii_passed s (i + n) h in
+    pass_on p (record { further = omega arith; in_source = h; same = sym after.same ∙ rw r.same before.same })
 
 -- ---- a bad byte is one of the source's
 

@@ -124,7 +124,8 @@ impl Class for Ascii {
     }
 }
 
-// A place further on in a run of ASCII, by whole blocks of 32 bytes.
+// A place further on in a run of ASCII, by whole blocks of 32 bytes. A loop of its own, and not `past_blocks`: a must-fail edit is of its two
+// halves.
 fn ascii_blocks(src: &[u8], at: usize) -> usize
     requires { at ≤ length src.now }
     ensures { Passed src.now at result }
